@@ -1,0 +1,127 @@
+-- The note's readers with the theory's laws: the same readers, by computation, as items and wholes.
+-- The idea: a format made of the theory's parts needs no proof of its own.
+use mathlib.Core.Path.{_≡_, refl, sym, ap, _∙_}
+use mathlib.Core.Bool.{Bool, true, false}
+use mathlib.Core.List.{List, [], _∷_, _++_}
+use Prim.Native.Nat.{ℕ, zero, suc, _+_, _≤_, _<_}
+use native.Mathlib.Omega.{arith}
+use lib.Dec.{leb, eqb}
+use lib.ListN.{length, length-append}
+use borrow.Author.Tests.{leb-true, le-leb, eqb-true, eq-eqb}
+use Rattle.theory.specs.Tests.{Res, ok, bad, need, unless}
+use Rattle.theory.specs.Words.{Bytes, Fits}
+use Rattle.theory.proofs.TestLaws.{unless-zero, need-ok}
+use Rattle.theory.proofs.Items.{Item, Whole, seqW, encs, Oks}
+use Rattle.theory.proofs.StructureLaws.{StructureOk, structure, ruled, inside, pair, twoWords}
+use Rattle.note.specs.Words.{order}
+use Rattle.note.specs.Records.{Record, Context, entry, event, none, isKind, isAllowed, recordHead, recordLate, recordRule, recordStep, readRecord, readRecords}
+use Rattle.note.specs.Events.{Container, eventHead, eventLate, eventStep, readEvent, readEvents}
+use Rattle.note.specs.Files.{File, fileMark, versionRule, configurationWord, configurationHead, configurationLate, readHeader, readConfiguration, readParts, fileBytes}
+use Rattle.demands.specs.Valid.{ValidRecord, ValidRecords, ValidEvent, ValidEvents, Valid}
+
+abbrev pub recordItem : Item Context Record
+recordItem = structure order recordHead recordLate (ruled (λ s. recordRule (s .1))) recordStep
+
+abbrev pub records : Whole Context (List Record)
+records = seqW recordItem
+
+abbrev pub configurationItem : Item (Unit {0}) Container
+configurationItem = structure order configurationHead configurationLate (inside (λ s. entry) records) (λ s c. tt)
+
+abbrev pub eventItem : Item (Unit {0}) Container
+eventItem = structure order eventHead eventLate (inside (λ s. event none) records) eventStep
+
+abbrev pub events : Whole (Unit {0}) (List Container)
+events = seqW eventItem
+
+abbrev pub headerItem : Item (Unit {0}) ℕ
+headerItem = twoWords order fileMark 3 versionRule (omega arith) (omega arith)
+
+abbrev pub parts : Whole (Unit {0}) File
+parts = pair headerItem (pair configurationItem events)
+
+-- ---- the same readers and bytes
+
+pub same-record : (c : Context) (at : ℕ) (bs : List ℕ) → readRecord c at bs ≡ recordItem .read c at bs
+unfolding readRecord
+same-record c at bs = refl
+
+pub same-records : (c : Context) (at : ℕ) (bs : List ℕ) → readRecords c at bs ≡ records .read c at bs
+unfolding readRecords readRecord
+same-records c at bs = refl
+
+pub same-event : (s : Unit {0}) (at : ℕ) (bs : List ℕ) → readEvent s at bs ≡ eventItem .read s at bs
+unfolding readEvent readRecords readRecord
+same-event s at bs = refl
+
+pub same-events : (s : Unit {0}) (at : ℕ) (bs : List ℕ) → readEvents s at bs ≡ events .read s at bs
+unfolding readEvents readEvent readRecords readRecord
+same-events s at bs = refl
+
+pub same-parts : (bs : List ℕ) → readParts bs ≡ parts .read tt 0 bs
+unfolding readParts readHeader readConfiguration readEvents readEvent readRecords readRecord
+same-parts bs = refl
+
+pub same-bytes : (f : File) → fileBytes f ≡ parts .enc f
+same-bytes f = refl
+
+-- ---- valid is what the items ask
+
+from-test : (t : Bool) (c : ℕ) → unless t (suc c) ≡ 0 → t ≡ true
+from-test t c e = unless-zero t (suc c) (omega arith) e
+
+to-test : (t : Bool) (c : ℕ) → t ≡ true → unless t c ≡ 0
+to-test t c e = rw e
+
+pub record-valid : (c : Context) (r : Record) → recordItem .Ok c r → ValidRecord c r
+record-valid c r v = record {
+  kind-allowed = from-test (isKind c (r .kind)) 4 (v .head-ok);
+  place-allowed = from-test (isAllowed c (r .kind)) 8 (v .late-ok);
+  kind-fits = v .kind-word;
+  length-fits = v .length-word;
+  body-bytes = v .body-ok .0;
+  body-rule = v .body-ok .1;
+}
+
+pub record-ok : (c : Context) (r : Record) → ValidRecord c r → recordItem .Ok c r
+record-ok c r v = record {
+  head-ok = to-test (isKind c (r .kind)) 5 (v .kind-allowed);
+  late-ok = to-test (isAllowed c (r .kind)) 9 (v .place-allowed);
+  kind-word = v .kind-fits;
+  length-word = v .length-fits;
+  body-ok = (v .body-bytes, v .body-rule);
+}
+
+pub records-valid : (c : Context) (rs : List Record) → Oks recordItem c rs → ValidRecords c rs
+records-valid c [] v = tt
+records-valid c (r ∷ rs) v = (record-valid c r (v .0), records-valid (recordStep c r) rs (v .1))
+
+pub records-ok : (c : Context) (rs : List Record) → ValidRecords c rs → Oks recordItem c rs
+records-ok c [] v = tt
+records-ok c (r ∷ rs) v = (record-ok c r (v .0), records-ok (recordStep c r) rs (v .1))
+
+pub event-valid : (e : Container) → eventItem .Ok tt e → ValidEvent e
+event-valid e v = record {
+  word-rule = v .head-ok;
+  word-fits = v .kind-word;
+  not-empty = leb-true 1 (length (records .enc (e .body))) (from-test (leb 1 (length (records .enc (e .body)))) 8 (v .late-ok));
+  length-fits = v .length-word;
+  records-valid = records-valid (event none) (e .body) (v .body-ok);
+}
+
+pub event-ok : (e : Container) → ValidEvent e → eventItem .Ok tt e
+event-ok e v = record {
+  head-ok = v .word-rule;
+  late-ok = to-test (leb 1 (length (records .enc (e .body)))) 9 (le-leb 1 (length (records .enc (e .body))) (v .not-empty));
+  kind-word = v .word-fits;
+  length-word = v .length-fits;
+  body-ok = records-ok (event none) (e .body) (v .records-valid);
+}
+
+pub events-valid : (es : List Container) → Oks eventItem tt es → ValidEvents es
+events-valid [] v = tt
+events-valid (e ∷ es) v = (event-valid e (v .0), events-valid es (v .1))
+
+pub events-ok : (es : List Container) → ValidEvents es → Oks eventItem tt es
+events-ok [] v = tt
+events-ok (e ∷ es) v = (event-ok e (v .0), events-ok es (v .1))

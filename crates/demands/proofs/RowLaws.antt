@@ -1,0 +1,109 @@
+-- Demand 3, the rows: they tile the file from its first byte to its last, each byte in one row, each child inside its one parent, which
+-- stands before it, and there are no more rows than an eighth of the length.
+-- The idea: a file's nodes have the sizes of its structures; the theory's laws of rows do the rest.
+use mathlib.Core.Path.{_≡_, refl, sym, ap, _∙_, subst}
+use mathlib.Core.Bool.{Bool, true, false}
+use mathlib.Core.List.{List, [], _∷_, _++_, map}
+use Prim.Native.Nat.{ℕ, zero, suc, _+_, _*_, _≤_, _<_}
+use native.Mathlib.Omega.{arith}
+use lib.Dec.{eqb}
+use lib.ListN.{length, length-append, length-map}
+use Rattle.theory.specs.Words.{Bytes}
+use Rattle.theory.specs.Tests.{Res, ok}
+use Rattle.theory.specs.Layout.{Row, Child, Node, single, box, total, extents, rows, row, Tiles, Owns, Placed}
+use Rattle.theory.proofs.Items.{encs}
+use Rattle.theory.proofs.StructureLaws.{length-structure}
+use Rattle.theory.proofs.LayoutLaws.{GoodChildren, Good, row-tiles, few-rows, owner, owner-one, parent-before, All, All-at, all-inside}
+use Rattle.note.specs.Words.{order}
+use Rattle.note.specs.Records.{Record, recordBytes, recordSize, recordsBytes, kindOf}
+use Rattle.note.specs.Events.{Container, containerBytes, containerSize, eventsBytes}
+use Rattle.note.specs.Files.{File, configurationOf, eventsOf, versionOf, headerBytes, fileBytes, readFile}
+use Rattle.note.specs.Rows.{childOf, childrenOf, eventNode, nodesOf, rowsOf, isBox}
+use Rattle.note.proofs.KindCases.{kind-cases}
+use Rattle.demands.proofs.Bundles.{recordItem, eventItem, headerItem, configurationItem}
+use Rattle.demands.proofs.Follows.{file-sound}
+
+-- ---- sizes
+
+pub children-total : (rs : List Record) → total (childrenOf rs) ≡ length (recordsBytes rs)
+unfolding childOf
+children-total [] = refl
+children-total (r ∷ rs) =
+    omega (arith, length-append (recordBytes r) (recordsBytes rs), length-structure order (λ (b : List ℕ). b) r, children-total rs)
+
+pub container-size : (c : Container) → length (containerBytes c) ≡ containerSize c
+container-size c = length-structure order recordsBytes c
+
+events-extents : (es : List Container) → extents (map eventNode es) ≡ length (eventsBytes es)
+events-extents [] = refl
+events-extents (e ∷ es) =
+    omega (arith, length-append (containerBytes e) (eventsBytes es), container-size e, children-total (e .body), events-extents es)
+
+pub file-length : (f : File) → length (fileBytes f) ≡ 8 + (containerSize (configurationOf f) + length (eventsBytes (eventsOf f)))
+file-length f =
+    omega (
+      arith,
+      length-append (headerBytes (versionOf f)) (containerBytes (configurationOf f) ++ eventsBytes (eventsOf f)),
+      length-append (containerBytes (configurationOf f)) (eventsBytes (eventsOf f)),
+      headerItem .sizes (versionOf f),
+      container-size (configurationOf f),
+    )
+
+nodes-extents : (f : File) → extents (nodesOf f) ≡ length (fileBytes f)
+unfolding nodesOf
+nodes-extents f = omega (arith, file-length f, children-total (configurationOf f .body), events-extents (eventsOf f))
+
+-- ---- no child is a box
+
+-- the row kinds of records are no boxes, whatever the kind word
+child-kind : (k : ℕ) → isBox (kindOf k .row) ≡ false
+child-kind k = kind-cases (λ w x. isBox (x .row) ≡ false) k refl refl refl refl refl refl refl refl refl
+
+children-good : (rs : List Record) → GoodChildren isBox (childrenOf rs)
+unfolding childOf
+children-good [] = tt
+children-good (r ∷ rs) = ((child-kind (r .kind), omega arith), children-good rs)
+
+events-good : (es : List Container) → Good isBox (map eventNode es)
+events-good [] = tt
+events-good (e ∷ es) = (refl, children-good (e .body), events-good es)
+
+nodes-good : (f : File) → Good isBox (nodesOf f)
+unfolding nodesOf
+nodes-good f = ((refl, omega arith), (refl, children-good (configurationOf f .body), events-good (eventsOf f)))
+
+-- ---- the demands, of a tree
+
+pub rows-tile : (f : File) → Tiles isBox 0 (rowsOf f) (length (fileBytes f))
+unfolding rowsOf
+rows-tile f = subst (λ (n : ℕ). Tiles isBox 0 (rows 1 0 (nodesOf f)) n) (omega (arith, nodes-extents f)) (row-tiles isBox 1 0 (nodesOf f) (nodes-good f))
+
+pub rows-inside : (f : File) → All (Placed (rowsOf f)) (rowsOf f)
+unfolding rowsOf
+rows-inside f = all-inside (nodesOf f)
+
+-- ---- and of an accepted file's bytes
+
+module _ (bs : List ℕ) (f : File) (h : Bytes bs) (e : readFile bs ≡ ok f) where
+  -- "In row order the rows' own bytes run from the first byte to the last without gap or overlap."
+  pub rows-tile-file : Tiles isBox 0 (rowsOf f) (length bs)
+  rows-tile-file = subst (λ (x : List ℕ). Tiles isBox 0 (rowsOf f) (length x)) (sym (file-sound bs f h e .0)) (rows-tile f)
+
+  -- "Rows are never more than an eighth of the length."
+  pub few-rows-in-file : 8 * length (rowsOf f) ≤ length bs
+  few-rows-in-file = omega (arith, few-rows isBox 0 (length bs) (rowsOf f) rows-tile-file)
+
+  -- "Every byte belongs to one row": to a row, and to no other.
+  pub byte-has-row : (i : ℕ) → i < length bs → (j : ℕ) × (j < length (rowsOf f)) × Owns isBox (row (rowsOf f) j) i
+  byte-has-row i l = owner isBox 0 (length bs) (rowsOf f) i rows-tile-file (omega arith) l
+
+  pub byte-has-one-row : (i j k : ℕ) → j < length (rowsOf f) → k < length (rowsOf f) → Owns isBox (row (rowsOf f) j) i → Owns isBox (row (rowsOf f) k) i → j ≡ k
+  byte-has-one-row i j k lj lk oj ok′ = owner-one isBox 0 (length bs) (rowsOf f) i rows-tile-file j k lj lk oj ok′
+
+  -- "Each child inside its one parent": after the parent's own eight bytes, within its whole length.
+  pub child-inside-parent : (j : ℕ) → j < length (rowsOf f) → Placed (rowsOf f) (row (rowsOf f) j)
+  child-inside-parent j l = All-at (Placed (rowsOf f)) (rowsOf f) (rows-inside f) j l
+
+  -- The parent's row number, from 1, is at most the number of rows before the child: a parent before its children.
+  pub parent-before-child : (j : ℕ) → j < length (rowsOf f) → row (rowsOf f) j .parent ≤ j
+  parent-before-child j l = parent-before isBox (length bs) (rowsOf f) rows-tile-file j l (child-inside-parent j l)

@@ -1,0 +1,54 @@
+-- The walker's yields are the table's rows in order, then the end for ever; over a refused file that refusal for ever.
+-- The idea: the table's buffer is the rows' numbers one after the other, six to a row.
+use mathlib.Core.Path.{_≡_, refl, sym, ap, _∙_, subst}
+use mathlib.Core.Bool.{Bool, true, false, cond}
+use mathlib.Core.List.{List, [], _∷_, _++_, append-assoc}
+use Prim.Native.Nat.{ℕ, zero, suc, _+_, _*_, _≤_, _<_}
+use native.Mathlib.Nat.{le-of-suc-le-suc, not-suc-le-zero}
+use native.Mathlib.Omega.{arith}
+use lib.Dec.{leb, ltb}
+use lib.ListN.{length, take, drop}
+use lib.Seq.{drop-append-add}
+use borrow.Author.Tests.{le-leb, lt-ltb, le-ltb}
+use Rattle.theory.specs.Tests.{Res, ok, bad}
+use Rattle.theory.specs.Layout.{Row, row}
+use Rattle.note.specs.Limits.{rowWidth}
+use Rattle.note.specs.Answers.{Given, accepted, refused, counts}
+use Rattle.note.specs.Files.{File, readFile}
+use Rattle.note.specs.Rows.{rowsOf, rowNumbers, flat, tableAnswer, tableBuffer, yieldAt}
+
+-- six numbers from row k on are row k's
+flat-at : (rs : List Row) (rest : List ℕ) (k : ℕ) → k < length rs → take rowWidth (drop (rowWidth * k) (flat rs ++ rest)) ≡ rowNumbers (row rs k)
+unfolding flat
+flat-at [] rest k h = absurd (not-suc-le-zero h)
+flat-at (r ∷ rs) rest zero h = refl
+flat-at (r ∷ rs) rest (suc k) h =
+    let e : rowWidth * suc k ≡ length (rowNumbers r) + rowWidth * k = omega arith in
+    ap (λ (m : ℕ). take rowWidth (drop m ((rowNumbers r ++ flat rs) ++ rest))) e
+    ∙ ap (λ (x : List ℕ). take rowWidth (drop (length (rowNumbers r) + rowWidth * k) x)) (append-assoc (rowNumbers r) (flat rs) rest)
+    ∙ ap (take rowWidth) (drop-append-add (rowNumbers r) (flat rs ++ rest) (rowWidth * k))
+    ∙ flat-at rs rest k (le-of-suc-le-suc h)
+
+-- A file that is accepted, with rows enough lent.
+module _ (bs old : List ℕ) (f : File) (e : readFile bs ≡ ok f) (room : rowWidth * length (rowsOf f) ≤ length old) where
+  -- Below the table's count, the k-th yield is the table's k-th row.
+  pub yields-are-rows : (k : ℕ) → k < tableAnswer bs (length old) .count
+      → yieldAt bs k ≡ accepted (counts (take rowWidth (drop (rowWidth * k) (tableBuffer bs old))))
+  unfolding tableAnswer tableBuffer yieldAt
+  yields-are-rows k l =
+      let below : k < length (rowsOf f) = rw e at l in
+      rw (e, lt-ltb k (length (rowsOf f)) below, le-leb (rowWidth * length (rowsOf f)) (length old) room)
+      (ap (λ (x : List ℕ). accepted (counts x)) (sym (flat-at (rowsOf f) (drop (rowWidth * length (rowsOf f)) old) k below)))
+
+  -- From there on it is the end, again and again.
+  pub yields-end : (k : ℕ) → tableAnswer bs (length old) .count ≤ k → yieldAt bs k ≡ accepted []
+  unfolding tableAnswer yieldAt
+  yields-end k l =
+      let past : length (rowsOf f) ≤ k = rw e at l in
+      rw (e, le-ltb k (length (rowsOf f)) past)
+
+-- Over a refused file each yield is that refusal, the table's.
+pub yields-refused : (bs : List ℕ) (c p k capacity : ℕ) → readFile bs ≡ bad c p
+    → (yieldAt bs k ≡ refused c p) × (tableAnswer bs capacity ≡ record { number = c; count = 0; place = p })
+unfolding tableAnswer yieldAt
+yields-refused bs c p k capacity e = (rw e, rw e)

@@ -1,0 +1,43 @@
+-- Every definition of the note, open: a statement that computes says `unfolding computing` and nothing more.
+use Prim.Native.Nat.{ℕ}
+use Rattle.theory.specs.Words.{bytes, wordAt, put, puts, wordsAt}
+use Rattle.theory.specs.Tests.{first}
+use Rattle.theory.specs.Layout.{childRows, rows}
+use Rattle.note.specs.Answers.{givenRecord, givenSetting, givenCode, givenSample, givenFind, givenYield, givenWriter}
+use Rattle.note.specs.Channels.{channelsOf, numbered, called, named, phononNamed, chargeNamed, channelAnswer, codeAnswer}
+use Rattle.note.specs.Phonon.{phononOf, phononBytes, phononFault, phononRule}
+use Rattle.note.specs.Charge.{chargeOf, chargeBytes, chargeFault, chargeRule}
+use Rattle.note.specs.Administrative.{administrativeOf, administrativeBytes, isSeries, isClock, administrativeFault, administrativeRule}
+use Rattle.note.specs.Trace.{traceOf, traceBytes, countFault, bookkeepingRule, timebaseRule, samplesRule, traceRule, traceFault, sampleIn}
+use Rattle.note.specs.History.{widthAt, widthOf, after, sectionOf, historyOf, sectionBytes, historyBytes, isWidth, sectionRule, historyRule, sectionFault, historyFault, sectionValues}
+use Rattle.note.specs.Gps.{areDigits, decimal, bcd, gpsOf, gpsBytes, gpsFault, gpsRule}
+use Rattle.note.specs.Trigger.{triggerOf, triggerBytes, triggerRule}
+use Rattle.note.specs.Tlb.{tlbOf, tlbBytes, isTower, tlbFault, tlbRule, zipSet}
+use Rattle.note.specs.Records.{kindOf, isKind, isPlaced, isAllowed, noted, behind, readRecord, readRecords}
+use Rattle.note.specs.Events.{eventFault, eventWordRule, readEvent, readEvents}
+use Rattle.note.specs.Files.{readHeader, readConfiguration, readParts, readFile}
+use Rattle.note.specs.Rows.{childOf, nodesOf, rowsOf, flat, tableAnswer, tableBuffer, yieldAt}
+use Rattle.note.specs.Calls.{recordFound, recordAt, hundredth, phononSetting, chargeSetting, settingAt, samplesPart, samplesAt, sampleAt, tracesIn, tracesFrom, tracesOf, firstMatch, findAt}
+use Rattle.note.specs.Listing.{rowLines, listing}
+use Rattle.note.specs.Writers.{wrote, writerGiven, written, phononWritten, chargeWritten, administrativeWritten, traceWritten, historyWritten, gpsWritten, triggerWritten, tlbWritten, recordWrote, recordOutput, headerWrote, headerOutput, configurationClosed, eventClosed, configurationOutput, eventOutput, recordAgain, fileRewritten, rewriteWrote, rewriteOutput}
+
+unfoldable pub computing : ℕ
+unfolding
+    bytes wordAt put puts wordsAt first childRows rows
+    givenRecord givenSetting givenCode givenSample givenFind givenYield givenWriter
+    channelsOf numbered called named phononNamed chargeNamed channelAnswer codeAnswer
+    phononOf phononBytes phononFault phononRule chargeOf chargeBytes chargeFault chargeRule
+    administrativeOf administrativeBytes isSeries isClock administrativeFault administrativeRule
+    traceOf traceBytes countFault bookkeepingRule timebaseRule samplesRule traceRule traceFault sampleIn
+    widthAt widthOf after sectionOf historyOf sectionBytes historyBytes isWidth sectionRule historyRule sectionFault historyFault sectionValues
+    areDigits decimal bcd gpsOf gpsBytes gpsFault gpsRule triggerOf triggerBytes triggerRule
+    tlbOf tlbBytes isTower tlbFault tlbRule zipSet
+    kindOf isKind isPlaced isAllowed noted behind readRecord readRecords
+    eventFault eventWordRule readEvent readEvents readHeader readConfiguration readParts readFile
+    childOf nodesOf rowsOf flat tableAnswer tableBuffer yieldAt
+    recordFound recordAt hundredth phononSetting chargeSetting settingAt samplesPart samplesAt sampleAt tracesIn tracesFrom tracesOf firstMatch findAt
+    rowLines listing
+    wrote writerGiven written phononWritten chargeWritten administrativeWritten traceWritten historyWritten gpsWritten triggerWritten tlbWritten
+    recordWrote recordOutput headerWrote headerOutput configurationClosed eventClosed configurationOutput eventOutput
+    recordAgain fileRewritten rewriteWrote rewriteOutput
+computing = 0

@@ -1,0 +1,127 @@
+-- Document 01, 'Rows and calls': Record, Setting, Samples, a sample by number, Find.
+use Prim.Native.Nat.{ℕ, zero, suc, _+_, _-_, _*_}
+use mathlib.Core.Bool.{Bool, true, false, cond, _&&_}
+use mathlib.Core.List.{List, [], _∷_, _++_}
+use lib.Dec.{leb, eqb}
+use lib.Ieee.{Float, binary64, div, ofInt}
+use lib.IntN.{ℤ, pos}
+use lib.ListN.{length, take, drop}
+use Rattle.theory.specs.Tests.{Res, ok, bad, need, unless}
+use Rattle.note.specs.Limits.{fileLimit}
+use Rattle.note.specs.Words.{word}
+use Rattle.note.specs.Answers.{Value, whole, float, Given, accepted, refused, count, counts, wholes}
+use Rattle.note.specs.Phonon.{Phonon, phononKind, phononOf}
+use Rattle.note.specs.Charge.{Charge, chargeKind, chargeOf}
+use Rattle.note.specs.Administrative.{administrativeKind, administrativeOf}
+use Rattle.note.specs.Trace.{Trace, traceKind, traceOf, sampleIn}
+use Rattle.note.specs.Records.{Record, recordSize, alone, readRecord, kindOf}
+use Rattle.note.specs.Events.{Container, containerSize}
+use Rattle.note.specs.Files.{File, configurationOf, eventsOf, readFile}
+
+-- "Record: reads one record or entry at a given place, with the whole lent bytes as its parent and no event rules." Past the end
+-- there are no bytes, so 2 at that very place.
+unfoldable pub recordFound : List ℕ → ℕ → Res Record
+recordFound bs place = need (unless (leb (length bs) fileLimit) 1) 0 (readRecord alone place (drop place bs))
+
+-- "The answer is one of eight kinds with its fields, or a refusal."
+abbrev pub recordGiven : ℕ → Res Record → Given
+recordGiven place (bad c p) = refused c p
+recordGiven place (ok r) = accepted (count (kindOf (r .kind) .row) ∷ kindOf (r .kind) .values place (r .body))
+
+unfoldable pub recordAt : List ℕ → ℕ → Given
+recordAt bs place = recordGiven place (recordFound bs place)
+
+-- "Each x100 word is turned into a 64-bit float and divided by 100, rounded once."
+unfoldable pub hundredth : ℤ → Float
+hundredth z = div binary64 (ofInt binary64 z) (ofInt binary64 (pos 100))
+
+-- "An entry is also offered in working units, as a phonon or a charge setting": "the rest stay whole numbers".
+unfoldable pub phononSetting : Phonon → List Value
+phononSetting f =
+    whole (f .code) ∷ whole (f .tower) ∷ float (hundredth (f .gain)) ∷ float (hundredth (f .qetBias)) ∷ float (hundredth (f .squidBias))
+    ∷ float (hundredth (f .lockpoint)) ∷ wholes (f .rtfOffset ∷ f .variableGain ∷ f .deltaT ∷ f .t0 ∷ f .traceLength ∷ [])
+
+unfoldable pub chargeSetting : Charge → List Value
+chargeSetting f =
+    whole (f .code) ∷ whole (f .tower) ∷ float (hundredth (f .gain)) ∷ wholes (f .bias ∷ f .rtfOffset ∷ f .deltaT ∷ f .t0 ∷ f .traceLength ∷ [])
+
+-- "It is asked by place, with Record's refusals, then 5 there for another kind."
+abbrev pub settingGiven : ℕ → Res Record → Given
+settingGiven place (bad c p) = refused c p
+settingGiven place (ok r) =
+    cond (eqb (r .kind) (phononKind .word)) (accepted (count (phononKind .row) ∷ phononSetting (phononOf (r .body))))
+    (cond (eqb (r .kind) (chargeKind .word)) (accepted (count (chargeKind .row) ∷ chargeSetting (chargeOf (r .body))))
+    (refused 5 place))
+
+unfoldable pub settingAt : List ℕ → ℕ → Given
+settingAt bs place = settingGiven place (recordFound bs place)
+
+-- A trace, among records.
+abbrev pub isTrace : Record → Bool
+isTrace r = eqb (r .kind) (traceKind .word)
+
+-- "Samples: for a place where Record finds a trace, the part of the caller's own file that holds the samples; otherwise an empty
+-- part": where the part starts and how many bytes it has.
+abbrev pub partGiven : ℕ → Res Record → ℕ × ℕ
+partGiven place (bad c p) = (0, 0)
+partGiven place (ok r) = cond (isTrace r) (place + 56, length (r .body) - 48) (0, 0)
+
+unfoldable pub samplesPart : List ℕ → ℕ → ℕ × ℕ
+samplesPart bs place = partGiven place (recordFound bs place)
+
+unfoldable pub samplesAt : List ℕ → ℕ → List ℕ
+samplesAt bs place = take (samplesPart bs place .1) (drop (samplesPart bs place .0) bs)
+
+-- "A sample by number, from 1: Record's refusal, 5 for another kind, 11 for a number out of range, at the place asked."
+abbrev pub sampleGiven : ℕ → ℕ → Res Record → Given
+sampleGiven place k (bad c p) = refused c p
+sampleGiven place k (ok r) =
+    cond (isTrace r)
+    (cond (leb 1 k && leb k (traceOf (r .body) .n)) (accepted (counts (sampleIn (traceOf (r .body) .samples) k ∷ []))) (refused 11 place))
+    (refused 5 place)
+
+unfoldable pub sampleAt : List ℕ → ℕ → ℕ → Given
+sampleAt bs place k = sampleGiven place k (recordFound bs place)
+
+-- A trace of a file: the number that its event carries, its code, its place.
+pub record Placed : Type 0 where
+  pub number : ℕ
+  pub code : ℕ
+  pub place : ℕ
+
+-- The traces among an event's records from the place `at` on; among events; of a file. An event carries the number of its
+-- administrative record, which is its first.
+abbrev pub put : Bool → Placed → List Placed → List Placed
+put keep t ts = cond keep (t ∷ ts) ts
+
+unfoldable pub tracesIn : ℕ → ℕ → List Record → List Placed
+tracesIn number at [] = []
+tracesIn number at (r ∷ rs) =
+    put (isTrace r) (record { number = number; code = traceOf (r .body) .code; place = at }) (tracesIn number (at + recordSize r) rs)
+
+abbrev pub numberOf : List Record → ℕ
+numberOf [] = 0
+numberOf (r ∷ rs) = administrativeOf (r .body) .number
+
+unfoldable pub tracesFrom : ℕ → List Container → List Placed
+tracesFrom at [] = []
+tracesFrom at (e ∷ es) = tracesIn (numberOf (e .body)) (at + 8) (e .body) ++ tracesFrom (at + containerSize e) es
+
+unfoldable pub tracesOf : File → List Placed
+tracesOf f = tracesFrom (8 + containerSize (configurationOf f)) (eventsOf f)
+
+-- "Find: for an accepted file, the place of the first trace in file order whose event carries that number and whose code is that
+-- code; or nothing. A refused file gives its refusal."
+abbrev pub matches : ℕ → ℕ → Placed → Bool
+matches number code t = eqb (t .number) number && eqb (t .code) code
+
+unfoldable pub firstMatch : ℕ → ℕ → List Placed → List ℕ
+firstMatch number code [] = []
+firstMatch number code (t ∷ ts) = cond (matches number code t) (t .place ∷ []) (firstMatch number code ts)
+
+abbrev pub findGiven : ℕ → ℕ → Res File → Given
+findGiven number code (bad c p) = refused c p
+findGiven number code (ok f) = accepted (counts (firstMatch number code (tracesOf f)))
+
+unfoldable pub findAt : List ℕ → ℕ → ℕ → Given
+findAt bs number code = findGiven number code (readFile bs)

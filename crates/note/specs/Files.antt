@@ -1,0 +1,72 @@
+-- Document 01, 'Words and nesting': the file header, the configuration, and the file.
+use Prim.Native.Nat.{ℕ, _+_, _*_, _%_}
+use mathlib.Core.List.{List, [], _∷_, _++_}
+use lib.Dec.{leb, eqb}
+use lib.ListN.{length}
+use Rattle.theory.specs.Tests.{Res, ok, bad, need, unless}
+use Rattle.theory.specs.Structures.{readStructure, readPair, readWords, wordsBytes}
+use Rattle.note.specs.Limits.{fileLimit}
+use Rattle.note.specs.Words.{order, words}
+use Rattle.note.specs.Records.{entry, readRecords}
+use Rattle.note.specs.Events.{Container, containerBytes, containerSize, readEvents, eventsBytes}
+
+-- "File header, 8 bytes, no length word: 0x01020304, then DAQ major, DAQ minor, format major, format minor from the highest byte
+-- down. Format must be 2.0; the DAQ bytes are free."
+abbrev pub fileMark : ℕ
+fileMark = 0x01020304
+
+abbrev pub format : ℕ
+format = 0x0200
+
+abbrev pub versionWord : ℕ → ℕ → ℕ
+versionWord major minor = major * 16777216 + minor * 65536 + format
+
+abbrev pub versionRule : ℕ → ℕ
+versionRule v = unless (eqb (v % 65536) format) 4
+
+unfoldable pub readHeader : Unit {0} → ℕ → List ℕ → Res ℕ
+readHeader = readWords order fileMark 3 versionRule
+
+abbrev pub headerBytes : ℕ → List ℕ
+headerBytes v = wordsBytes order fileMark 3 versionRule v
+
+-- "Configuration, kind 0x00010000, exactly one, at byte 8, possibly with no entries (house)."
+abbrev pub configurationWord : ℕ
+configurationWord = 0x00010000
+
+abbrev pub configurationHead : Unit {0} → ℕ → ℕ
+configurationHead s w = unless (eqb w configurationWord) 5
+
+abbrev pub configurationLate : Unit {0} → ℕ → ℕ → ℕ
+configurationLate s w n = 0
+
+unfoldable pub readConfiguration : Unit {0} → ℕ → List ℕ → Res Container
+readConfiguration = readStructure order configurationHead configurationLate (λ s at bs. readRecords entry (at + 8) bs)
+
+-- A file: the version word, the configuration, the events.
+abbrev pub File : Type 0
+File = ℕ × (Container × List Container)
+
+abbrev pub versionOf : File → ℕ
+versionOf f = f .0
+
+abbrev pub configurationOf : File → Container
+configurationOf f = f .1 .0
+
+abbrev pub eventsOf : File → List Container
+eventsOf f = f .1 .1
+
+-- Its bytes.
+abbrev pub fileBytes : File → List ℕ
+fileBytes f = headerBytes (versionOf f) ++ (containerBytes (configurationOf f) ++ eventsBytes (eventsOf f))
+
+-- Header, configuration and events, the first fault in file order.
+unfoldable pub readParts : List ℕ → Res File
+readParts bs =
+    readPair (λ s v. tt) (λ v. 8) readHeader
+    (readPair (λ s c. tt) containerSize readConfiguration readEvents)
+    tt 0 bs
+
+-- 1: "lent file .. over the limit; place 0".
+unfoldable pub readFile : List ℕ → Res File
+readFile bs = need (unless (leb (length bs) fileLimit) 1) 0 (readParts bs)

@@ -1,0 +1,100 @@
+-- Document 01, 'The six records': GPS, kind 0x60, length 12, BCD.
+use Prim.Native.Nat.{ℕ, zero, suc, _+_, _*_, _/_, _%_}
+use mathlib.Core.Bool.{Bool, true, false, not, cond, _&&_, _||_}
+use mathlib.Core.List.{List, [], _∷_}
+use lib.Dec.{leb, eqb}
+use lib.ListN.{length}
+use Rattle.theory.specs.Tests.{unless, first}
+use Rattle.note.specs.Words.{word, words}
+use Rattle.note.specs.Answers.{Value, counts}
+use Rattle.note.specs.Kinds.{Kind}
+
+-- "The answer and the writer use year, day, status, hour, minute, second and tenths."
+pub record Gps : Type 0 where
+  pub year : ℕ
+  pub day : ℕ
+  pub status : ℕ
+  pub hour : ℕ
+  pub minute : ℕ
+  pub second : ℕ
+  pub tenths : ℕ
+
+abbrev pub gpsNumbers : Gps → List ℕ
+gpsNumbers f = f .year ∷ f .day ∷ f .status ∷ f .hour ∷ f .minute ∷ f .second ∷ f .tenths ∷ []
+
+-- BCD: the lowest n digits of w, four bits each, are each at most 9; the number that they write; and the digits of a number.
+unfoldable pub areDigits : ℕ → ℕ → Bool
+areDigits zero w = true
+areDigits (suc n) w = leb (w % 16) 9 && areDigits n (w / 16)
+
+unfoldable pub decimal : ℕ → ℕ → ℕ
+decimal zero w = 0
+decimal (suc n) w = decimal n (w / 16) * 10 + w % 16
+
+unfoldable pub bcd : ℕ → ℕ → ℕ
+bcd zero v = 0
+bcd (suc n) v = bcd n (v / 10) * 16 + v % 10
+
+-- "yyyydddd; a status digit 0 to 15 (free), a zero digit, hhmmss; tenths of a microsecond": the fields of a body, and the body of fields.
+unfoldable pub gpsOf : List ℕ → Gps
+gpsOf b = record {
+  year = decimal 4 (word 0 b / 65536);
+  day = decimal 4 (word 0 b);
+  status = word 4 b / 268435456;
+  hour = decimal 2 (word 4 b / 65536);
+  minute = decimal 2 (word 4 b / 256);
+  second = decimal 2 (word 4 b);
+  tenths = decimal 8 (word 8 b);
+}
+
+abbrev pub gpsWords : Gps → List ℕ
+gpsWords f =
+    (bcd 4 (f .year) * 65536 + bcd 4 (f .day)) ∷
+    (f .status * 268435456 + bcd 2 (f .hour) * 65536 + bcd 2 (f .minute) * 256 + bcd 2 (f .second)) ∷
+    bcd 8 (f .tenths) ∷ []
+
+unfoldable pub gpsBytes : Gps → List ℕ
+gpsBytes f = words (gpsWords f)
+
+-- "Day 1 to 365, 366 in a Gregorian leap year."
+abbrev pub isLeap : ℕ → Bool
+isLeap y = eqb (y % 4) 0 && (not (eqb (y % 100) 0) || eqb (y % 400) 0)
+
+abbrev pub daysOfYear : ℕ → ℕ
+daysOfYear y = cond (isLeap y) 366 365
+
+-- The faults of the fields, in word order: "hour to 23, minute and second to 59; tenths below 10,000,000".
+unfoldable pub gpsFault : Gps → ℕ
+gpsFault f = first (
+    unless (leb (f .year) 9999) 10 ∷
+    unless (leb 1 (f .day) && leb (f .day) (daysOfYear (f .year))) 10 ∷
+    unless (leb (f .status) 15) 10 ∷
+    unless (leb (f .hour) 23) 10 ∷
+    unless (leb (f .minute) 59) 10 ∷
+    unless (leb (f .second) 59) 10 ∷
+    unless (leb (f .tenths) 9999999) 10 ∷ [])
+
+-- A body of 12 bytes whose digits are digits and whose fields have no fault.
+abbrev pub gpsTests : List ℕ → List ℕ
+gpsTests b =
+    unless (eqb (length b) 12) 6 ∷
+    unless (areDigits 8 (word 0 b)) 10 ∷
+    unless (eqb (word 4 b / 16777216 % 16) 0) 10 ∷
+    unless (areDigits 6 (word 4 b)) 10 ∷
+    unless (areDigits 8 (word 8 b)) 10 ∷
+    gpsFault (gpsOf b) ∷ []
+
+unfoldable pub gpsRule : List ℕ → ℕ
+gpsRule b = first (gpsTests b)
+
+-- Row kind 9: the first two words.
+abbrev pub gpsKind : Kind
+gpsKind = record {
+  word = 0x60;
+  row = 9;
+  rule = gpsRule;
+  one = word 0;
+  two = word 4;
+  values = λ place b. counts (gpsNumbers (gpsOf b));
+  again = λ b. gpsBytes (gpsOf b);
+}

@@ -1,0 +1,76 @@
+-- Document 01, 'Rows and calls': the rows of a file, Table's answer and buffer, and the walker's yields.
+use Prim.Native.Nat.{ℕ, zero, suc, _+_, _*_, _%_}
+use mathlib.Core.Bool.{Bool, true, false, cond, _||_}
+use mathlib.Core.List.{List, [], _∷_, _++_, map}
+use lib.Dec.{leb, eqb, ltb}
+use lib.ListN.{length, drop}
+use Rattle.theory.specs.Tests.{Res, ok, bad}
+use Rattle.theory.specs.Layout.{Row, Child, Node, single, box, rows, row}
+use Rattle.note.specs.Limits.{rowWidth}
+use Rattle.note.specs.Answers.{Given, accepted, refused, counts}
+use Rattle.note.specs.Records.{Record, recordSize, kindOf}
+use Rattle.note.specs.Events.{Container}
+use Rattle.note.specs.Files.{File, versionOf, configurationOf, eventsOf, readFile}
+use Rattle.note.specs.declared.TableAnswer.{TableAnswer}
+
+-- "3 phonon, 4 charge ..; 6 administrative ..": what the row of a record says before it has a place.
+unfoldable pub childOf : Record → Child
+childOf r = record { kind = kindOf (r .kind) .row; size = recordSize r; one = kindOf (r .kind) .one (r .body); two = kindOf (r .kind) .two (r .body) }
+
+abbrev pub childrenOf : List Record → List Child
+childrenOf rs = map childOf rs
+
+-- "1 header (version word, 0); 2 configuration (entries, 0); 5 event (low half of first word, records)."
+abbrev pub eventNode : Container → Node
+eventNode e = box 5 (e .kind % 65536) (length (e .body)) (childrenOf (e .body))
+
+unfoldable pub nodesOf : File → List Node
+nodesOf f =
+    single (record { kind = 1; size = 8; one = versionOf f; two = 0 })
+    ∷ box 2 (length (configurationOf f .body)) 0 (childrenOf (configurationOf f .body))
+    ∷ map eventNode (eventsOf f)
+
+-- "Rows stand in file order, a parent before its children": from row number 1 and byte 0 on.
+unfoldable pub rowsOf : File → List Row
+rowsOf f = rows 1 0 (nodesOf f)
+
+-- "A configuration's or an event's own bytes are its first eight; any other row owns its whole length."
+abbrev pub isBox : ℕ → Bool
+isBox k = eqb k 2 || eqb k 5
+
+-- A row as numbers, and rows one after the other.
+abbrev pub rowNumbers : Row → List ℕ
+rowNumbers r = r .kind ∷ r .start ∷ r .whole ∷ r .parent ∷ r .one ∷ r .two ∷ []
+
+unfoldable pub flat : List Row → List ℕ
+flat [] = []
+flat (r ∷ rs) = rowNumbers r ++ flat rs
+
+-- "Table: fills rows in a lent buffer; answers number, row count, place." 0 has the file's length as its place; 12 is "given last;
+-- count is the rows needed, place the file's length"; "refusals other than 12 have count 0".
+abbrev pub fits : ℕ → List Row → Bool
+fits capacity rs = leb (rowWidth * length rs) capacity
+
+abbrev pub tableGiven : List ℕ → ℕ → Res File → TableAnswer
+tableGiven bs capacity (bad c p) = record { number = c; count = 0; place = p }
+tableGiven bs capacity (ok f) = record { number = cond (fits capacity (rowsOf f)) 0 12; count = length (rowsOf f); place = length bs }
+
+unfoldable pub tableAnswer : List ℕ → ℕ → TableAnswer
+tableAnswer bs capacity = tableGiven bs capacity (readFile bs)
+
+-- The buffer afterwards: the rows, and "the rest of that buffer is unchanged"; on a refusal all of it.
+abbrev pub tableFilled : List ℕ → Res File → List ℕ
+tableFilled old (bad c p) = old
+tableFilled old (ok f) = cond (fits (length old) (rowsOf f)) (flat (rowsOf f) ++ drop (rowWidth * length (rowsOf f)) old) old
+
+unfoldable pub tableBuffer : List ℕ → List ℕ → List ℕ
+tableBuffer bs old = tableFilled old (readFile bs)
+
+-- "Walker: .. yields the table's rows one at a time; then the end, again and again. Over a refused file it yields that refusal each
+-- time": its k-th yield, from 0.
+abbrev pub yieldGiven : ℕ → Res File → Given
+yieldGiven k (bad c p) = refused c p
+yieldGiven k (ok f) = cond (ltb k (length (rowsOf f))) (accepted (counts (rowNumbers (row (rowsOf f) k)))) (accepted [])
+
+unfoldable pub yieldAt : List ℕ → ℕ → Given
+yieldAt bs k = yieldGiven k (readFile bs)

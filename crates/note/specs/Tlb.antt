@@ -1,0 +1,62 @@
+-- Document 01, 'The six records': TLB mask, kind 0x81, length 24: six words, one for each tower.
+use Prim.Native.Nat.{ℕ, zero, suc, _+_, _-_, _*_, _/_, _%_, _^_}
+use mathlib.Core.Bool.{Bool, _&&_, _||_}
+use mathlib.Core.List.{List, [], _∷_}
+use lib.Dec.{leb, eqb}
+use lib.ListN.{length}
+use Rattle.theory.specs.Tests.{unless, first}
+use Rattle.note.specs.Words.{word, words}
+use Rattle.note.specs.Answers.{Value, counts}
+use Rattle.note.specs.Kinds.{Kind}
+
+pub record Tlb : Type 0 where
+  pub tower1 : ℕ
+  pub tower2 : ℕ
+  pub tower3 : ℕ
+  pub tower4 : ℕ
+  pub tower5 : ℕ
+  pub tower6 : ℕ
+
+abbrev pub tlbWords : Tlb → List ℕ
+tlbWords f = f .tower1 ∷ f .tower2 ∷ f .tower3 ∷ f .tower4 ∷ f .tower5 ∷ f .tower6 ∷ []
+
+-- The fields of a body, and the body of fields.
+unfoldable pub tlbOf : List ℕ → Tlb
+tlbOf b = record { tower1 = word 0 b; tower2 = word 4 b; tower3 = word 8 b; tower4 = word 12 b; tower5 = word 16 b; tower6 = word 20 b }
+
+unfoldable pub tlbBytes : Tlb → List ℕ
+tlbBytes f = words (tlbWords f)
+
+-- "Word i is zero or has top byte i (house)."
+unfoldable pub isTower : ℕ → ℕ → Bool
+isTower i w = eqb w 0 || eqb (w / 16777216) i
+
+abbrev pub towerFault : ℕ → ℕ → ℕ
+towerFault i w = unless (isTower i w) 10
+
+unfoldable pub tlbFault : Tlb → ℕ
+tlbFault f = first (
+    towerFault 1 (f .tower1) ∷ towerFault 2 (f .tower2) ∷ towerFault 3 (f .tower3) ∷
+    towerFault 4 (f .tower4) ∷ towerFault 5 (f .tower5) ∷ towerFault 6 (f .tower6) ∷ [])
+
+abbrev pub tlbTests : List ℕ → List ℕ
+tlbTests b = unless (eqb (length b) 24) 6 ∷ tlbFault (tlbOf b) ∷ []
+
+unfoldable pub tlbRule : List ℕ → ℕ
+tlbRule b = first (tlbTests b)
+
+-- "Bit b of the low 24 is ZIP b+1 of that tower": whether ZIP z is set in a TLB word.
+unfoldable pub zipSet : ℕ → ℕ → Bool
+zipSet w z = leb 1 z && leb z 24 && eqb (w / 2 ^ (z - 1) % 2) 1
+
+-- Row kind 11: masks 1 and 2.
+abbrev pub tlbKind : Kind
+tlbKind = record {
+  word = 0x81;
+  row = 11;
+  rule = tlbRule;
+  one = word 0;
+  two = word 4;
+  values = λ place b. counts (tlbWords (tlbOf b));
+  again = λ b. tlbBytes (tlbOf b);
+}

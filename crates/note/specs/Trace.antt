@@ -1,0 +1,97 @@
+-- Document 01, 'The six records': trace, kind 0x11, length 48 + 2n. Its rule looks at the first 48 bytes and the length alone.
+use Prim.Native.Nat.{ℕ, _+_, _-_, _*_, _/_, _%_}
+use mathlib.Core.Bool.{Bool, not, cond, _&&_}
+use mathlib.Core.List.{List, [], _∷_, _++_}
+use lib.Dec.{leb, eqb}
+use lib.IntN.{ℤ}
+use lib.ListN.{length, drop}
+use Rattle.theory.specs.Tests.{unless, first}
+use Rattle.note.specs.Limits.{fewestSamples, mostSamples}
+use Rattle.note.specs.Words.{word, words, signed, unsigned}
+use Rattle.note.specs.Answers.{Value, whole, count}
+use Rattle.note.specs.Channels.{named}
+use Rattle.note.specs.Kinds.{Kind}
+
+-- "0x11, 12, base address, digitizer channel (1 to 8), detector code; 0x12, 12, t0 (signed ns), delta t (ns, not 0, house), n;
+-- 0x13, n again; samples": the samples are the bytes as they stand.
+pub record Trace : Type 0 where
+  pub address : ℕ
+  pub channel : ℕ
+  pub code : ℕ
+  pub t0 : ℤ
+  pub delta : ℕ
+  pub n : ℕ
+  pub samples : List ℕ
+
+-- The fields of a body, and the body of fields.
+unfoldable pub traceOf : List ℕ → Trace
+traceOf b = record {
+  address = word 8 b;
+  channel = word 12 b;
+  code = word 16 b;
+  t0 = signed (word 28 b);
+  delta = word 32 b;
+  n = word 44 b;
+  samples = drop 48 b;
+}
+
+abbrev pub traceWords : Trace → List ℕ
+traceWords f = 0x11 ∷ 12 ∷ f .address ∷ f .channel ∷ f .code ∷ 0x12 ∷ 12 ∷ unsigned (f .t0) ∷ f .delta ∷ f .n ∷ 0x13 ∷ f .n ∷ []
+
+unfoldable pub traceBytes : Trace → List ℕ
+traceBytes f = words (traceWords f) ++ f .samples
+
+-- The faults of single words: digitizer channel; code; delta t; n ("n is even"; 2 to 32,768).
+abbrev pub channelFault : ℕ → ℕ
+channelFault c = unless (leb 1 c && leb c 8) 10
+
+abbrev pub codeFault : ℕ → ℕ
+codeFault w = unless (named w) 10
+
+abbrev pub deltaFault : ℕ → ℕ
+deltaFault d = unless (leb 1 d) 10
+
+unfoldable pub countFault : ℕ → ℕ
+countFault n = first (unless (eqb (n % 2) 0) 11 ∷ unless (leb fewestSamples n) 11 ∷ unless (leb n mostSamples) 11 ∷ [])
+
+-- The three inner blocks, words in order: "inner kind" 5, an inner length other than 12 is 6.
+unfoldable pub bookkeepingRule : List ℕ → ℕ
+bookkeepingRule b = first (unless (eqb (word 0 b) 0x11) 5 ∷ unless (eqb (word 4 b) 12) 6 ∷ channelFault (word 12 b) ∷ codeFault (word 16 b) ∷ [])
+
+unfoldable pub timebaseRule : List ℕ → ℕ
+timebaseRule b = first (unless (eqb (word 20 b) 0x12) 5 ∷ unless (eqb (word 24 b) 12) 6 ∷ deltaFault (word 32 b) ∷ [])
+
+-- "n at its second count": odd, too few, too many, or unlike the first count.
+unfoldable pub samplesRule : List ℕ → ℕ
+samplesRule b = first (unless (eqb (word 40 b) 0x13) 5 ∷ countFault (word 44 b) ∷ unless (eqb (word 36 b) (word 44 b)) 11 ∷ [])
+
+-- "Trace: length below 48 is 6, then words in order, n at its second count, last the length against 48 + 2n."
+abbrev pub traceTests : List ℕ → List ℕ
+traceTests b =
+    unless (leb 48 (length b)) 6 ∷ bookkeepingRule b ∷ timebaseRule b ∷ samplesRule b ∷ unless (eqb (length b) (48 + 2 * word 44 b)) 6 ∷ []
+
+unfoldable pub traceRule : List ℕ → ℕ
+traceRule b = first (traceTests b)
+
+-- A writer's faults, in word order: the samples are handed over as a part of bytes, 6 where its size isn't 2n.
+unfoldable pub traceFault : Trace → ℕ
+traceFault f = first (
+    channelFault (f .channel) ∷ codeFault (f .code) ∷ deltaFault (f .delta) ∷ countFault (f .n) ∷ unless (eqb (length (f .samples)) (2 * f .n)) 6 ∷ [])
+
+-- Sample k of a part of samples, from 1: "The lower half of a word is the earlier sample."
+unfoldable pub sampleIn : List ℕ → ℕ → ℕ
+sampleIn part k = cond (eqb (k % 2) 1) (word (4 * ((k - 1) / 2)) part % 65536) (word (4 * ((k - 1) / 2)) part / 65536)
+
+-- Row kind 7: code, n.
+abbrev pub traceKind : Kind
+traceKind = record {
+  word = 0x11;
+  row = 7;
+  rule = traceRule;
+  one = word 16;
+  two = word 44;
+  values = λ place b.
+      let f : Trace = traceOf b in
+      count (f .address) ∷ count (f .channel) ∷ count (f .code) ∷ whole (f .t0) ∷ count (f .delta) ∷ count (f .n) ∷ [];
+  again = λ b. traceBytes (traceOf b);
+}

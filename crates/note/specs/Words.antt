@@ -1,0 +1,32 @@
+-- Document 01, 'Words and nesting': the words of this format. Every definition of the note speaks of them by these names.
+use Prim.Native.Nat.{ℕ, _+_, _*_, _/_, _%_}
+use mathlib.Core.List.{List}
+use lib.IntN.{ℤ}
+use mir.Val.{toZ, ofZ}
+use mir.Syntax.{w32}
+use Rattle.theory.specs.declared.Order.{Order}
+use Rattle.theory.specs.declared.Order.the-variants.{Little}
+use Rattle.theory.specs.Words.{wordAt, puts}
+
+-- "All words are 32 bits, little-endian."
+abbrev pub order : Order
+order = Little
+
+-- The word at place p.
+abbrev pub word : ℕ → List ℕ → ℕ
+word p bs = wordAt order 4 p bs
+
+-- Words one after the other.
+abbrev pub words : List ℕ → List ℕ
+words ns = puts order 4 ns
+
+-- A word read as signed, and a signed number as a word: two's complement.
+abbrev pub signed : ℕ → ℤ
+signed w = toZ w32 w
+
+abbrev pub unsigned : ℤ → ℕ
+unsigned z = ofZ w32 z
+
+-- A count is "signed and not negative" where its word is at most this.
+abbrev pub greatestSigned : ℕ
+greatestSigned = 0x7FFFFFFF

@@ -1,0 +1,93 @@
+-- A loop over items back to back, by a slice that gets shorter: what is known at each turn. Once, for every loop over any item.
+-- The idea: what was read so far, put before what is still to read, is the whole; each way of a turn keeps that.
+use mathlib.Core.Path.{_≡_, refl, sym, ap, _∙_}
+use mathlib.Core.List.{List, [], _∷_, _++_, append-assoc}
+use Prim.Native.Nat.{ℕ, zero, suc, _+_, _-_, _≤_, _<_}
+use native.Mathlib.Nat.{not-suc-le-zero}
+use native.Mathlib.Omega.{arith}
+use lib.ListN.{length, drop, length-drop}
+use Rattle.theory.specs.Tests.{Res, ok, bad, bind}
+use Rattle.theory.proofs.TestLaws.{ok-inj, bad-ok}
+use Rattle.theory.proofs.Items.{Item, seqs, seq-open, turn}
+
+-- what was read before, put in front
+unfoldable pub behind : {A : Type 0} → List A → Res (List A) → Res (List A)
+behind xs (ok ys) = ok (xs ++ ys)
+behind xs (bad c p) = bad c p
+
+behind-more : {A : Type 0} (xs : List A) (a : A) (r : Res (List A)) → behind xs (bind r (λ ys. ok (a ∷ ys))) ≡ behind (xs ++ a ∷ []) r
+unfolding behind
+behind-more xs a (ok ys) = ap ok (sym (append-assoc xs (a ∷ []) ys))
+behind-more xs a (bad c p) = refl
+
+behind-none : {A : Type 0} (r : Res (List A)) → behind [] r ≡ r
+unfolding behind
+behind-none (ok ys) = refl
+behind-none (bad c p) = refl
+
+behind-nil : {A : Type 0} (xs : List A) → behind xs (ok []) ≡ ok xs
+unfolding behind
+behind-nil [] = refl
+behind-nil (x ∷ xs) = ap (behind (x ∷ [])) (behind-nil xs)
+
+behind-ok : {A : Type 0} (xs : List A) (r : Res (List A)) (ys : List A) → behind xs r ≡ ok ys → (zs : List A) × (ys ≡ xs ++ zs)
+unfolding behind
+behind-ok xs (ok zs) ys e = (zs, sym (ok-inj e))
+behind-ok xs (bad c p) ys e = absurd (bad-ok e)
+
+module _ {S A : Type 0} (F : Item S A) where
+  abbrev pub whole : S → ℕ → List ℕ → Res (List A)
+  whole s from bs = seqs F (length bs) s from bs
+
+  -- the loop over bs stands before `rest`, at `at`, in the state s, and has read xs
+  pub record At (s₀ : S) (from : ℕ) (bs : List ℕ) (s : S) (at : ℕ) (rest : List ℕ) (xs : List A) : Type 0 where
+    pub k : ℕ
+    pub fuel : length rest ≤ k
+    pub place : at + length rest ≡ from + length bs
+    pub same : behind xs (seqs F k s at rest) ≡ whole s₀ from bs
+
+  pub start : (s : S) (from : ℕ) (bs : List ℕ) → At s from bs s from bs []
+  start s from bs = record { k = length bs; fuel = omega arith; place = refl; same = behind-none (whole s from bs) }
+
+  module _ {s₀ : S} {from : ℕ} {bs : List ℕ} {s : S} {at : ℕ} {rest : List ℕ} {xs : List A} (i : At s₀ from bs s at rest xs) where
+    pub ended : length rest ≡ 0 → ok xs ≡ whole s₀ from bs
+    ended e = go (i .k) rest e (i .same)
+      where
+        go : (k : ℕ) (rest : List ℕ) → length rest ≡ 0 → behind xs (seqs F k s at rest) ≡ whole s₀ from bs → ok xs ≡ whole s₀ from bs
+        go zero [] e q = sym (behind-nil xs) ∙ q
+        go (suc k) [] e q = sym (behind-nil xs) ∙ q
+        go k (b ∷ bs) e q = absurd (omega arith)
+
+    turned : 0 < length rest → (k : ℕ) × (length rest ≤ suc k) × (behind xs (bind (F .read s at rest) (turn F k s at rest)) ≡ whole s₀ from bs)
+    turned l = go (i .k) (i .fuel) (i .same)
+      where
+        go : (k : ℕ) → length rest ≤ k → behind xs (seqs F k s at rest) ≡ whole s₀ from bs
+            → (k : ℕ) × (length rest ≤ suc k) × (behind xs (bind (F .read s at rest) (turn F k s at rest)) ≡ whole s₀ from bs)
+        go zero f q = absurd (omega arith)
+        go (suc k) f q = (k, f, ap (behind xs) (sym (seq-open F k s at rest l)) ∙ q)
+
+    pub stopped : 0 < length rest → (c p : ℕ) → F .read s at rest ≡ bad c p → bad c p ≡ whole s₀ from bs
+    unfolding behind
+    stopped l c p e =
+        let (k, f, q) = turned l in
+        ap (λ (r : Res A). behind xs (bind r (turn F k s at rest))) (sym e) ∙ q
+
+    pub more : 0 < length rest → (a : A) → F .read s at rest ≡ ok a → 0 < F .size a → F .size a ≤ length rest
+        → At s₀ from bs (F .step s a) (at + F .size a) (drop (F .size a) rest) (xs ++ a ∷ [])
+    more l a e z m =
+        let (k, f, q) = turned l in
+        let n : length (drop (F .size a) rest) ≡ length rest - F .size a = length-drop (F .size a) rest in
+        record {
+          k = k;
+          fuel = omega (arith, n);
+          place = omega (arith, n, i .place);
+          same = sym (behind-more xs a (seqs F k (F .step s a) (at + F .size a) (drop (F .size a) rest)))
+              ∙ ap (λ (r : Res A). behind xs (bind r (turn F k s at rest))) (sym e) ∙ q;
+        }
+
+    -- what was read is the beginning of the whole
+    pub prefix : (ys : List A) → whole s₀ from bs ≡ ok ys → (zs : List A) × (ys ≡ xs ++ zs)
+    prefix ys e = go (seqs F (i .k) s at rest) (i .same ∙ e)
+      where
+        go : (r : Res (List A)) → behind xs r ≡ ok ys → (zs : List A) × (ys ≡ xs ++ zs)
+        go r q = behind-ok xs r ys q

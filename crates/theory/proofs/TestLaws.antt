@@ -1,0 +1,72 @@
+-- The laws of refusals and of rules: what a test that passed says, and how a chain of tests goes on.
+use mathlib.Core.Path.{_≡_, refl, sym, ap, _∙_, subst}
+use mathlib.Core.Bool.{Bool, true, false, _||_}
+use mathlib.Core.List.{List, [], _∷_}
+use Prim.Native.Nat.{ℕ, zero, suc, _-_, _<_}
+use native.Mathlib.Omega.{arith}
+use lib.Dec.{eqb}
+use lib.ListN.{getD}
+use Rattle.theory.specs.Tests.{Res, ok, bad, need, bind, unless, first, among}
+
+abbrev isOk : {A : Type 0} → Res A → Type 0
+isOk (ok a) = Unit {0}
+isOk (bad c p) = ⊥
+
+pub bad-ok : {A : Type 0} {c p : ℕ} {a : A} → bad c p ≡ ok a → ⊥
+bad-ok {A} e = subst (λ (r : Res A). isOk r) (sym e) tt
+
+pub ok-bad : {A : Type 0} {c p : ℕ} {a : A} → ok a ≡ bad c p → ⊥
+ok-bad e = bad-ok (sym e)
+
+pub ok-inj : {A : Type 0} {a b : A} → ok a ≡ ok b → a ≡ b
+ok-inj e = cc
+
+pub need-ok : {A : Type 0} (c at : ℕ) (r : Res A) {a : A} → need c at r ≡ ok a → (c ≡ 0) × (r ≡ ok a)
+need-ok zero at r e = (refl, e)
+need-ok (suc c) at r e = absurd (bad-ok e)
+
+pub need-pass : {A : Type 0} (c at : ℕ) (r : Res A) → c ≡ 0 → need c at r ≡ r
+need-pass c at r e = rw e
+
+pub bind-ok : {A B : Type 0} (r : Res A) (k : A → Res B) {b : B} → bind r k ≡ ok b → (a : A) × (r ≡ ok a) × (k a ≡ ok b)
+bind-ok (ok a) k e = (a, refl, e)
+bind-ok (bad c p) k e = absurd (bad-ok e)
+
+pub bind-id : {A : Type 0} (r : Res A) → bind r ok ≡ r
+bind-id (ok a) = refl
+bind-id (bad c p) = refl
+
+pub bind-ext : {A B : Type 0} (r : Res A) (j k : A → Res B) → ((a : A) → r ≡ ok a → j a ≡ k a) → bind r j ≡ bind r k
+bind-ext (ok a) j k h = h a refl
+bind-ext (bad c p) j k h = refl
+
+pub bind-bind : {A B C : Type 0} (r : Res A) (j : A → Res B) (k : B → Res C) → bind (bind r j) k ≡ bind r (λ a. bind (j a) k)
+bind-bind (ok a) j k = refl
+bind-bind (bad c p) j k = refl
+
+pub unless-zero : (t : Bool) (c : ℕ) → 0 < c → unless t c ≡ 0 → t ≡ true
+unless-zero true c h e = refl
+unless-zero false c h e = absurd (omega arith)
+
+-- ---- rules
+
+-- Where the rule passes, test j has passed.
+pub first-at : (cs : List ℕ) → first cs ≡ 0 → (j : ℕ) → getD cs j 0 ≡ 0
+unfolding first
+first-at [] e j = refl
+first-at (zero ∷ cs) e zero = refl
+first-at (zero ∷ cs) e (suc j) = first-at cs e j
+first-at (suc c ∷ cs) e j = absurd (omega arith)
+
+-- Where test j of a rule that passes is a Boolean test, it holds.
+pub holds-at : (cs : List ℕ) → first cs ≡ 0 → (j : ℕ) (t : Bool) (c : ℕ) → getD cs j 0 ≡ unless t (suc c) → t ≡ true
+holds-at cs e j t c q = unless-zero t (suc c) (omega arith) (sym q ∙ first-at cs e j)
+
+-- For rules made of rules: a number that is not 0, and the last rule.
+pub positive : (c : ℕ) → (c ≡ 0 → ⊥) → c ≡ suc (c - 1)
+positive c h = omega arith
+
+pub last : (c : ℕ) → c ≡ first (c ∷ [])
+unfolding first
+last zero = refl
+last (suc c) = refl
