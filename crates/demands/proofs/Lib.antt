@@ -5,3 +5,7 @@ pub mod FaultLaws
 pub mod RecordLaws
 pub mod WalkerLaws
 pub mod FindLaws
+pub mod SpotLaws
+pub mod EditLaws
+pub mod EditInFull
+pub mod RewriteLaws

@@ -16,12 +16,11 @@ use Rattle.theory.specs.Words.{Bytes, Fits, wordAt, put}
 use Rattle.theory.specs.Tests.{Res, ok, bad, need, unless, first, among}
 use Rattle.theory.specs.Layout.{Row, Child, Node, single, box, total, childRows, rows, row}
 use Rattle.theory.proofs.WordLaws.{word-after-put, length-put}
-use Rattle.theory.proofs.TestLaws.{first-at, unless-zero, holds-at}
-use Rattle.theory.proofs.Items.{encs}
-use Rattle.theory.proofs.StructureLaws.{length-structure}
+use Rattle.theory.proofs.TestLaws.{holds-at, need-ok, ok-inj}
+use Rattle.theory.proofs.StructureLaws.{length-structure, opens, ruled}
 use Rattle.note.specs.Limits.{fileLimit}
 use Rattle.note.specs.Words.{order}
-use Rattle.note.specs.Records.{Record, Context, entry, event, alone, isKind, isAllowed, behind, entryKinds, recordKinds, recordBytes, recordSize, recordsBytes, readRecord}
+use Rattle.note.specs.Records.{Record, Context, entry, event, alone, isKind, isAllowed, behind, entryKinds, recordKinds, recordBytes, recordSize, recordsBytes, recordHead, recordLate, recordRule, readRecord}
 use Rattle.note.specs.Events.{Container, containerBytes, containerSize, eventsBytes, eventMark, eventFault, classOf, categoryOf, eventTypeOf, eventWordRule}
 use Rattle.note.specs.Files.{File, versionOf, configurationOf, eventsOf, configurationWord, fileMark, versionRule, headerBytes, fileBytes, readFile}
 use Rattle.note.specs.Rows.{childOf, childrenOf, eventNode, nodesOf, rowsOf}
@@ -205,3 +204,14 @@ Reads-at bs [] ls a j h = absurd (not-suc-le-zero h)
 Reads-at bs (r ∷ rs) [] a j h = absurd a
 Reads-at bs (r ∷ rs) (l ∷ ls) a zero h = a .0
 Reads-at bs (r ∷ rs) (l ∷ ls) a (suc j) h = Reads-at bs rs ls (a .1) j (le-of-suc-le-suc h)
+
+-- What is found at a place are the bytes there: the body follows the two words.
+pub found-body : (bs : List ℕ) (place : ℕ) (r : Record) → recordFound bs place ≡ ok r
+    → r .body ≡ take (wordAt order 4 4 (drop place bs)) (drop 8 (drop place bs))
+unfolding recordFound
+found-body bs place r e =
+    let (l, q) = need-ok (unless (leb (length bs) fileLimit) 1) 0 (readRecord alone place (drop place bs)) e in
+    let o = opens order recordHead recordLate (ruled (λ s. recordRule (s .1)) .read) alone place (drop place bs) r (sym (same-record alone place (drop place bs)) ∙ q) in
+    let b : List ℕ = take (wordAt order 4 4 (drop place bs)) (drop 8 (drop place bs)) in
+    let (passed, same) = need-ok (recordRule (wordAt order 4 0 (drop place bs)) b) place (ok b) (o .body-is) in
+    sym (ok-inj same)

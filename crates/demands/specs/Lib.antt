@@ -1,3 +1,4 @@
 pub mod Valid
 pub mod FirstFault
 pub mod RowRecords
+pub mod Edited

@@ -1,5 +1,15 @@
 pub mod Computing
 pub mod Examples
-pub mod KindCases
 pub mod AnswerLaws
+pub mod BoolLaws
+pub mod Sweep
+pub mod ChannelLaws
+pub mod SignedLaws
+pub mod FieldLaws
+pub mod SeriesLaws
+pub mod TraceLaws
+pub mod HistoryLaws
+pub mod GpsLaws
 pub mod UnitLaws
+pub mod KindCases
+pub mod KindLaws

@@ -147,7 +147,7 @@ children-inside all p at [] h l m = tt
 children-inside all p at (c ∷ cs) h l m =
     (inr (p, refl, h, l, omega arith), children-inside all p (at + c .size) cs h (omega arith) (omega arith))
 
-length-childRows : (p at : ℕ) (cs : List Child) → length (childRows p at cs) ≡ length cs
+pub length-childRows : (p at : ℕ) (cs : List Child) → length (childRows p at cs) ≡ length cs
 unfolding rows childRows
 length-childRows p at [] = refl
 length-childRows p at (c ∷ cs) = ap suc (length-childRows p (at + c .size) cs)
@@ -186,3 +186,21 @@ pub All-at : (P : Row → Type 0) (rs : List Row) → All P rs → (j : ℕ) →
 All-at P [] a j h = absurd (not-suc-le-zero h)
 All-at P (r ∷ rs) a zero h = a .0
 All-at P (r ∷ rs) a (suc j) h = All-at P rs (a .1) j (le-of-suc-le-suc h)
+
+-- The same with the row's index, counted from n.
+abbrev pub AllFrom : (ℕ → Row → Type 0) → ℕ → List Row → Type 0
+AllFrom P n [] = Unit {0}
+AllFrom P n (r ∷ rs) = P n r × AllFrom P (suc n) rs
+
+pub AllFrom-append : (P : ℕ → Row → Type 0) (n : ℕ) (xs ys : List Row) → AllFrom P n xs → AllFrom P (n + length xs) ys → AllFrom P n (xs ++ ys)
+AllFrom-append P n [] ys a b = let e : n + 0 ≡ n = omega arith in subst (λ (m : ℕ). AllFrom P m ys) e b
+AllFrom-append P n (x ∷ xs) ys a b =
+    let e : n + suc (length xs) ≡ suc n + length xs = omega arith in
+    (a .0, AllFrom-append P (suc n) xs ys (a .1) (subst (λ (m : ℕ). AllFrom P m ys) e b))
+
+pub AllFrom-at : (P : ℕ → Row → Type 0) (n : ℕ) (rs : List Row) → AllFrom P n rs → (j : ℕ) → j < length rs → P (n + j) (row rs j)
+AllFrom-at P n [] a j h = absurd (not-suc-le-zero h)
+AllFrom-at P n (r ∷ rs) a zero h = let e : n ≡ n + 0 = omega arith in subst (λ (m : ℕ). P m r) e (a .0)
+AllFrom-at P n (r ∷ rs) a (suc j) h =
+    let e : suc n + j ≡ n + suc j = omega arith in
+    subst (λ (m : ℕ). P m (row rs j)) e (AllFrom-at P (suc n) rs (a .1) j (le-of-suc-le-suc h))

@@ -2,9 +2,10 @@
 use mathlib.Core.Path.{_≡_, refl, sym, ap, _∙_, subst}
 use mathlib.Core.Bool.{Bool, true, false, _||_}
 use mathlib.Core.List.{List, [], _∷_}
-use Prim.Native.Nat.{ℕ, zero, suc, _-_, _<_}
+use Prim.Native.Nat.{ℕ, zero, suc, _-_, _≤_, _<_}
 use native.Mathlib.Omega.{arith}
-use lib.Dec.{eqb}
+use borrow.Author.Tests.{leb-true, le-leb, eqb-true, eq-eqb}
+use lib.Dec.{leb, eqb}
 use lib.ListN.{getD}
 use Rattle.theory.specs.Tests.{Res, ok, bad, need, bind, unless, first, among}
 
@@ -48,6 +49,22 @@ pub unless-zero : (t : Bool) (c : ℕ) → 0 < c → unless t c ≡ 0 → t ≡ 
 unless-zero true c h e = refl
 unless-zero false c h e = absurd (omega arith)
 
+pub unless-holds : (t : Bool) (c : ℕ) → t ≡ true → unless t c ≡ 0
+unless-holds t c e = rw e
+
+-- The tests that rules are made of: two numbers are equal, one is at most the other.
+pub equal-passes : {a b : ℕ} (c : ℕ) → a ≡ b → unless (eqb a b) c ≡ 0
+equal-passes {a} {b} c e = unless-holds (eqb a b) c (eq-eqb a b e)
+
+pub equal-passed : (a b c : ℕ) → unless (eqb a b) (suc c) ≡ 0 → a ≡ b
+equal-passed a b c e = eqb-true a b (unless-zero (eqb a b) (suc c) (omega arith) e)
+
+pub most-passes : {a b : ℕ} (c : ℕ) → a ≤ b → unless (leb a b) c ≡ 0
+most-passes {a} {b} c e = unless-holds (leb a b) c (le-leb a b e)
+
+pub most-passed : (a b c : ℕ) → unless (leb a b) (suc c) ≡ 0 → a ≤ b
+most-passed a b c e = leb-true a b (unless-zero (leb a b) (suc c) (omega arith) e)
+
 -- ---- rules
 
 -- Where the rule passes, test j has passed.
@@ -61,6 +78,17 @@ first-at (suc c ∷ cs) e j = absurd (omega arith)
 -- Where test j of a rule that passes is a Boolean test, it holds.
 pub holds-at : (cs : List ℕ) → first cs ≡ 0 → (j : ℕ) (t : Bool) (c : ℕ) → getD cs j 0 ≡ unless t (suc c) → t ≡ true
 holds-at cs e j t c q = unless-zero t (suc c) (omega arith) (sym q ∙ first-at cs e j)
+
+-- A rule passes where each of its tests does.
+abbrev pub Passed : List ℕ → Type 0
+Passed [] = Unit {0}
+Passed (c ∷ cs) = (c ≡ 0) × Passed cs
+
+pub first-passes : (cs : List ℕ) → Passed cs → first cs ≡ 0
+unfolding first
+first-passes [] h = refl
+first-passes (zero ∷ cs) h = first-passes cs (h .1)
+first-passes (suc c ∷ cs) h = h .0
 
 -- For rules made of rules: a number that is not 0, and the last rule.
 pub positive : (c : ℕ) → (c ≡ 0 → ⊥) → c ≡ suc (c - 1)

@@ -4,10 +4,10 @@ use mathlib.Core.Path.{_≡_, refl, sym, ap, ap₂, _∙_, subst}
 use mathlib.Core.Logic.{_⊎_, inl, inr, _≢_}
 use mathlib.Core.List.{List, [], _∷_, _++_, reverse, reverseAux, reverse-reverse, append-assoc, append-nil}
 use Prim.Native.Nat.{ℕ, zero, suc, _+_, _-_, _*_, _/_, _%_, _^_, _≤_, _<_}
-use native.Mathlib.Nat.{pow-suc, pow-zero, div-lt-iff-lt-mul, div-add-mod', mod-lt, zero-add, suc-add, add-zero, add-assoc, suc-mul}
+use native.Mathlib.Nat.{pow-suc, pow-zero, div-lt-iff-lt-mul, div-add-mod', mod-lt, zero-add, suc-add, add-zero, add-assoc, suc-mul, mul-assoc}
 use native.Mathlib.Omega.{arith}
 use lib.ListN.{length, take, drop, set, getD, take-append-drop, length-append, length-drop, length-set, length-reverse, drop-of-length-le}
-use lib.Seq.{length-take-le, drop-set-lt, drop-set-add, take-set-le, getD-take, getD-drop, getD-set-same, take-append-le, take-at, drop-at, drop-drop, drop-append-add, take-append-add}
+use lib.Seq.{length-take-le, drop-set-lt, drop-set-add, take-set-le, getD-take, getD-drop, getD-set-same, take-append-le, take-at, drop-at, take-add, drop-drop, drop-append-add, take-append-add}
 use lib.Arith.{digits-div, digits-mod, digits-lt}
 use Rattle.theory.specs.declared.Order.{Order}
 use Rattle.theory.specs.declared.Order.the-variants.{Little, Big}
@@ -167,6 +167,30 @@ pub word-past : (o : Order) (w p : ℕ) (xs ys : List ℕ) → wordAt o w (lengt
 unfolding wordAt
 word-past o w p xs ys = ap (λ (r : List ℕ). num (ordered o (take w r))) (drop-append-add xs ys p)
 
+-- ---- a word with the lowest byte first is its lower and its upper bytes
+
+num-append : (xs ys : List ℕ) → num (xs ++ ys) ≡ num ys * 256 ^ length xs + num xs
+num-append [] ys = omega arith
+num-append (x ∷ xs) ys =
+    let m : num ys * 256 ^ suc (length xs) ≡ num ys * 256 ^ length xs * 256 = rw (pow-suc, mul-assoc) in
+    omega (arith, num-append xs ys)
+
+module _ (a c p : ℕ) (bs : List ℕ) (h : Bytes bs) (l : p + a ≤ length bs) where
+  word-split : wordAt Little (a + c) p bs ≡ wordAt Little c (p + a) bs * 256 ^ a + wordAt Little a p bs
+  unfolding wordAt
+  word-split =
+      let e : length (take a (drop p bs)) ≡ a = length-take-le a (drop p bs) (omega (arith, length-drop p bs)) in
+      ap num (take-add a c (drop p bs))
+      ∙ num-append (take a (drop p bs)) (take c (drop a (drop p bs)))
+      ∙ ap (λ (k : ℕ). num (take c (drop a (drop p bs))) * 256 ^ k + num (take a (drop p bs))) e
+      ∙ ap (λ (r : List ℕ). num (take c r) * 256 ^ a + num (take a (drop p bs))) (drop-drop a p bs)
+
+  pub word-low : wordAt Little (a + c) p bs % 256 ^ a ≡ wordAt Little a p bs
+  word-low = rw word-split (digits-mod (wordAt Little c (p + a) bs) (word-fits Little a p bs h l))
+
+  pub word-high : wordAt Little (a + c) p bs / 256 ^ a ≡ wordAt Little c (p + a) bs
+  word-high = rw word-split (digits-div (wordAt Little c (p + a) bs) (word-fits Little a p bs h l))
+
 -- ---- a byte is changed
 
 num-inj : (o : Order) (xs ys : List ℕ) → Bytes xs → Bytes ys → length xs ≡ length ys → num (ordered o xs) ≡ num (ordered o ys) → xs ≡ ys
@@ -263,3 +287,11 @@ words-fit o w zero p bs h l = tt
 words-fit o w (suc k) p bs h l =
     let m : suc k * w ≡ k * w + w = suc-mul k w in
     (word-fits o w p bs h (omega arith), words-fit o w k (p + w) bs h (omega arith))
+
+-- A byte behind them is changed: they stay.
+pub words-set-behind : (o : Order) (w k p : ℕ) (bs : List ℕ) (i v : ℕ) → p + k * w ≤ i → wordsAt o w k p (set bs i v) ≡ wordsAt o w k p bs
+unfolding wordsAt
+words-set-behind o w zero p bs i v h = refl
+words-set-behind o w (suc k) p bs i v h =
+    let m : suc k * w ≡ k * w + w = suc-mul k w in
+    ap₂ (λ (x : ℕ) (xs : List ℕ). x ∷ xs) (word-set-other o w p bs i v (inr (omega arith))) (words-set-behind o w k (p + w) bs i v (omega arith))

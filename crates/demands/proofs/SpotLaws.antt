@@ -1,0 +1,194 @@
+-- Where a trace's row stands in its file: the events before, its event's word and the records on both sides, the events after.
+-- The idea: the rows are walked with the tree in two pieces, what was passed and what is still to come.
+use mathlib.Core.Path.{_≡_, refl, sym, ap, ap₂, _∙_, subst}
+use mathlib.Core.Bool.{Bool, true, false}
+use mathlib.Core.List.{List, [], _∷_, _++_, map, append-assoc}
+use mathlib.Core.Option.{Option, some, none}
+use Prim.Native.Nat.{ℕ, zero, suc, _+_, _%_, _≤_, _<_}
+use native.Mathlib.Omega.{arith}
+use lib.ListN.{length, length-append, length-map}
+use Rattle.theory.specs.Words.{Bytes}
+use Rattle.theory.specs.Tests.{Res, ok}
+use Rattle.theory.specs.Layout.{Row, Child, Node, total, childRows, rows, row}
+use Rattle.theory.proofs.Items.{length-encs}
+use Rattle.theory.proofs.LayoutLaws.{AllFrom, AllFrom-append, AllFrom-at, length-childRows}
+use Rattle.theory.proofs.FreeLaws.{Spot, plug}
+use Rattle.note.specs.Kinds.{Kind}
+use Rattle.note.specs.Trace.{traceKind}
+use Rattle.note.specs.Words.{order}
+use Rattle.note.specs.Records.{Record, Context, entry, event, isKind, behind, recordBytes, recordSize, recordsBytes, kindOf}
+use Rattle.note.specs.Events.{Container, containerBytes, containerSize, eventsBytes}
+use Rattle.note.specs.Files.{File, versionOf, configurationOf, eventsOf, readFile}
+use Rattle.note.specs.Rows.{childOf, childrenOf, eventNode, nodesOf, rowsOf}
+use Rattle.note.proofs.KindCases.{kind-cases}
+use Rattle.demands.specs.Valid.{ValidRecord, ValidRecords, ValidEvent, ValidEvents, Valid}
+use Rattle.demands.specs.RowRecords.{containerRecords, eventsRecords, rowRecords}
+use Rattle.demands.proofs.Bundles.{recordItem, eventItem}
+use Rattle.demands.proofs.RowLaws.{children-total, container-size}
+
+-- Only a trace has row kind 7.
+pub trace-kind : (k : ℕ) → kindOf k .row ≡ 7 → k ≡ traceKind .word
+trace-kind k =
+    kind-cases (λ w x. x .row ≡ 7 → w ≡ traceKind .word) k
+    (λ e. absurd (omega arith)) (λ e. absurd (omega arith)) (λ e. absurd (omega arith)) (λ e. refl) (λ e. absurd (omega arith))
+    (λ e. absurd (omega arith)) (λ e. absurd (omega arith)) (λ e. absurd (omega arith)) (λ e. absurd (omega arith))
+
+-- An entry is no trace.
+entry-no-trace : (r : Record) → ValidRecord entry r → kindOf (r .kind) .row ≡ 7 → ⊥
+unfolding isKind
+entry-no-trace r v e =
+    let k : r .kind ≡ traceKind .word = trace-kind (r .kind) e in
+    let f : isKind entry (traceKind .word) ≡ true = subst (λ (n : ℕ). isKind entry n ≡ true) k (v .kind-allowed) in
+    mathlib.Core.Bool.false≢true f
+
+-- ---- the rows before a spot, and its place
+
+abbrev pub recordsBefore : Container → Spot → List (Option Record)
+recordsBefore c p = none ∷ (containerRecords c ++ (eventsRecords (p .before) ++ (none ∷ map some (p .left))))
+
+abbrev pub recordsAfter : Spot → List (Option Record)
+recordsAfter p = map some (p .right) ++ eventsRecords (p .after)
+
+abbrev pub placeOf : Container → Spot → ℕ
+placeOf c p = 8 + containerSize c + (length (eventsBytes (p .before)) + (8 + length (recordsBytes (p .left))))
+
+map-append : (xs ys : List Record) → map {B = Option Record} some (xs ++ ys) ≡ map some xs ++ map some ys
+map-append [] ys = refl
+map-append (x ∷ xs) ys = ap (λ (l : List (Option Record)). some x ∷ l) (map-append xs ys)
+
+eventsRecords-append : (xs ys : List Container) → eventsRecords (xs ++ ys) ≡ eventsRecords xs ++ eventsRecords ys
+eventsRecords-append [] ys = refl
+eventsRecords-append (x ∷ xs) ys =
+    ap (λ (l : List (Option Record)). containerRecords x ++ l) (eventsRecords-append xs ys)
+    ∙ sym (append-assoc (containerRecords x) (eventsRecords xs) (eventsRecords ys))
+
+-- Beside the rows: what stands before the spot, the record there, what stands after it.
+pub records-split : (v : ℕ) (c : Container) (p : Spot) (t : Record)
+    → rowRecords (v, (c, plug p t)) ≡ recordsBefore c p ++ (some t ∷ recordsAfter p)
+unfolding rowRecords
+records-split v c p t =
+    let here : List (Option Record) = none ∷ map some (p .left) in
+    let rest : List (Option Record) = some t ∷ recordsAfter p in
+    let box : containerRecords (record { kind = p .word; body = p .left ++ t ∷ p .right }) ++ eventsRecords (p .after) ≡ here ++ rest =
+    ap (λ (l : List (Option Record)). (none ∷ l) ++ eventsRecords (p .after)) (map-append (p .left) (t ∷ p .right))
+    ∙ append-assoc here (some t ∷ map some (p .right)) (eventsRecords (p .after)) in
+    ap (λ (l : List (Option Record)). none ∷ (containerRecords c ++ l))
+    (eventsRecords-append (p .before) (record { kind = p .word; body = p .left ++ t ∷ p .right } ∷ p .after)
+    ∙ ap (λ (l : List (Option Record)). eventsRecords (p .before) ++ l) box
+    ∙ sym (append-assoc (eventsRecords (p .before)) here rest))
+    ∙ ap (λ (l : List (Option Record)). none ∷ l) (sym (append-assoc (containerRecords c) (eventsRecords (p .before) ++ here) rest))
+
+-- ---- from a row to its spot
+
+-- Row n is a trace: the file with that trace in its spot.
+abbrev pub Found : File → ℕ → Row → Type 0
+Found f n r = r .kind ≡ 7 → (p : Spot) × (t : Record) × (eventsOf f ≡ plug p t) × (n ≡ length (recordsBefore (configurationOf f) p))
+    × (r .start ≡ placeOf (configurationOf f) p) × (r .whole ≡ recordSize t) × (t .kind ≡ traceKind .word)
+
+length-records : (rs : List Record) → length (map {B = Option Record} some rs) ≡ length rs
+length-records rs = length-map rs some
+
+module _ (f : File) where
+  entries-none : (i at n : ℕ) (rs : List Record) → ValidRecords entry rs → AllFrom (Found f) n (childRows i at (childrenOf rs))
+  unfolding childRows childOf behind
+  entries-none i at n [] v = tt
+  entries-none i at n (r ∷ rs) v = ((λ k. absurd (entry-no-trace r (v .0) k)), entries-none i (at + recordSize r) (suc n) rs (v .1))
+
+  found-children : (before : List Container) (word : ℕ) (left rs : List Record) (after : List Container) (i at n : ℕ)
+      → eventsOf f ≡ before ++ record { kind = word; body = left ++ rs } ∷ after
+      → at ≡ placeOf (configurationOf f) (record { before = before; word = word; left = left; right = []; after = after })
+      → n ≡ length (recordsBefore (configurationOf f) (record { before = before; word = word; left = left; right = []; after = after }))
+      → AllFrom (Found f) n (childRows i at (childrenOf rs))
+  unfolding childRows childOf
+  found-children before word left [] after i at n e ea en = tt
+  found-children before word left (r ∷ rs) after i at n e ea en =
+      let c : Container = configurationOf f in
+      let more : List Record = left ++ r ∷ [] in
+      let bytes-more : length (recordsBytes more) ≡ length (recordsBytes left) + recordSize r =
+      length-encs recordItem left r [] ∙ omega arith in
+      let rows-more : length (recordsBefore c (record { before = before; word = word; left = more; right = []; after = after }))
+      ≡ suc (length (recordsBefore c (record { before = before; word = word; left = left; right = []; after = after }))) =
+      omega (
+        arith,
+        length-append (containerRecords c) (eventsRecords before ++ (none ∷ map some more)),
+        length-append (eventsRecords before) (none ∷ map some more),
+        length-append (containerRecords c) (eventsRecords before ++ (none ∷ map some left)),
+        length-append (eventsRecords before) (none ∷ map some left),
+        length-records more,
+        length-records left,
+        length-append left (r ∷ []),
+      ) in (
+        (λ k. (
+          record { before = before; word = word; left = left; right = rs; after = after },
+          r,
+          e,
+          en,
+          ea,
+          refl,
+          trace-kind (r .kind) k,
+        )),
+        found-children before word more rs after i (at + recordSize r) (suc n)
+            (e ∙ ap (λ (b : List Record). before ++ record { kind = word; body = b } ∷ after) (sym (append-assoc left (r ∷ []) rs)))
+            (omega arith)
+            (omega arith),
+      )
+
+  found-events : (before es : List Container) (i at n : ℕ) → eventsOf f ≡ before ++ es → at ≡ 8 + containerSize (configurationOf f) + length (eventsBytes before)
+      → n ≡ suc (length (containerRecords (configurationOf f)) + length (eventsRecords before)) → AllFrom (Found f) n (rows i at (map eventNode es))
+  unfolding rows
+  found-events before [] i at n e ea en = tt
+  found-events before (x ∷ es) i at n e ea en =
+      let c : Container = configurationOf f in
+      let ch : List Child = childrenOf (x .body) in
+      let kids : List Row = childRows i (at + 8) ch in
+      let size : length kids ≡ length (x .body) = length-childRows i (at + 8) ch ∙ length-map (x .body) childOf in
+      let more : List Container = before ++ x ∷ [] in
+      let bytes-more : length (eventsBytes more) ≡ length (eventsBytes before) + containerSize x =
+      length-encs eventItem before x [] ∙ omega arith in
+      let rows-more : length (eventsRecords more) ≡ length (eventsRecords before) + suc (length (x .body)) =
+      omega (
+        arith,
+        ap length (eventsRecords-append before (x ∷ [])),
+        length-append (eventsRecords before) (containerRecords x ++ []),
+        length-append (containerRecords x) [],
+        length-records (x .body),
+      ) in
+      let first : length (recordsBefore c (record { before = before; word = x .kind; left = []; right = []; after = es }))
+      ≡ suc (length (containerRecords c) + suc (length (eventsRecords before))) =
+      omega (
+        arith,
+        length-append (containerRecords c) (eventsRecords before ++ (none ∷ [])),
+        length-append (eventsRecords before) (none ∷ []),
+      ) in (
+        (λ k. absurd (omega arith)),
+        AllFrom-append (Found f) (suc n) kids (rows (i + 1 + length ch) (at + (8 + total ch)) (map eventNode es))
+            (found-children before (x .kind) [] (x .body) es i (at + 8) (suc n) e (omega arith) (omega arith))
+            (found-events more es (i + 1 + length ch) (at + (8 + total ch)) (suc n + length kids)
+            (e ∙ sym (append-assoc before (x ∷ []) es))
+            (omega (arith, children-total (x .body)))
+            (omega arith)),
+      )
+
+-- Every trace's row has its spot.
+pub traces-found : (f : File) → Valid f → (j : ℕ) → j < length (rowsOf f) → Found f j (row (rowsOf f) j)
+unfolding rowsOf nodesOf rows
+traces-found f v j h = subst (λ (m : ℕ). Found f m (row (rowsOf f) j)) (omega arith) (AllFrom-at (Found f) 0 (rowsOf f) all j h)
+  where
+    c : Container
+    c = configurationOf f
+
+    ch : List Child
+    ch = childrenOf (c .body)
+
+    all : AllFrom (Found f) 0 (rows 1 0 (nodesOf f))
+    all =
+        let size : length (childRows 2 16 ch) ≡ length (c .body) = length-childRows 2 16 ch ∙ length-map (c .body) childOf in (
+          (λ k. absurd (omega arith)),
+          (
+            (λ k. absurd (omega arith)),
+            AllFrom-append (Found f) 2 (childRows 2 16 ch) (rows (3 + length ch) (8 + (8 + total ch)) (map eventNode (eventsOf f)))
+                (entries-none f 2 16 2 (c .body) (v .entries-valid))
+                (found-events f [] (eventsOf f) (3 + length ch) (8 + (8 + total ch)) (2 + length (childRows 2 16 ch)) refl
+                (omega (arith, children-total (c .body))) (omega (arith, length-records (c .body)))),
+          ),
+        )

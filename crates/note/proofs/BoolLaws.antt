@@ -1,0 +1,39 @@
+-- What a Boolean test tells: `Tells t A` says that t comes out true exactly where A holds. Tests joined by `&&` and `||` tell what
+-- their parts tell, so a rule of the note is read as a statement part by part.
+use mathlib.Core.Path.{_≡_, refl}
+use mathlib.Core.Logic.{_↔_, _⊎_, inl, inr, ⊎-elim, Iff·trans, Iff·and}
+use mathlib.Core.Bool.{Bool, true, false, _&&_, _||_, false≢true, and-eq-true-iff}
+use mathlib.Core.List.{List, [], _∷_}
+use Prim.Native.Nat.{ℕ, _≤_}
+use lib.Dec.{leb, eqb}
+use borrow.Author.Tests.{leb-true, le-leb, eqb-true, eq-eqb}
+use Rattle.theory.specs.Tests.{among}
+
+abbrev pub Tells : Bool → Type 0 → Type 0
+Tells t A = (t ≡ true) ↔ A
+
+pub both-tell : {a b : Bool} {A B : Type 0} → Tells a A → Tells b B → Tells (a && b) (A × B)
+both-tell {a} {b} p q = Iff·trans (and-eq-true-iff a b) (Iff·and p q)
+
+or-true-iff : (a b : Bool) → Tells (a || b) ((a ≡ true) ⊎ (b ≡ true))
+or-true-iff true b = (λ e. inl refl, λ h. refl)
+or-true-iff false b = (inr, ⊎-elim (λ e. absurd (false≢true e)) (λ e. e))
+
+pub either-tells : {a b : Bool} {A B : Type 0} → Tells a A → Tells b B → Tells (a || b) (A ⊎ B)
+either-tells {a} {b} p q =
+    (λ e. ⊎-elim (λ h. inl (p .0 h)) (λ h. inr (q .0 h)) (or-true-iff a b .0 e), λ s. or-true-iff a b .1 (⊎-elim (λ h. inl (p .1 h)) (λ h. inr (q .1 h)) s))
+
+pub le-tells : (m n : ℕ) → Tells (leb m n) (m ≤ n)
+le-tells m n = (leb-true m n, le-leb m n)
+
+pub eq-tells : (m n : ℕ) → Tells (eqb m n) (m ≡ n)
+eq-tells m n = (eqb-true m n, eq-eqb m n)
+
+-- n is one of these numbers.
+abbrev pub OneOf : List ℕ → ℕ → Type 0
+OneOf [] n = ⊥
+OneOf (x ∷ xs) n = (n ≡ x) ⊎ OneOf xs n
+
+pub among-tells : (xs : List ℕ) (n : ℕ) → Tells (among n xs) (OneOf xs n)
+among-tells [] n = (λ e. absurd (false≢true e), λ h. absurd h)
+among-tells (x ∷ xs) n = either-tells (eq-tells n x) (among-tells xs n)

@@ -1,0 +1,301 @@
+-- The laws of the channel lists: code to names to code, name to code to name, and a channel code said a second time, without names.
+-- The idea: every type from 12 on has an empty list, so a fact about all lists is a test that antt computes at the types 0 to 11.
+use Prim.Native.Nat.{ℕ, zero, suc, _+_, _-_, _*_, _/_, _%_, _≤_, _<_}
+use mathlib.Core.Path.{_≡_, refl, sym, ap, _∙_, subst}
+use mathlib.Core.Logic.{_↔_, _⊎_, inl, inr, ⊎-elim, _≢_, by-cases}
+use mathlib.Core.Bool.{Bool, true, false, Bool·beq, not, cond, _&&_, _||_, false≢true, and-eq-true-iff}
+use mathlib.Core.List.{List, [], _∷_, map}
+use mathlib.Core.Option.{Option, some, none}
+use native.Mathlib.Omega.{arith}
+use native.Mathlib.Decide.{decLt}
+use lib.Dec.{leb, eqb}
+use lib.ListN.{length, getD}
+use borrow.Author.Tests.{leb-true, le-leb, eqb-true, eq-eqb, ne-eqb}
+use Rattle.theory.specs.Tests.{among}
+use Rattle.note.specs.Answers.{Given, accepted, refused, counts}
+use Rattle.note.specs.Channels.{ascii, Channel, channelsOf, pick, same, typeOf, detectorOf, channelNumber, codeFrom, numbered, called, channelOf, named, phononNamed, chargeNamed, beginsWith, isSome, codeGiven, codeAnswer}
+use Rattle.note.proofs.BoolLaws.{Tells, both-tell, either-tells, le-tells, eq-tells, OneOf, among-tells}
+use Rattle.note.proofs.Sweep.{all, all-at}
+use Rattle.note.proofs.Computing.{computing}
+
+-- ---- a fact about every list
+
+far-kind : (k : ℕ) → 12 ≤ k → channelsOf k ≡ []
+unfolding channelsOf
+far-kind k h =
+    rw (
+      ne-eqb k 1 (omega arith),
+      ne-eqb k 2 (omega arith),
+      ne-eqb k 3 (omega arith),
+      ne-eqb k 4 (omega arith),
+      ne-eqb k 5 (omega arith),
+      ne-eqb k 6 (omega arith),
+      ne-eqb k 7 (omega arith),
+      ne-eqb k 10 (omega arith),
+      ne-eqb k 11 (omega arith),
+    )
+
+every-list : (p : List Channel → Bool) → p [] ≡ true → all (λ (k : ℕ). p (channelsOf k)) 0 12 ≡ true → (k : ℕ) → p (channelsOf k) ≡ true
+every-list p e t k = by-cases (decLt k 12) (λ l. all-at (λ (k : ℕ). p (channelsOf k)) 0 12 t k (omega arith) (omega arith)) (λ g. rw (far-kind k (omega arith)) e)
+
+-- A test holds at every channel of a list.
+abbrev every : (Channel → Bool) → List Channel → Bool
+every p [] = true
+every p (x ∷ xs) = p x && every p xs
+
+first-or-rest : (b : Bool) (y x : Channel) (o : Option Channel) → cond b (some y) o ≡ some x → ((b ≡ true) × (y ≡ x)) ⊎ (o ≡ some x)
+first-or-rest true y x o e = inl (refl, (cc))
+first-or-rest false y x o e = inr e
+
+picked : (test p : Channel → Bool) (xs : List Channel) (x : Channel) → every p xs ≡ true → pick test xs ≡ some x → (test x ≡ true) × (p x ≡ true)
+picked test p [] x t e = let z : _≡_ {A = ℕ} 0 1 = cc in absurd (omega arith)
+picked test p (y ∷ ys) x t e =
+    let s = and-eq-true-iff (p y) (every p ys) .0 t in
+    ⊎-elim (λ h. subst (λ (z : Channel). (test z ≡ true) × (p z ≡ true)) (h .1) (h .0, s .0)) (picked test p ys x (s .1))
+    (first-or-rest (test y) y x (pick test ys) e)
+
+-- What holds at each channel of each list holds at the one that a test picks.
+of-picked : (p : List Channel → Channel → Bool) → all (λ (k : ℕ). every (p (channelsOf k)) (channelsOf k)) 0 12 ≡ true
+    → (k : ℕ) (test : Channel → Bool) (x : Channel) → pick test (channelsOf k) ≡ some x → (test x ≡ true) × (p (channelsOf k) x ≡ true)
+of-picked p t k test x e = picked test (p (channelsOf k)) (channelsOf k) x (every-list (λ (l : List Channel). every (p l) l) refl t k) e
+
+-- ---- names
+
+beq-equal : (a b : Bool) → Bool·beq a b ≡ true → a ≡ b
+beq-equal true true e = refl
+beq-equal true false e = sym e
+beq-equal false true e = e
+beq-equal false false e = refl
+
+same-equal : (a b : List ℕ) → same a b ≡ true → a ≡ b
+same-equal [] [] e = refl
+same-equal [] (y ∷ ys) e = absurd (false≢true e)
+same-equal (x ∷ xs) [] e = absurd (false≢true e)
+same-equal (x ∷ xs) (y ∷ ys) e =
+    let s = and-eq-true-iff (eqb x y) (same xs ys) .0 e in
+    let h = eqb-true x y (s .0) in
+    let t = same-equal xs ys (s .1) in
+    cc
+
+-- A search finds a channel, and that channel passes the test.
+abbrev finds : Option Channel → (Channel → Bool) → Bool
+finds none test = false
+finds (some x) test = test x
+
+found : (o : Option Channel) (test : Channel → Bool) → finds o test ≡ true → (x : Channel) × (o ≡ some x) × (test x ≡ true)
+found none test e = absurd (false≢true e)
+found (some x) test e = (x, refl, e)
+
+-- A channel's analysis name leads to its number, and its number to its analysis name.
+abbrev byName : List Channel → Channel → Bool
+byName l x = finds (pick (λ y. same (y .analysis) (x .analysis)) l) (λ y. eqb (y .channel) (x .channel))
+
+abbrev byNumber : List Channel → Channel → Bool
+byNumber l x = leb (x .channel) 11 && finds (pick (λ y. eqb (y .channel) (x .channel)) l) (λ y. same (y .analysis) (x .analysis))
+
+number-leads : (k c : ℕ) (x : Channel) → numbered k c ≡ some x → (y : Channel) × (called k (x .analysis) ≡ some y) × (y .channel ≡ c)
+unfolding computing
+number-leads k c x e =
+    let s = of-picked byName refl k (λ y. eqb (y .channel) c) x e in
+    let (y, f, t) = found (called k (x .analysis)) (λ y. eqb (y .channel) (x .channel)) (s .1) in
+    (y, f, eqb-true (y .channel) (x .channel) t ∙ eqb-true (x .channel) c (s .0))
+
+name-leads : (k : ℕ) (name : List ℕ) (x : Channel) → called k name ≡ some x
+    → (y : Channel) × (numbered k (x .channel) ≡ some y) × (y .analysis ≡ name) × (x .channel ≤ 11)
+unfolding computing
+name-leads k name x e =
+    let s = of-picked byNumber refl k (λ y. same (y .analysis) name) x e in
+    let u = and-eq-true-iff (leb (x .channel) 11) (finds (numbered k (x .channel)) (λ y. same (y .analysis) (x .analysis))) .0 (s .1) in
+    let (y, f, t) = found (numbered k (x .channel)) (λ y. same (y .analysis) (x .analysis)) (u .1) in
+    (y, f, same-equal (y .analysis) (x .analysis) t ∙ same-equal (x .analysis) name (s .0), leb-true (x .channel) 11 (u .0))
+
+-- No two listed channels of a type share an analysis name.
+pub names-differ : (k c d : ℕ) (x y : Channel) → numbered k c ≡ some x → numbered k d ≡ some y → x .analysis ≡ y .analysis → c ≡ d
+names-differ k c d x y e f q =
+    let (u, g, m) = number-leads k c x e in
+    let (v, h, n) = number-leads k d y f in
+    cc
+
+-- From a code to its analysis name and back to the code.
+pub code-leads-back : (w : ℕ) (x : Channel) → channelOf w ≡ some x → codeAnswer (typeOf w) (detectorOf w) (x .analysis) ≡ accepted (counts (w ∷ []))
+unfolding codeAnswer
+code-leads-back w x e =
+    let (y, f, n) = number-leads (typeOf w) (channelNumber w) x e in
+    let d : detectorOf w ≤ 999 = omega arith in
+    let q : codeFrom (typeOf w) (detectorOf w) (y .channel) ≡ w = omega arith in
+    rw (f, le-leb (detectorOf w) 999 d, q)
+
+code-from : (kind detector w : ℕ) (o : Option Channel) → codeGiven kind detector o ≡ accepted (counts (w ∷ []))
+    → (x : Channel) × (o ≡ some x) × (detector ≤ 999) × (codeFrom kind detector (x .channel) ≡ w)
+code-from kind detector w none e = let z : _≡_ {A = ℕ} 0 1 = cc in absurd (omega arith)
+code-from kind detector w (some x) e = go (leb detector 999) refl e
+  where
+    go : (b : Bool) → leb detector 999 ≡ b → cond b (accepted (counts (codeFrom kind detector (x .channel) ∷ []))) (refused 10 0) ≡ accepted (counts (w ∷ []))
+        → (y : Channel) × (some x ≡ some y) × (detector ≤ 999) × (codeFrom kind detector (y .channel) ≡ w)
+    go true t e = (x, refl, leb-true detector 999 t, cc)
+    go false t e = let z : _≡_ {A = ℕ} 0 1 = cc in absurd (omega arith)
+
+-- The three parts of a code, read apart.
+parts-of-code : (kind detector c w : ℕ) → w ≡ codeFrom kind detector c → detector ≤ 999 → c ≤ 999
+    → (typeOf w ≡ kind) × (detectorOf w ≡ detector) × (channelNumber w ≡ c)
+parts-of-code kind detector c w e d h =
+    let r : w / 1000 ≡ kind * 1000 + detector = omega arith in
+    (omega arith, rw r (omega arith), omega arith)
+
+-- From type, number and analysis name to a code, and back to them.
+pub name-leads-back : (kind detector : ℕ) (name : List ℕ) (w : ℕ) → codeAnswer kind detector name ≡ accepted (counts (w ∷ []))
+    → (x : Channel) × (channelOf w ≡ some x) × (x .analysis ≡ name) × (typeOf w ≡ kind) × (detectorOf w ≡ detector)
+unfolding codeAnswer
+name-leads-back kind detector name w e =
+    let (x, f, d, q) = code-from kind detector w (called kind name) e in
+    let (y, g, n, c) = name-leads kind name x f in
+    let (k, r, m) = parts-of-code kind detector (x .channel) w (sym q) d (omega arith) in
+    (y, rw (k, m) g, n, k, r)
+
+-- ---- a channel code, said without names
+
+-- A line of document 01: these detector types have the channels from `low` to `high`.
+pub record Line : Type 0 where
+  pub types : List ℕ
+  pub low : ℕ
+  pub high : ℕ
+
+abbrev pub line : List ℕ → ℕ → ℕ → Line
+line ts a b = record { types = ts; low = a; high = b }
+
+-- Type `kind` has channel c on one of the lines.
+abbrev pub Listed : List Line → ℕ → ℕ → Type 0
+Listed [] kind c = ⊥
+Listed (l ∷ ls) kind c = (OneOf (l .types) kind × ((l .low ≤ c) × (c ≤ l .high))) ⊎ Listed ls kind c
+
+-- All channels; the charge channels; the phonon channels.
+abbrev pub channelLines : List Line
+channelLines = line (1 ∷ []) 1 4 ∷ line (3 ∷ []) 0 0 ∷ line (2 ∷ 4 ∷ 5 ∷ 6 ∷ []) 0 5 ∷ line (7 ∷ []) 0 2 ∷ line (10 ∷ 11 ∷ []) 0 11 ∷ []
+
+abbrev pub chargeLines : List Line
+chargeLines = line (1 ∷ []) 1 2 ∷ line (2 ∷ 4 ∷ 5 ∷ 6 ∷ []) 0 1 ∷ line (7 ∷ []) 0 0 ∷ line (10 ∷ 11 ∷ []) 0 1 ∷ line (10 ∷ 11 ∷ []) 6 7 ∷ []
+
+abbrev pub phononLines : List Line
+phononLines = line (1 ∷ []) 3 4 ∷ line (2 ∷ 4 ∷ 5 ∷ 6 ∷ []) 2 5 ∷ line (7 ∷ []) 1 2 ∷ line (10 ∷ 11 ∷ []) 2 5 ∷ line (10 ∷ 11 ∷ []) 8 11 ∷ []
+
+-- w is a code in decimal: type, number 0 to 999 and a channel of these lines, three digits each.
+abbrev pub CodeOf : List Line → ℕ → Type 0
+CodeOf ls w = (kind : ℕ) × (detector : ℕ) × (c : ℕ) × (w ≡ kind * 1000000 + detector * 1000 + c) × (detector ≤ 999) × Listed ls kind c
+
+abbrev onLine : List Line → ℕ → ℕ → Bool
+onLine [] kind c = false
+onLine (l ∷ ls) kind c = (among kind (l .types) && (leb (l .low) c && leb c (l .high))) || onLine ls kind c
+
+on-line-tells : (ls : List Line) (kind c : ℕ) → Tells (onLine ls kind c) (Listed ls kind c)
+on-line-tells [] kind c = (λ e. absurd (false≢true e), λ h. absurd h)
+on-line-tells (l ∷ ls) kind c =
+    either-tells (both-tell (among-tells (l .types) kind) (both-tell (le-tells (l .low) c) (le-tells c (l .high)))) (on-line-tells ls kind c)
+
+-- No line goes past type 11 or channel 11.
+abbrev upTo : ℕ → List ℕ → Bool
+upTo m [] = true
+upTo m (x ∷ xs) = leb x m && upTo m xs
+
+abbrev bounded : List Line → Bool
+bounded [] = true
+bounded (l ∷ ls) = upTo 11 (l .types) && (leb (l .high) 11 && bounded ls)
+
+one-up-to : (m : ℕ) (xs : List ℕ) (n : ℕ) → upTo m xs ≡ true → OneOf xs n → n ≤ m
+one-up-to m [] n t h = absurd h
+one-up-to m (x ∷ xs) n t (inl e) = let l = leb-true x m (and-eq-true-iff (leb x m) (upTo m xs) .0 t .0) in omega arith
+one-up-to m (x ∷ xs) n t (inr h) = one-up-to m xs n (and-eq-true-iff (leb x m) (upTo m xs) .0 t .1) h
+
+line-small : (ls : List Line) (k c : ℕ) → bounded ls ≡ true → Listed ls k c → (k ≤ 11) × (c ≤ 11)
+line-small [] k c t h = absurd h
+line-small (l ∷ ls) k c t h =
+    let s = and-eq-true-iff (upTo 11 (l .types)) (leb (l .high) 11 && bounded ls) .0 t in
+    let u = and-eq-true-iff (leb (l .high) 11) (bounded ls) .0 (s .1) in
+    ⊎-elim (λ g. (one-up-to 11 (l .types) k (s .0) (g .0), omega (arith, leb-true (l .high) 11 (u .0)))) (line-small ls k c (u .1)) h
+
+number-small : (k c : ℕ) (x : Channel) → numbered k c ≡ some x → (k ≤ 11) × (c ≤ 11)
+unfolding computing
+number-small k c x e =
+    let s = of-picked (λ l y. leb (y .channel) 11) refl k (λ y. eqb (y .channel) c) x e in
+    let small : k < 12 = by-cases (decLt k 12) (λ l. l) (λ g. let z : _≡_ {A = Option Channel} none (some x) = rw (far-kind k (omega arith)) at e in let i : _≡_ {A = ℕ} 0 1 = cc in absurd (omega arith)) in
+    (omega arith, omega (arith, leb-true (x .channel) 11 (s .1), eqb-true (x .channel) c (s .0)))
+
+-- A test of the listed channel, which agrees with the lines at every type and channel up to 11, picks the codes of those lines.
+module _ (ls : List Line) (test : Option Channel → Bool) (nothing : test none ≡ false) (small : bounded ls ≡ true)
+    (agree : all (λ (k : ℕ). all (λ (c : ℕ). Bool·beq (onLine ls k c) (test (numbered k c))) 0 12) 0 12 ≡ true) where
+  agree-at : (k c : ℕ) → (k ≤ 11) × (c ≤ 11) → onLine ls k c ≡ test (numbered k c)
+  agree-at k c h = beq-equal (onLine ls k c) (test (numbered k c))
+      (all-at (λ (c : ℕ). Bool·beq (onLine ls k c) (test (numbered k c))) 0 12
+      (all-at (λ (k : ℕ). all (λ (c : ℕ). Bool·beq (onLine ls k c) (test (numbered k c))) 0 12) 0 12 agree k (omega arith) (omega arith))
+      c (omega arith) (omega arith))
+
+  some-channel : (o : Option Channel) → test o ≡ true → (x : Channel) × (o ≡ some x)
+  some-channel none e = absurd (false≢true (sym nothing ∙ e))
+  some-channel (some x) e = (x, refl)
+
+  lines-tell : (k c : ℕ) → Tells (test (numbered k c)) (Listed ls k c)
+  lines-tell k c = (
+    λ e. let (x, q) = some-channel (numbered k c) e in on-line-tells ls k c .0 (agree-at k c (number-small k c x q) ∙ e),
+    λ h. sym (agree-at k c (line-small ls k c small h)) ∙ on-line-tells ls k c .1 h,
+  )
+
+  codes-tell : (w : ℕ) → Tells (test (channelOf w)) (CodeOf ls w)
+  codes-tell w = (
+    λ e. (typeOf w, detectorOf w, channelNumber w, omega arith, omega arith, lines-tell (typeOf w) (channelNumber w) .0 e),
+    λ h.
+        let (kind, detector, c, e, d, l) = h in
+        let (k, r, m) = parts-of-code kind detector c w e d (omega (arith, line-small ls kind c small l)) in
+        rw (k, m) (lines-tell kind c .1 l),
+  )
+
+-- A code is named, or names a charge or a phonon channel, exactly where document 01's lines have it.
+pub code-is-listed : (w : ℕ) → (named w ≡ true) ↔ CodeOf channelLines w
+unfolding computing
+code-is-listed = codes-tell channelLines isSome refl refl refl
+
+pub charge-code-is-listed : (w : ℕ) → (chargeNamed w ≡ true) ↔ CodeOf chargeLines w
+unfolding computing
+charge-code-is-listed = codes-tell chargeLines (beginsWith "Q") refl refl refl
+
+pub phonon-code-is-listed : (w : ℕ) → (phononNamed w ≡ true) ↔ CodeOf phononLines w
+unfolding computing
+phonon-code-is-listed = codes-tell phononLines (beginsWith "P") refl refl refl
+
+-- ---- what the names are
+
+-- One to four bytes of ASCII, none of them 0.
+abbrev pub Short : List ℕ → Type 0
+Short name = ((1 ≤ length name) × (length name ≤ 4)) × ((i : ℕ) → i < length name → (1 ≤ getD name i 0) × (getD name i 0 ≤ 127))
+
+abbrev inAscii : List ℕ → ℕ → Bool
+inAscii name i = leb 1 (getD name i 0) && leb (getD name i 0) 127
+
+abbrev short : List ℕ → Bool
+short name = (leb 1 (length name) && leb (length name) 4) && all (inAscii name) 0 (length name)
+
+short-holds : (name : List ℕ) → short name ≡ true → Short name
+short-holds name e =
+    let s = and-eq-true-iff (leb 1 (length name) && leb (length name) 4) (all (inAscii name) 0 (length name)) .0 e in (
+      both-tell (le-tells 1 (length name)) (le-tells (length name) 4) .0 (s .0),
+      λ i h. both-tell (le-tells 1 (getD name i 0)) (le-tells (getD name i 0) 127) .0 (all-at (inAscii name) 0 (length name) (s .1) i (omega arith) (omega arith)),
+    )
+
+-- Every listed name fits four bytes that are not 0, so an answer's four bytes and length lose nothing of it.
+pub names-fit : (k c : ℕ) (x : Channel) → numbered k c ≡ some x → Short (x .analysis) × Short (x .cold)
+unfolding computing
+names-fit k c x e =
+    let s = of-picked (λ l y. short (y .analysis) && short (y .cold)) refl k (λ y. eqb (y .channel) c) x e in
+    let u = and-eq-true-iff (short (x .analysis)) (short (x .cold)) .0 (s .1) in
+    (short-holds (x .analysis) (u .0), short-holds (x .cold) (u .1))
+
+-- The last byte of channel c's analysis name, its side in an iZIP; the sides of channels 0 to 11.
+abbrev pub sideOf : Option Channel → ℕ
+sideOf none = 0
+sideOf (some x) = getD (x .analysis) (length (x .analysis) - 1) 0
+
+abbrev pub sides : ℕ → List ℕ
+sides kind = map (λ (c : ℕ). sideOf (numbered kind c)) (0 ∷ 1 ∷ 2 ∷ 3 ∷ 4 ∷ 5 ∷ 6 ∷ 7 ∷ 8 ∷ 9 ∷ 10 ∷ 11 ∷ [])
+
+-- The sides of class I, type 10, and of class II, type 11: they are no function of the channel number alone.
+pub side-is-listed : (sides 10 ≡ ascii "111211222122") × (sides 11 ≡ ascii "112121221212")
+unfolding computing
+side-is-listed = (refl, refl)

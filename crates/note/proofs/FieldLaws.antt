@@ -1,0 +1,167 @@
+-- The kinds whose body is k words: the fields read from an accepted body write that body again; fields without a fault, written and
+-- read, are the same and their body is accepted. One pair of lemmas over any k words and any fields, then two lines for each kind.
+use mathlib.Core.Path.{_≡_, refl, sym, ap, _∙_}
+use mathlib.Core.List.{List, [], _∷_, map, append-nil}
+use Prim.Native.Nat.{ℕ, _*_}
+use native.Mathlib.Omega.{arith}
+use lib.Dec.{eqb}
+use lib.IntN.{ℤ, pos}
+use lib.ListN.{length, getD}
+use Rattle.theory.specs.Words.{Bytes, wordsAt, AllFit}
+use Rattle.theory.specs.Tests.{first, unless}
+use Rattle.theory.proofs.TestLaws.{Passed, first-at, first-passes, equal-passed, equal-passes}
+use Rattle.theory.proofs.WordLaws.{words-of-puts, puts-fill, words-fit, length-puts}
+use Rattle.note.specs.Words.{order, word, words, signed, unsigned}
+use Rattle.note.specs.Phonon.{Phonon, phononWords, phononOf, phononBytes, phononFault, phononRule}
+use Rattle.note.specs.Charge.{Charge, chargeWords, chargeOf, chargeBytes, chargeFault, chargeRule}
+use Rattle.note.specs.Administrative.{Administrative, administrativeWords, administrativeOf, administrativeBytes, administrativeFault, administrativeRule}
+use Rattle.note.specs.Trigger.{Trigger, triggerMasks, triggerOf, triggerBytes, triggerRule}
+use Rattle.note.specs.Tlb.{Tlb, tlbWords, tlbOf, tlbBytes, tlbFault, tlbRule}
+use Rattle.note.proofs.SignedLaws.{AllSigned, all-signed-again, all-unsigned-again, all-unsigned-fit}
+
+-- ---- any k words
+
+-- The k words of a body, and a rule that asks for k words before its other tests.
+abbrev pub read : ℕ → List ℕ → List ℕ
+read k b = wordsAt order 4 k 0 b
+
+abbrev pub rule : ℕ → List ℕ → List ℕ → ℕ
+rule k b tests = first (unless (eqb (length b) (k * 4)) 6 ∷ tests)
+
+pub sized : (k : ℕ) (b tests : List ℕ) → rule k b tests ≡ 0 → length b ≡ k * 4
+sized k b tests e = equal-passed (length b) (k * 4) 5 (first-at _ e 0)
+
+pub restored : (k : ℕ) (b tests : List ℕ) → Bytes b → rule k b tests ≡ 0 → words (read k b) ≡ b
+restored k b tests h e = puts-fill order 4 k b h (sized k b tests e)
+
+signed-restored : (k : ℕ) (b tests : List ℕ) → Bytes b → rule k b tests ≡ 0 → words (map unsigned (map signed (read k b))) ≡ b
+signed-restored k b tests h e =
+    let l : length b ≡ k * 4 = sized k b tests e in
+    ap words (all-signed-again (read k b) (words-fit order 4 k 0 b h (omega arith))) ∙ restored k b tests h e
+
+-- Numbers written as words and read back.
+abbrev pub reread : List ℕ → List ℕ
+reread ns = read (length ns) (words ns)
+
+pub words-read : (ns : List ℕ) → AllFit 4 ns → reread ns ≡ ns
+words-read ns h = ap (read (length ns)) (sym (append-nil (words ns))) ∙ words-of-puts order 4 ns [] h
+
+-- Number j of a list, as a field is found in it.
+abbrev at : List ℕ → ℕ → ℕ
+at ns j = getD ns j 0
+
+abbrev signedAt : List ℤ → ℕ → ℤ
+signedAt zs j = getD zs j (pos 0)
+
+-- The tests and the fields are functions of the words.
+module _ {F : Type 0} (tests : List ℕ → List ℕ) where
+  pub read-back : (fields : List ℕ → F) (ns : List ℕ) → AllFit 4 ns → Passed (tests ns)
+      → (rule (length ns) (words ns) (tests (reread ns)) ≡ 0) × (fields (reread ns) ≡ fields ns)
+  read-back fields ns h e =
+      let r : reread ns ≡ ns = words-read ns h in
+      (first-passes _ (equal-passes 6 (length-puts order 4 ns), rw r e), ap fields r)
+
+  signed-read-back : (fields : List ℤ → F) (zs : List ℤ) → AllSigned zs → Passed (tests (map unsigned zs))
+      → (rule (length (map unsigned zs)) (words (map unsigned zs)) (tests (reread (map unsigned zs))) ≡ 0)
+      × (fields (map signed (reread (map unsigned zs))) ≡ fields zs)
+  signed-read-back fields zs h e =
+      let r = read-back (λ ns. fields (map signed ns)) (map unsigned zs) (all-unsigned-fit zs h) e in
+      (r .0, r .1 ∙ ap fields (all-unsigned-again zs h))
+
+-- ---- phonon
+
+pub phonon-restored : (b : List ℕ) → Bytes b → phononRule b ≡ 0 → phononBytes (phononOf b) ≡ b
+unfolding phononRule phononBytes phononOf wordsAt
+phonon-restored b h e = signed-restored 11 b _ h e
+
+pub phonon-read-back : (f : Phonon) → AllSigned (phononWords f) → phononFault (unsigned (f .code)) ≡ 0 → (phononRule (phononBytes f) ≡ 0) × (phononOf (phononBytes f) ≡ f)
+unfolding phononRule phononBytes phononOf wordsAt
+phonon-read-back f h e = signed-read-back (λ ns. phononFault (at ns 0) ∷ []) (λ zs. record {
+  code = signedAt zs 0;
+  tower = signedAt zs 1;
+  gain = signedAt zs 2;
+  qetBias = signedAt zs 3;
+  squidBias = signedAt zs 4;
+  lockpoint = signedAt zs 5;
+  rtfOffset = signedAt zs 6;
+  variableGain = signedAt zs 7;
+  deltaT = signedAt zs 8;
+  t0 = signedAt zs 9;
+  traceLength = signedAt zs 10;
+}) (phononWords f) h (e, tt)
+
+-- ---- charge
+
+pub charge-restored : (b : List ℕ) → Bytes b → chargeRule b ≡ 0 → chargeBytes (chargeOf b) ≡ b
+unfolding chargeRule chargeBytes chargeOf wordsAt
+charge-restored b h e = signed-restored 8 b _ h e
+
+pub charge-read-back : (f : Charge) → AllSigned (chargeWords f) → chargeFault (unsigned (f .code)) ≡ 0 → (chargeRule (chargeBytes f) ≡ 0) × (chargeOf (chargeBytes f) ≡ f)
+unfolding chargeRule chargeBytes chargeOf wordsAt
+charge-read-back f h e = signed-read-back (λ ns. chargeFault (at ns 0) ∷ []) (λ zs. record {
+  code = signedAt zs 0;
+  tower = signedAt zs 1;
+  gain = signedAt zs 2;
+  bias = signedAt zs 3;
+  rtfOffset = signedAt zs 4;
+  deltaT = signedAt zs 5;
+  t0 = signedAt zs 6;
+  traceLength = signedAt zs 7;
+}) (chargeWords f) h (e, tt)
+
+-- ---- administrative
+
+pub administrative-restored : (b : List ℕ) → Bytes b → administrativeRule b ≡ 0 → administrativeBytes (administrativeOf b) ≡ b
+unfolding administrativeRule administrativeBytes administrativeOf wordsAt
+administrative-restored b h e = restored 6 b _ h e
+
+pub administrative-read-back : (f : Administrative) → AllFit 4 (administrativeWords f) → administrativeFault (f .date) (f .clock) ≡ 0
+    → (administrativeRule (administrativeBytes f) ≡ 0) × (administrativeOf (administrativeBytes f) ≡ f)
+unfolding administrativeRule administrativeBytes administrativeOf wordsAt
+administrative-read-back f h e = read-back (λ ns. administrativeFault (at ns 0) (at ns 1) ∷ []) (λ ns. record {
+  date = at ns 0;
+  clock = at ns 1;
+  number = at ns 2;
+  time = at ns 3;
+  since = at ns 4;
+  live = at ns 5;
+}) (administrativeWords f) h (e, tt)
+
+-- ---- trigger
+
+pub trigger-restored : (b : List ℕ) → Bytes b → triggerRule b ≡ 0 → triggerBytes (triggerOf b) ≡ b
+unfolding triggerRule triggerBytes triggerOf wordsAt
+trigger-restored b h e =
+    let z : word 0 b ≡ 0 = equal-passed (word 0 b) 0 9 (first-at _ e 1) in
+    ap (λ (t : ℕ). words (t ∷ triggerMasks (triggerOf b))) (sym z) ∙ restored 7 b _ h e
+
+pub trigger-read-back : (f : Trigger) → AllFit 4 (triggerMasks f) → (triggerRule (triggerBytes f) ≡ 0) × (triggerOf (triggerBytes f) ≡ f)
+unfolding triggerRule triggerBytes triggerOf wordsAt
+trigger-read-back f h = read-back (λ ns. unless (eqb (at ns 0) 0) 10 ∷ []) (λ ns. record {
+  mask1 = at ns 1;
+  mask2 = at ns 2;
+  mask3 = at ns 3;
+  mask4 = at ns 4;
+  mask5 = at ns 5;
+  mask6 = at ns 6;
+}) (0 ∷ triggerMasks f) (omega arith, h) (refl, tt)
+
+-- ---- tlb
+
+pub tlb-restored : (b : List ℕ) → Bytes b → tlbRule b ≡ 0 → tlbBytes (tlbOf b) ≡ b
+unfolding tlbRule tlbBytes tlbOf wordsAt
+tlb-restored b h e = restored 6 b _ h e
+
+abbrev tlbFrom : List ℕ → Tlb
+tlbFrom ns = record {
+  tower1 = at ns 0;
+  tower2 = at ns 1;
+  tower3 = at ns 2;
+  tower4 = at ns 3;
+  tower5 = at ns 4;
+  tower6 = at ns 5;
+}
+
+pub tlb-read-back : (f : Tlb) → AllFit 4 (tlbWords f) → tlbFault f ≡ 0 → (tlbRule (tlbBytes f) ≡ 0) × (tlbOf (tlbBytes f) ≡ f)
+unfolding tlbRule tlbBytes tlbOf wordsAt
+tlb-read-back f h e = read-back (λ ns. tlbFault (tlbFrom ns) ∷ []) tlbFrom (tlbWords f) h (e, tt)

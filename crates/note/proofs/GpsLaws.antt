@@ -1,0 +1,307 @@
+-- The laws of BCD, once over the number of digits; the Gregorian day said a second time; and the GPS record there and back.
+-- The idea: one digit more is one more step of division, by 16 in the word and by 10 in the number.
+use Prim.Native.Nat.{ℕ, zero, suc, _+_, _-_, _*_, _/_, _%_, _^_, _≤_, _<_}
+use mathlib.Core.Path.{_≡_, refl, sym, ap, ap₂, _∙_, subst}
+use mathlib.Core.Logic.{_↔_, _⊎_, inl, inr, ⊎-elim}
+use mathlib.Core.Bool.{Bool, true, false, not, cond, _&&_, _||_, false≢true, and-eq-true-iff, and-assoc}
+use mathlib.Core.List.{List, [], _∷_, _++_, append-nil}
+use native.Mathlib.Omega.{arith}
+use native.Mathlib.Nat.{pow-suc, pow-succ', pow-zero, mul-assoc, mod-lt, mod-one, mod-eq-of-lt, div-add-mod', div-one, div-div-eq-div-mul, zero-add, suc-add, mul-one, one-le-pow}
+use lib.Arith.{digits-div, digits-mod, digits-lt, mod-mul}
+use lib.Dec.{leb, eqb}
+use lib.ListN.{length, getD}
+use borrow.Author.Tests.{leb-true, le-leb, eqb-true, eq-eqb, eqb-false}
+use Rattle.theory.specs.Words.{Bytes, AllFit, wordsAt}
+use Rattle.theory.specs.Tests.{unless, first}
+use Rattle.theory.proofs.TestLaws.{holds-at}
+use Rattle.theory.proofs.WordLaws.{word-fits, words-of-puts, puts-fill, length-puts}
+use Rattle.note.specs.Words.{order, word, words}
+use Rattle.note.specs.Gps.{Gps, areDigits, decimal, bcd, gpsOf, gpsWords, gpsBytes, isLeap, daysOfYear, gpsFault, gpsTests, gpsRule}
+use Rattle.note.proofs.BoolLaws.{Tells, both-tell, either-tells, le-tells, eq-tells}
+use Rattle.note.proofs.Sweep.{all, all-at}
+use Rattle.note.proofs.Computing.{computing}
+
+-- ---- BCD
+
+-- A number written in digits is read again; its digits are digits, and no more than n.
+pub digits-read-back : (n v : ℕ) → v < 10 ^ n → decimal n (bcd n v) ≡ v
+unfolding decimal bcd
+digits-read-back zero v h = omega (arith, rw pow-zero at h)
+digits-read-back (suc n) v h =
+    let p : v < 10 ^ n * 10 = rw pow-suc at h in
+    let d : (bcd n (v / 10) * 16 + v % 10) / 16 ≡ bcd n (v / 10) = omega arith in
+    let m : (bcd n (v / 10) * 16 + v % 10) % 16 ≡ v % 10 = omega arith in
+    rw (d, m, digits-read-back n (v / 10) (omega arith)) (omega arith)
+
+pub digits-are-written : (n v : ℕ) → areDigits n (bcd n v) ≡ true
+unfolding areDigits bcd
+digits-are-written zero v = refl
+digits-are-written (suc n) v =
+    let d : (bcd n (v / 10) * 16 + v % 10) / 16 ≡ bcd n (v / 10) = omega arith in
+    let m : (bcd n (v / 10) * 16 + v % 10) % 16 ≡ v % 10 = omega arith in
+    rw (d, m, le-leb (v % 10) 9 (omega arith)) (digits-are-written n (v / 10))
+
+pub digits-fit : (n v : ℕ) → bcd n v < 16 ^ n
+unfolding bcd
+digits-fit zero v = omega (arith, pow-zero 16)
+digits-fit (suc n) v = rw pow-suc (digits-lt (digits-fit n (v / 10)) (omega arith))
+
+mod-digit : (n w : ℕ) → w % 16 ^ suc n ≡ (w / 16 % 16 ^ n) * 16 + w % 16
+mod-digit n w = rw pow-suc (mod-mul w (one-le-pow n 16 (omega arith)) (omega arith))
+
+-- Digits that are read are written again: the lowest n digits of w, whatever stands above them.
+pub digits-restored : (n w : ℕ) → areDigits n w ≡ true → bcd n (decimal n w) ≡ w % 16 ^ n
+unfolding areDigits decimal bcd
+digits-restored zero w e = rw (pow-zero, mod-one)
+digits-restored (suc n) w e =
+    let s = and-eq-true-iff (leb (w % 16) 9) (areDigits n (w / 16)) .0 e in
+    let l = leb-true (w % 16) 9 (s .0) in
+    let d : (decimal n (w / 16) * 10 + w % 16) / 10 ≡ decimal n (w / 16) = omega arith in
+    let m : (decimal n (w / 16) * 10 + w % 16) % 10 ≡ w % 16 = omega arith in
+    rw (d, m, digits-restored n (w / 16) (s .1)) (sym (mod-digit n w))
+
+pub word-restored : (n w : ℕ) → w < 16 ^ n → areDigits n w ≡ true → bcd n (decimal n w) ≡ w
+word-restored n w h e = digits-restored n w e ∙ mod-eq-of-lt h
+
+-- The number of n digits is below 10 ^ n.
+pub decimal-fits : (n w : ℕ) → areDigits n w ≡ true → decimal n w < 10 ^ n
+unfolding areDigits decimal
+decimal-fits zero w e = omega (arith, pow-zero 10)
+decimal-fits (suc n) w e =
+    let s = and-eq-true-iff (leb (w % 16) 9) (areDigits n (w / 16)) .0 e in
+    let l = leb-true (w % 16) 9 (s .0) in
+    rw pow-suc (digits-lt (decimal-fits n (w / 16) (s .1)) (omega arith))
+
+-- Only the lowest n digits are read, so fields that stand side by side in a word are read apart.
+above-digits : (h m l : ℕ) → ((h * (m * 16) + l) / 16 ≡ h * m + l / 16) × ((h * (m * 16) + l) % 16 ≡ l % 16)
+above-digits h m l = let e : h * m * 16 ≡ h * (m * 16) = mul-assoc h m 16 in (omega arith, omega arith)
+
+pub decimal-above : (n h l : ℕ) → decimal n (h * 16 ^ n + l) ≡ decimal n l
+unfolding decimal
+decimal-above zero h l = refl
+decimal-above (suc n) h l = rw (pow-suc, above-digits h (16 ^ n) l .0, above-digits h (16 ^ n) l .1, decimal-above n h (l / 16))
+
+pub digits-above : (n h l : ℕ) → areDigits n (h * 16 ^ n + l) ≡ areDigits n l
+unfolding areDigits
+digits-above zero h l = refl
+digits-above (suc n) h l = rw (pow-suc, above-digits h (16 ^ n) l .0, above-digits h (16 ^ n) l .1, digits-above n h (l / 16))
+
+-- n + m digits are the lowest n and the m above them.
+pub digits-split : (n m w : ℕ) → (areDigits (n + m) w ≡ true) ↔ ((areDigits n w ≡ true) × (areDigits m (w / 16 ^ n) ≡ true))
+unfolding areDigits
+digits-split n m w = subst (λ (t : Bool). (t ≡ true) ↔ ((areDigits n w ≡ true) × (areDigits m (w / 16 ^ n) ≡ true))) (sym (split n m w))
+    (and-eq-true-iff (areDigits n w) (areDigits m (w / 16 ^ n)))
+  where
+    split : (n m w : ℕ) → areDigits (n + m) w ≡ areDigits n w && areDigits m (w / 16 ^ n)
+    split zero m w = rw (zero-add, pow-zero, div-one)
+    split (suc n) m w =
+        let q : w / 16 / 16 ^ n ≡ w / 16 ^ suc n = rw pow-succ' (div-div-eq-div-mul w 16 (16 ^ n)) in
+        rw (suc-add, split n m (w / 16), q) (sym (and-assoc (leb (w % 16) 9) (areDigits n (w / 16)) (areDigits m (w / 16 ^ suc n))))
+
+-- BCD said a second time: n digits, each at most 9, that spell the word to the base 16 and the number to the base 10.
+abbrev pub spell : ℕ → List ℕ → ℕ
+spell base [] = 0
+spell base (d ∷ ds) = spell base ds * base + d
+
+abbrev pub Digits : List ℕ → Type 0
+Digits [] = Unit {0}
+Digits (d ∷ ds) = (d ≤ 9) × Digits ds
+
+abbrev pub Spelled : ℕ → ℕ → ℕ → Type 0
+Spelled n w v = (ds : List ℕ) × (length ds ≡ n) × Digits ds × (w % 16 ^ n ≡ spell 16 ds) × (v ≡ spell 10 ds)
+
+is-spelled : (n w : ℕ) → areDigits n w ≡ true → Spelled n w (decimal n w)
+unfolding areDigits decimal
+is-spelled zero w h = ([], refl, tt, rw (pow-zero, mod-one), refl)
+is-spelled (suc n) w h =
+    let s = and-eq-true-iff (leb (w % 16) 9) (areDigits n (w / 16)) .0 h in
+    let (ds, l, small, e, f) = is-spelled n (w / 16) (s .1) in
+    (w % 16 ∷ ds, ap suc l, (leb-true (w % 16) 9 (s .0), small), rw (mod-digit n w, e), rw f)
+
+spelled-is : (ds : List ℕ) (w : ℕ) → Digits ds → w % 16 ^ length ds ≡ spell 16 ds
+    → (areDigits (length ds) w ≡ true) × (decimal (length ds) w ≡ spell 10 ds)
+unfolding areDigits decimal
+spelled-is [] w small e = (refl, refl)
+spelled-is (d ∷ ds) w small e =
+    let g : (w / 16 % 16 ^ length ds) * 16 + w % 16 ≡ spell 16 ds * 16 + d = sym (mod-digit (length ds) w) ∙ e in
+    let m : w % 16 ≡ d = omega arith in
+    let (s, f) = spelled-is ds (w / 16) (small .1) (omega arith) in
+    (rw (m, le-leb d 9 (small .0), s), rw (m, f))
+
+pub digits-are-decimal : (n w v : ℕ) → ((areDigits n w ≡ true) × (decimal n w ≡ v)) ↔ Spelled n w v
+digits-are-decimal n w v = (λ h. subst (Spelled n w) (h .1) (is-spelled n w (h .0)), back)
+  where
+    back : Spelled n w v → (areDigits n w ≡ true) × (decimal n w ≡ v)
+    back h =
+        let (ds, l, small, e, f) = h in
+        let (s, g) = spelled-is ds w small (rw l e) in
+        (rw (← l) s, rw (← l) (g ∙ sym f))
+
+-- ---- the Gregorian day
+
+-- The leap years before year y, from year 0 on, counted by division alone.
+abbrev pub leapsBefore : ℕ → ℕ
+leapsBefore y = (y + 3) / 4 - (y + 99) / 100 + (y + 399) / 400
+
+-- A year has 365 days, and one more for each leap year from it to the next.
+pub leap-years-counted : (y : ℕ) → y ≤ 9999 → daysOfYear y ≡ 365 + (leapsBefore (y + 1) - leapsBefore y)
+leap-years-counted y h =
+    eqb-true (daysOfYear y) (365 + (leapsBefore (y + 1) - leapsBefore y))
+    (all-at (λ (y : ℕ). eqb (daysOfYear y) (365 + (leapsBefore (y + 1) - leapsBefore y))) 0 10000 refl y (omega arith) (omega arith))
+
+-- ---- the record
+
+-- A number v written in n digits, with h above them, is read there.
+field-read-back : (n h v w : ℕ) → v < 10 ^ n → w ≡ h * 16 ^ n + bcd n v → (areDigits n w ≡ true) × (decimal n w ≡ v)
+field-read-back n h v w small e =
+    (rw (e, digits-above n h (bcd n v)) (digits-are-written n v), rw (e, decimal-above n h (bcd n v)) (digits-read-back n v small))
+
+-- Fields without a fault: each fits its digits, the words that they make fit, and each is read where it was written.
+module _ (f : Gps) (fine : gpsFault f ≡ 0) where
+  record Bounds : Type 0 where
+    year : f .year < 10000
+    day : f .day < 10000
+    status : f .status < 16
+    hour : f .hour < 100
+    minute : f .minute < 100
+    second : f .second < 100
+    tenths : f .tenths < 100000000
+
+  days-at-most : (b : Bool) → cond b 366 365 ≤ 366
+  days-at-most true = omega arith
+  days-at-most false = omega arith
+
+  bounds : Bounds
+  unfolding gpsFault
+  bounds =
+      let at = holds-at _ fine in
+      let d = and-eq-true-iff (leb 1 (f .day)) (leb (f .day) (daysOfYear (f .year))) .0 (at 1 (leb 1 (f .day) && leb (f .day) (daysOfYear (f .year))) 9 refl) in
+      record {
+        year = omega (arith, leb-true (f .year) 9999 (at 0 _ 9 refl));
+        day = omega (arith, leb-true (f .day) (daysOfYear (f .year)) (d .1), days-at-most (isLeap (f .year)));
+        status = omega (arith, leb-true (f .status) 15 (at 2 _ 9 refl));
+        hour = omega (arith, leb-true (f .hour) 23 (at 3 _ 9 refl));
+        minute = omega (arith, leb-true (f .minute) 59 (at 4 _ 9 refl));
+        second = omega (arith, leb-true (f .second) 59 (at 5 _ 9 refl));
+        tenths = omega (arith, leb-true (f .tenths) 9999999 (at 6 _ 9 refl));
+      }
+
+  fit : AllFit 4 (gpsWords f)
+  fit =
+      let y : bcd 4 (f .year) < 65536 = digits-fit 4 (f .year) in
+      let d : bcd 4 (f .day) < 65536 = digits-fit 4 (f .day) in
+      let h : bcd 2 (f .hour) < 256 = digits-fit 2 (f .hour) in
+      let m : bcd 2 (f .minute) < 256 = digits-fit 2 (f .minute) in
+      let s : bcd 2 (f .second) < 256 = digits-fit 2 (f .second) in
+      let t : bcd 8 (f .tenths) < 4294967296 = digits-fit 8 (f .tenths) in
+      let b = bounds in
+      (omega arith, (omega arith, (omega arith, tt)))
+
+  read-words : wordsAt order 4 3 0 (gpsBytes f) ≡ gpsWords f
+  unfolding gpsBytes
+  read-words = rw append-nil at (words-of-puts order 4 (gpsWords f) [] fit)
+
+  record Read : Type 0 where
+    year : (areDigits 4 (word 0 (gpsBytes f) / 65536) ≡ true) × (decimal 4 (word 0 (gpsBytes f) / 65536) ≡ f .year)
+    day : (areDigits 4 (word 0 (gpsBytes f)) ≡ true) × (decimal 4 (word 0 (gpsBytes f)) ≡ f .day)
+    status : (word 4 (gpsBytes f) / 16777216 % 16 ≡ 0) × (word 4 (gpsBytes f) / 268435456 ≡ f .status)
+    hour : (areDigits 2 (word 4 (gpsBytes f) / 65536) ≡ true) × (decimal 2 (word 4 (gpsBytes f) / 65536) ≡ f .hour)
+    minute : (areDigits 2 (word 4 (gpsBytes f) / 256) ≡ true) × (decimal 2 (word 4 (gpsBytes f) / 256) ≡ f .minute)
+    second : (areDigits 2 (word 4 (gpsBytes f)) ≡ true) × (decimal 2 (word 4 (gpsBytes f)) ≡ f .second)
+    tenths : (areDigits 8 (word 8 (gpsBytes f)) ≡ true) × (decimal 8 (word 8 (gpsBytes f)) ≡ f .tenths)
+
+  fields-read : Read
+  unfolding wordsAt
+  fields-read =
+      let b = bounds in
+      let d : bcd 4 (f .day) < 65536 = digits-fit 4 (f .day) in
+      let h : bcd 2 (f .hour) < 256 = digits-fit 2 (f .hour) in
+      let m : bcd 2 (f .minute) < 256 = digits-fit 2 (f .minute) in
+      let s : bcd 2 (f .second) < 256 = digits-fit 2 (f .second) in
+      let at : (j : ℕ) → getD (wordsAt order 4 3 0 (gpsBytes f)) j 0 ≡ getD (gpsWords f) j 0 = λ j. ap (λ (l : List ℕ). getD l j 0) read-words in
+      let w0 : word 0 (gpsBytes f) ≡ bcd 4 (f .year) * 65536 + bcd 4 (f .day) = at 0 in
+      let w1 : word 4 (gpsBytes f) ≡ f .status * 268435456 + bcd 2 (f .hour) * 65536 + bcd 2 (f .minute) * 256 + bcd 2 (f .second) = at 1 in
+      let w2 : word 8 (gpsBytes f) ≡ bcd 8 (f .tenths) = at 2 in
+      record {
+        year = field-read-back 4 0 (f .year) _ (b .year) (omega arith);
+        day = field-read-back 4 (bcd 4 (f .year)) (f .day) _ (b .day) w0;
+        status = omega arith;
+        hour = field-read-back 2 (f .status * 16) (f .hour) _ (b .hour) (omega arith);
+        minute = field-read-back 2 (f .status * 4096 + bcd 2 (f .hour)) (f .minute) _ (b .minute) (omega arith);
+        second = field-read-back 2 (f .status * 1048576 + bcd 2 (f .hour) * 256 + bcd 2 (f .minute)) (f .second) _ (b .second) (omega arith);
+        tenths = field-read-back 8 0 (f .tenths) _ (b .tenths) (omega arith);
+      }
+
+  fields-back : gpsOf (gpsBytes f) ≡ f
+  unfolding gpsOf
+  fields-back =
+      let r = fields-read in
+      λ i. record {
+        year = r .year .1 i;
+        day = r .day .1 i;
+        status = r .status .1 i;
+        hour = r .hour .1 i;
+        minute = r .minute .1 i;
+        second = r .second .1 i;
+        tenths = r .tenths .1 i;
+      }
+
+  rule-holds : gpsRule (gpsBytes f) ≡ 0
+  unfolding gpsRule gpsBytes first
+  rule-holds =
+      let r = fields-read in
+      let w : ℕ = word 4 (gpsBytes f) in
+      let q : w / 256 / 256 ≡ w / 65536 = omega arith in
+      let time : areDigits 6 w ≡ true =
+      digits-split 2 4 w .1 (r .second .0, digits-split 2 2 (w / 256) .1 (r .minute .0, rw q (r .hour .0))) in
+      rw (
+        eq-eqb (length (gpsBytes f)) 12 (length-puts order 4 (gpsWords f)),
+        digits-split 4 4 (word 0 (gpsBytes f)) .1 (r .day .0, r .year .0),
+        eq-eqb (w / 16777216 % 16) 0 (r .status .0),
+        time,
+        r .tenths .0,
+        fields-back,
+        fine,
+      )
+
+-- What a writer accepts is read back: its body passes the rule, and its fields are those that were written.
+pub gps-read-back : (f : Gps) → gpsFault f ≡ 0 → (gpsRule (gpsBytes f) ≡ 0) × (gpsOf (gpsBytes f) ≡ f)
+gps-read-back f fine = (rule-holds f fine, fields-back f fine)
+
+-- The second word from its parts, where its seventh digit is 0.
+parts-of-time : (w : ℕ) → w / 16777216 % 16 ≡ 0 → w / 268435456 * 268435456 + w / 65536 % 256 * 65536 + w / 256 % 256 * 256 + w % 256 ≡ w
+parts-of-time w e =
+    let a : w / 256 / 256 ≡ w / 65536 = omega arith in
+    let b : w / 65536 / 256 ≡ w / 16777216 = omega arith in
+    let c : w / 16777216 / 16 ≡ w / 268435456 = omega arith in
+    omega arith
+
+-- What the rule accepts is written again as it was.
+pub gps-restored : (b : List ℕ) → Bytes b → gpsRule b ≡ 0 → gpsBytes (gpsOf b) ≡ b
+unfolding gpsRule gpsOf gpsBytes wordsAt
+gps-restored b bytes fine =
+    let at = holds-at (gpsTests b) fine in
+    let size = eqb-true (length b) 12 (at 0 _ 5 refl) in
+    let d0 = digits-split 4 4 (word 0 b) .0 (at 1 _ 9 refl) in
+    let d1 = digits-split 2 4 (word 4 b) .0 (at 3 _ 9 refl) in
+    let d2 = digits-split 2 2 (word 4 b / 256) .0 (d1 .1) in
+    let free : word 4 b / 16777216 % 16 ≡ 0 = eqb-true (word 4 b / 16777216 % 16) 0 (at 2 _ 9 refl) in
+    let q : word 4 b / 256 / 256 ≡ word 4 b / 65536 = omega arith in
+    let f0 : word 0 b < 4294967296 = word-fits order 4 0 b bytes (omega arith) in
+    let f1 : word 4 b < 4294967296 = word-fits order 4 4 b bytes (omega arith) in
+    let f2 : word 8 b < 4294967296 = word-fits order 4 8 b bytes (omega arith) in
+    let year : bcd 4 (decimal 4 (word 0 b / 65536)) ≡ word 0 b / 65536 % 65536 = digits-restored 4 (word 0 b / 65536) (d0 .1) in
+    let day : bcd 4 (decimal 4 (word 0 b)) ≡ word 0 b % 65536 = digits-restored 4 (word 0 b) (d0 .0) in
+    let hour : bcd 2 (decimal 2 (word 4 b / 65536)) ≡ word 4 b / 65536 % 256 = digits-restored 2 (word 4 b / 65536) (rw q at d2 .1) in
+    let minute : bcd 2 (decimal 2 (word 4 b / 256)) ≡ word 4 b / 256 % 256 = digits-restored 2 (word 4 b / 256) (d2 .0) in
+    let second : bcd 2 (decimal 2 (word 4 b)) ≡ word 4 b % 256 = digits-restored 2 (word 4 b) (d1 .0) in
+    let tenths : bcd 8 (decimal 8 (word 8 b)) ≡ word 8 b % 4294967296 = digits-restored 8 (word 8 b) (at 4 _ 9 refl) in
+    let w0 : bcd 4 (gpsOf b .year) * 65536 + bcd 4 (gpsOf b .day) ≡ word 0 b = omega arith in
+    let w1 : gpsOf b .status * 268435456 + bcd 2 (gpsOf b .hour) * 65536 + bcd 2 (gpsOf b .minute) * 256 + bcd 2 (gpsOf b .second) ≡ word 4 b = rw (hour, minute, second) (parts-of-time (word 4 b) free) in
+    let w2 : bcd 8 (gpsOf b .tenths) ≡ word 8 b = omega arith in
+    ap words (λ i. w0 i ∷ w1 i ∷ w2 i ∷ []) ∙ puts-fill order 4 3 b bytes size
+
+-- Day 366 is none in the year 1900 and is one in 2000.
+pub century-years : (gpsRule (words (0x19000366 ∷ 0 ∷ 0 ∷ [])) ≡ 10) × (gpsRule (words (0x20000366 ∷ 0 ∷ 0 ∷ [])) ≡ 0)
+unfolding computing
+century-years = (refl, refl)

@@ -1,0 +1,233 @@
+-- The history: fields written and read back, and its rule said a second time, as two sections that fill the body.
+-- All of it from laws of one section at any place p of a body: what the rule says of it, written again, and read back.
+use mathlib.Core.Path.{_≡_, refl, sym, ap, ap₂, _∙_}
+use mathlib.Core.Logic.{_↔_, _⊎_, inl, inr, _≢_}
+use mathlib.Core.Bool.{Bool, true, false}
+use mathlib.Core.List.{List, [], _∷_, _++_, append-assoc, append-nil}
+use Prim.Native.Nat.{ℕ, zero, suc, _+_, _*_, _%_, _≤_, _<_}
+use native.Mathlib.Omega.{arith}
+use borrow.Author.Tests.{eqb-true, eqb-false, eq-eqb, ne-eqb, not-true}
+use lib.Dec.{eqb, eqb·suc-zero}
+use lib.ListN.{length, take, drop, getD, length-append, length-drop, take-append-drop, drop-of-length-le}
+use lib.Seq.{length-take-le, drop-drop, drop-at, take-at}
+use Rattle.theory.specs.Words.{Bytes, wordsAt}
+use Rattle.theory.proofs.TestLaws.{first-at, first-passes, holds-at, unless-holds, equal-passed, equal-passes, most-passed, most-passes}
+use Rattle.theory.proofs.WordLaws.{words-of-puts, puts-of-words, length-puts, word-past}
+use Rattle.note.specs.Words.{order, word, words, greatestSigned}
+use Rattle.note.specs.History.{Section, History, widthAt, widthOf, after, triggerAt, sectionOf, historyOf, sectionBytes, historyBytes, isWidth, sectionRule, historyRule, sectionFault, historyFault}
+
+-- ---- a section without a fault
+
+-- "nvt is 0 exactly when nvw is 0 .. ntw is 6 when ntt is positive, and 0 when ntt is 0."
+abbrev Width : Bool → ℕ → ℕ → Type 0
+Width false times width = (times ≡ 0) ↔ (width ≡ 0)
+Width true times width = ((times ≡ 0) × (width ≡ 0)) ⊎ ((0 < times) × (width ≡ 6))
+
+width-means : (trigger : Bool) (t w : ℕ) → isWidth trigger t w ≡ true → Width trigger t w
+unfolding isWidth
+width-means false zero w e = (λ z. eqb-true w 0 e, λ z. refl)
+width-means false (suc t) w e = let h : w ≢ 0 = eqb-false w 0 (not-true (eqb w 0) (rw (eqb·suc-zero t) at e)) in (λ z. absurd (omega arith), λ z. absurd (h z))
+width-means true zero w e = inl (refl, eqb-true w 0 e)
+width-means true (suc t) w e = inr (omega arith, eqb-true w 6 (rw (eqb·suc-zero t) at e))
+
+means-width : (trigger : Bool) (t w : ℕ) → Width trigger t w → isWidth trigger t w ≡ true
+unfolding isWidth
+means-width false zero w h = eq-eqb w 0 (h .0 refl)
+means-width false (suc t) w h = rw (eqb·suc-zero t, ne-eqb w 0 (λ z. let z′ : suc t ≡ 0 = h .1 z in omega arith))
+means-width true zero w (inl h) = eq-eqb w 0 (h .1)
+means-width true zero w (inr h) = absurd (omega arith)
+means-width true (suc t) w (inl h) = absurd (omega arith)
+means-width true (suc t) w (inr h) = rw (eqb·suc-zero t) (eq-eqb w 6 (h .1))
+
+record Whole (trigger : Bool) (s : Section) : Type 0 where
+  count : s .count ≤ greatestSigned
+  times : length (s .times) ≡ 4 * s .count
+  width : s .width ≤ greatestSigned
+  widths : Width trigger (s .count) (s .width)
+  masks : length (s .masks) ≡ 4 * (s .count * s .width)
+
+module _ (trigger : Bool) (s : Section) where
+  fault-whole : sectionFault trigger s ≡ 0 → Whole trigger s
+  unfolding sectionFault
+  fault-whole e = record {
+    count = most-passed (s .count) greatestSigned 9 (first-at _ e 0);
+    times = equal-passed (length (s .times)) (4 * s .count) 5 (first-at _ e 1);
+    width = most-passed (s .width) greatestSigned 9 (first-at _ e 2);
+    widths = width-means trigger (s .count) (s .width) (holds-at _ e 3 (isWidth trigger (s .count) (s .width)) 9 refl);
+    masks = equal-passed (length (s .masks)) (4 * (s .count * s .width)) 5 (first-at _ e 4);
+  }
+
+  whole-fault : Whole trigger s → sectionFault trigger s ≡ 0
+  unfolding sectionFault
+  whole-fault h =
+      let widths = unless-holds _ 10 (means-width trigger (s .count) (s .width) (h .widths)) in
+      first-passes _ (most-passes 10 (h .count), (equal-passes 6 (h .times), (most-passes 10 (h .width), (widths, (equal-passes 6 (h .masks), tt)))))
+
+-- ---- a section at place p of a body
+
+-- The rule at p is the rule of the section read there, where its masks end within the body.
+module _ (trigger : Bool) (p : ℕ) (b : List ℕ) (room : after p b ≤ length b) where
+  rule-whole : sectionRule trigger p b ≡ 0 → Whole trigger (sectionOf p b)
+  unfolding sectionRule sectionOf after widthAt
+  rule-whole e =
+      let l : (n q : ℕ) → q + n ≤ length b → length (take n (drop q b)) ≡ n =
+      λ n q h. length-take-le n (drop q b) (omega (arith, length-drop q b)) in
+      record {
+        count = most-passed (word p b) greatestSigned 9 (first-at _ e 1);
+        times = l (4 * word p b) (p + 4) (omega arith);
+        width = most-passed (widthOf p b) greatestSigned 9 (first-at _ e 3);
+        widths = width-means trigger (word p b) (widthOf p b) (holds-at _ e 4 (isWidth trigger (word p b) (widthOf p b)) 9 refl);
+        masks = l (4 * (word p b * widthOf p b)) (p + 4 + 4 * word p b + 4) (omega arith);
+      }
+
+  whole-rule : Whole trigger (sectionOf p b) → sectionRule trigger p b ≡ 0
+  unfolding sectionRule sectionOf after widthAt
+  whole-rule h =
+      let counted : p + 4 ≤ length b = omega arith in
+      let wide : p + 4 + 4 * word p b + 4 ≤ length b = omega arith in
+      let widths = unless-holds _ 10 (means-width trigger (word p b) (widthOf p b) (h .widths)) in
+      first-passes _ (most-passes 6 counted, (most-passes 10 (h .count), (most-passes 6 wide, (most-passes 10 (h .width), (widths, tt)))))
+
+-- Written again it restores its bytes.
+section-restored : (p : ℕ) (b : List ℕ) → after p b ≤ length b → Bytes b → sectionBytes (sectionOf p b) ++ drop (after p b) b ≡ drop p b
+unfolding sectionBytes sectionOf after widthOf widthAt wordsAt
+section-restored p b room h =
+    let one : (q : ℕ) → q + 4 ≤ length b → words (word q b ∷ []) ++ drop (q + 4) b ≡ drop q b = λ q l. puts-of-words order 4 1 q b h l in
+    let part : (q n : ℕ) → take n (drop q b) ++ drop (q + n) b ≡ drop q b =
+    λ q n. ap (λ (r : List ℕ). take n (drop q b) ++ r) (sym (drop-drop n q b)) ∙ take-append-drop n (drop q b) in
+    let w : ℕ = p + 4 + 4 * word p b in
+    simp (append-assoc, part (w + 4) (4 * (word p b * word w b)), one w (omega arith), part (p + 4) (4 * word p b)) (one p (omega arith))
+
+-- What stands behind a part of that length is read there: a word, and a list.
+module _ (b pre rest : List ℕ) (p : ℕ) (l : length pre ≡ p) where
+  word-behind : (n : ℕ) → n ≤ greatestSigned → b ≡ pre ++ (words (n ∷ []) ++ rest) → word p b ≡ n
+  unfolding wordsAt
+  word-behind n f e =
+      let q : p ≡ length pre + 0 = omega arith in
+      ap₂ word q e ∙ word-past order 4 0 pre (words (n ∷ []) ++ rest) ∙ ap (λ (ns : List ℕ). getD ns 0 0) (words-of-puts order 4 (n ∷ []) rest (omega arith))
+
+  part-behind : (x : List ℕ) (n : ℕ) → length x ≡ n → b ≡ pre ++ (x ++ rest) → take n (drop p b) ≡ x
+  part-behind x n k e = ap (λ (r : List ℕ). take n (drop p r)) e ∙ ap (take n) (drop-at pre (x ++ rest) p l) ∙ take-at x rest n k
+
+-- Read back it is the same.
+module _ (trigger : Bool) (s : Section) (h : Whole trigger s) where
+  section-size : length (sectionBytes s) ≡ 8 + 4 * s .count + 4 * (s .count * s .width)
+  unfolding sectionBytes
+  section-size = simp length-append (omega (arith, length-puts order 4 (s .count ∷ []), length-puts order 4 (s .width ∷ [])))
+
+  module _ (p : ℕ) (b pre rest : List ℕ) (l : length pre ≡ p) (e : b ≡ pre ++ (sectionBytes s ++ rest)) where
+    section-read : (sectionOf p b ≡ s) × (after p b ≡ p + length (sectionBytes s))
+    unfolding sectionBytes sectionOf after widthOf widthAt
+    section-read =
+        let c : List ℕ = words (s .count ∷ []) in
+        let w : List ℕ = words (s .width ∷ []) in
+        let t : List ℕ = s .times in
+        let m : List ℕ = s .masks in
+        let flat : b ≡ pre ++ (c ++ (t ++ (w ++ (m ++ rest)))) = e ∙ simp append-assoc in
+        let lc : length c ≡ 4 = length-puts order 4 (s .count ∷ []) in
+        let lw : length w ≡ 4 = length-puts order 4 (s .width ∷ []) in
+        let at : ℕ = p + 4 + 4 * s .count in
+        let count : word p b ≡ s .count = word-behind b pre (t ++ (w ++ (m ++ rest))) p l (s .count) (h .count) flat in
+        let times : take (4 * s .count) (drop (p + 4) b) ≡ t =
+        part-behind b (pre ++ c) (w ++ (m ++ rest)) (p + 4) (simp length-append (omega arith)) t (4 * s .count) (h .times) (flat ∙ sym (simp append-assoc)) in
+        let width : word at b ≡ s .width =
+        word-behind b (pre ++ (c ++ t)) (m ++ rest) at (simp length-append (omega arith)) (s .width) (h .width) (flat ∙ sym (simp append-assoc)) in
+        let masks : take (4 * (s .count * s .width)) (drop (at + 4) b) ≡ m =
+        part-behind b (pre ++ (c ++ (t ++ w))) rest (at + 4) (simp length-append (omega arith)) m (4 * (s .count * s .width)) (h .masks) (flat ∙ sym (simp append-assoc)) in
+        rw (count, width) (λ i. record { count = s .count; times = times i; width = s .width; masks = masks i }, omega (arith, section-size))
+
+-- ---- the whole body
+
+after-past : (p : ℕ) (b : List ℕ) → p ≤ after p b
+unfolding after widthAt
+after-past p b = omega arith
+
+-- In an accepted body both sections have room, and the second ends with the body.
+history-ends : (b : List ℕ) → historyRule b ≡ 0 → (triggerAt b ≤ length b) × (length b ≡ after (triggerAt b) b)
+unfolding historyRule
+history-ends b e =
+    let end : length b ≡ after (triggerAt b) b = equal-passed (length b) (after (triggerAt b) b) 5 (first-at _ e 4) in
+    (omega (arith, after-past (triggerAt b) b), end)
+
+pub history-restored : (b : List ℕ) → Bytes b → historyRule b ≡ 0 → historyBytes (historyOf b) ≡ b
+unfolding historyBytes historyOf
+history-restored b h e =
+    let (first, end) = history-ends b e in
+    let past : length b ≤ after (triggerAt b) b = omega arith in
+    let second : sectionBytes (sectionOf (triggerAt b) b) ++ [] ≡ drop (triggerAt b) b =
+    rw (← drop-of-length-le b past) (section-restored (triggerAt b) b (omega arith) h) in
+    ap (λ (r : List ℕ). sectionBytes (sectionOf 0 b) ++ r) (sym (append-nil _) ∙ second) ∙ section-restored 0 b first h
+
+pub history-read-back : (f : History) → historyFault f ≡ 0 → (historyRule (historyBytes f) ≡ 0) × (historyOf (historyBytes f) ≡ f)
+unfolding historyFault historyRule historyBytes historyOf
+history-read-back f e =
+    let b : List ℕ = historyBytes f in
+    let v : Whole false (f .veto) = fault-whole false (f .veto) (first-at _ e 0) in
+    let t : Whole true (f .trigger) = fault-whole true (f .trigger) (first-at _ e 1) in
+    let veto = section-read false (f .veto) v 0 b [] (sectionBytes (f .trigger)) refl refl in
+    let at : length (sectionBytes (f .veto)) ≡ triggerAt b = omega arith in
+    let trigger = section-read true (f .trigger) t (triggerAt b) b (sectionBytes (f .veto)) [] at (ap (λ (r : List ℕ). sectionBytes (f .veto) ++ r) (sym (append-nil (sectionBytes (f .trigger))))) in
+    let size : length b ≡ length (sectionBytes (f .veto)) + length (sectionBytes (f .trigger)) = length-append (sectionBytes (f .veto)) (sectionBytes (f .trigger)) in
+    let sv = section-size false (f .veto) v in
+    let st = section-size true (f .trigger) t in
+    let least : 16 ≤ length b = omega arith in
+    let fours : length b % 4 ≡ 0 = omega arith in
+    let end : length b ≡ after (triggerAt b) b = omega arith in
+    let first : sectionRule false 0 b ≡ 0 = whole-rule false 0 b (omega arith) (rw (veto .0) v) in
+    let second : sectionRule true (triggerAt b) b ≡ 0 = whole-rule true (triggerAt b) b (omega arith) (rw (trigger .0) t) in
+    (first-passes _ (most-passes 6 least, (equal-passes 6 fours, (first, (second, (equal-passes 6 end, tt))))), λ i. record { veto = veto .0 i; trigger = trigger .0 i })
+
+-- ---- the rule said a second time
+
+-- A body that is a veto section and a trigger section and nothing else.
+pub record Fills (b : List ℕ) : Type 0 where
+  pub nvt : ℕ
+  pub nvw : ℕ
+  pub ntt : ℕ
+  pub ntw : ℕ
+  pub vetoTimes : List ℕ
+  pub vetoMasks : List ℕ
+  pub triggerTimes : List ℕ
+  pub triggerMasks : List ℕ
+  pub filled : b ≡ words (nvt ∷ []) ++ (vetoTimes ++ (words (nvw ∷ []) ++ (vetoMasks
+      ++ (words (ntt ∷ []) ++ (triggerTimes ++ (words (ntw ∷ []) ++ triggerMasks))))))
+  pub lengths : (length vetoTimes ≡ 4 * nvt) × (length vetoMasks ≡ 4 * (nvt * nvw)) × (length triggerTimes ≡ 4 * ntt) × (length triggerMasks ≡ 4 * (ntt * ntw))
+  pub counts : (nvt ≤ 0x7FFFFFFF) × (nvw ≤ 0x7FFFFFFF) × (ntt ≤ 0x7FFFFFFF) × (ntw ≤ 0x7FFFFFFF)
+  pub missing : (nvt ≡ 0) ↔ (nvw ≡ 0)
+  pub six : ((ntt ≡ 0) × (ntw ≡ 0)) ⊎ ((0 < ntt) × (ntw ≡ 6))
+
+accepted-fills : (b : List ℕ) → Bytes b → historyRule b ≡ 0 → Fills b
+unfolding historyRule historyBytes historyOf sectionBytes
+accepted-fills b h e =
+    let (room, end) = history-ends b e in
+    let v : Whole false (sectionOf 0 b) = rule-whole false 0 b room (first-at _ e 2) in
+    let t : Whole true (sectionOf (triggerAt b) b) = rule-whole true (triggerAt b) b (omega arith) (first-at _ e 3) in
+    record {
+      nvt = sectionOf 0 b .count;
+      nvw = sectionOf 0 b .width;
+      ntt = sectionOf (triggerAt b) b .count;
+      ntw = sectionOf (triggerAt b) b .width;
+      vetoTimes = sectionOf 0 b .times;
+      vetoMasks = sectionOf 0 b .masks;
+      triggerTimes = sectionOf (triggerAt b) b .times;
+      triggerMasks = sectionOf (triggerAt b) b .masks;
+      filled = sym (history-restored b h e) ∙ simp append-assoc;
+      lengths = (v .times, v .masks, t .times, t .masks);
+      counts = (v .count, v .width, t .count, t .width);
+      missing = v .widths;
+      six = t .widths;
+    }
+
+fills-accepted : (b : List ℕ) → Fills b → historyRule b ≡ 0
+unfolding historyFault historyBytes sectionBytes
+fills-accepted b f =
+    let veto : Section = record { count = f .nvt; times = f .vetoTimes; width = f .nvw; masks = f .vetoMasks } in
+    let trigger : Section = record { count = f .ntt; times = f .triggerTimes; width = f .ntw; masks = f .triggerMasks } in
+    let v : Whole false veto = record { count = f .counts .0; times = f .lengths .0; width = f .counts .1; widths = f .missing; masks = f .lengths .1 } in
+    let t : Whole true trigger = record { count = f .counts .2; times = f .lengths .2; width = f .counts .3; widths = f .six; masks = f .lengths .3 } in
+    let g : History = record { veto = veto; trigger = trigger } in
+    let same : historyBytes g ≡ b = simp append-assoc (sym (f .filled)) in
+    rw same at (history-read-back g (first-passes _ (whole-fault false veto v, (whole-fault true trigger t, tt))) .0)
+
+pub history-fills : (b : List ℕ) → Bytes b → (historyRule b ≡ 0) ↔ Fills b
+history-fills b h = (accepted-fills b h, fills-accepted b)

@@ -1,0 +1,37 @@
+-- Signed words: a word read as signed and written again is the same word, a signed number written and read is the same number.
+-- Of single words from the toolchain's laws of two's complement; then of lists, word by word.
+use mathlib.Core.Path.{_≡_, refl, ap₂}
+use mathlib.Core.List.{List, [], _∷_, map}
+use Prim.Native.Nat.{ℕ}
+use lib.IntN.{ℤ}
+use mir.Val.{SFits}
+use mir.Syntax.{w32}
+use mir.Facts.{toZ-ofZ, ofZ-toZ, fits-ofZ}
+use Rattle.theory.specs.Words.{Fits, AllFit}
+use Rattle.note.specs.Words.{signed, unsigned}
+
+pub signed-again : (w : ℕ) → Fits 4 w → unsigned (signed w) ≡ w
+signed-again w h = ofZ-toZ {w = w32} (record { fits = h })
+
+pub unsigned-again : (z : ℤ) → SFits w32 z → signed (unsigned z) ≡ z
+unsigned-again z h = toZ-ofZ h
+
+pub unsigned-fits : (z : ℤ) → SFits w32 z → Fits 4 (unsigned z)
+unsigned-fits z h = fits-ofZ h .fits
+
+-- Every number fits a signed word.
+abbrev pub AllSigned : List ℤ → Type 0
+AllSigned [] = Unit {0}
+AllSigned (z ∷ zs) = SFits w32 z × AllSigned zs
+
+pub all-signed-again : (ws : List ℕ) → AllFit 4 ws → map unsigned (map signed ws) ≡ ws
+all-signed-again [] h = refl
+all-signed-again (w ∷ ws) h = ap₂ (λ (x : ℕ) (xs : List ℕ). x ∷ xs) (signed-again w (h .0)) (all-signed-again ws (h .1))
+
+pub all-unsigned-again : (zs : List ℤ) → AllSigned zs → map signed (map unsigned zs) ≡ zs
+all-unsigned-again [] h = refl
+all-unsigned-again (z ∷ zs) h = ap₂ (λ (x : ℤ) (xs : List ℤ). x ∷ xs) (unsigned-again z (h .0)) (all-unsigned-again zs (h .1))
+
+pub all-unsigned-fit : (zs : List ℤ) → AllSigned zs → AllFit 4 (map unsigned zs)
+all-unsigned-fit [] h = tt
+all-unsigned-fit (z ∷ zs) h = (unsigned-fits z (h .0), all-unsigned-fit zs (h .1))

@@ -1,0 +1,173 @@
+-- The trace: its fields written and read back, its rule blind to the samples, and its samples one by one. The idea: its first twelve
+-- words are known as one list, the samples are the bytes that follow, and a sample is a word of two bytes.
+use mathlib.Core.Path.{_≡_, refl, sym, ap, ap₂, _∙_}
+use mathlib.Core.Logic.{_⊎_, inl, inr, _≢_}
+use mathlib.Core.Bool.{Bool, true, false, cond}
+use mathlib.Core.List.{List, _++_}
+use Prim.Native.Nat.{ℕ, _+_, _-_, _*_, _/_, _%_, _≤_, _<_}
+use native.Mathlib.Omega.{arith}
+use native.Mathlib.Decide.{decLt}
+use borrow.Author.Tests.{eqb-true, eqb-false}
+use lib.Dec.{eqb}
+use lib.ListN.{length, drop, set, getD, length-append, length-set}
+use lib.Seq.{drop-at}
+use lib.IntN.{ℤ}
+use mir.Val.{SFits}
+use mir.Syntax.{w32}
+use Rattle.theory.specs.declared.Order.the-variants.{Little}
+use Rattle.theory.specs.Words.{Bytes, Fits, wordAt, wordsAt}
+use Rattle.theory.proofs.TestLaws.{first-at, first-passes, equal-passed, equal-passes, most-passed, most-passes}
+use Rattle.theory.proofs.WordLaws.{words-of-puts, puts-of-words, length-puts, word-fits, word-set-other, word-set-here, words-set-behind, word-low, word-high, Bytes-set}
+use Rattle.note.specs.Words.{order, word, words, signed, unsigned}
+use Rattle.note.specs.Trace.{Trace, traceOf, traceWords, traceBytes, channelFault, codeFault, deltaFault, countFault, bookkeepingRule, timebaseRule, samplesRule, traceRule, traceFault, sampleIn, traceKind}
+use Rattle.note.proofs.SignedLaws.{signed-again, unsigned-again, unsigned-fits}
+use Rattle.note.proofs.FieldLaws.{read}
+
+-- ---- an accepted body
+
+-- What the rule says of a body that it accepts: the fixed words, the number of samples and the length.
+pub record AcceptedTrace (b : List ℕ) : Type 0 where
+  pub bookkeeping : word 0 b ≡ 0x11
+  pub first-size : word 4 b ≡ 12
+  pub timebase : word 20 b ≡ 0x12
+  pub second-size : word 24 b ≡ 12
+  pub again : word 36 b ≡ word 44 b
+  pub samples : word 40 b ≡ 0x13
+  pub even : word 44 b % 2 ≡ 0
+  pub fewest : 2 ≤ word 44 b
+  pub most : word 44 b ≤ 32768
+  pub size : length b ≡ 48 + 2 * word 44 b
+
+pub trace-accepted : (b : List ℕ) → traceRule b ≡ 0 → AcceptedTrace b
+unfolding traceRule bookkeepingRule timebaseRule samplesRule countFault
+trace-accepted b e = record {
+  bookkeeping = equal-passed (word 0 b) 0x11 4 (first-at _ (first-at _ e 1) 0);
+  first-size = equal-passed (word 4 b) 12 5 (first-at _ (first-at _ e 1) 1);
+  timebase = equal-passed (word 20 b) 0x12 4 (first-at _ (first-at _ e 2) 0);
+  second-size = equal-passed (word 24 b) 12 5 (first-at _ (first-at _ e 2) 1);
+  again = equal-passed (word 36 b) (word 44 b) 10 (first-at _ (first-at _ e 3) 2);
+  samples = equal-passed (word 40 b) 0x13 4 (first-at _ (first-at _ e 3) 0);
+  even = equal-passed (word 44 b % 2) 0 10 (first-at _ (first-at _ (first-at _ e 3) 1) 0);
+  fewest = most-passed 2 (word 44 b) 10 (first-at _ (first-at _ (first-at _ e 3) 1) 1);
+  most = most-passed (word 44 b) 32768 10 (first-at _ (first-at _ (first-at _ e 3) 1) 2);
+  size = equal-passed (length b) (48 + 2 * word 44 b) 5 (first-at _ e 4);
+}
+
+pub trace-restored : (b : List ℕ) → Bytes b → traceRule b ≡ 0 → traceBytes (traceOf b) ≡ b
+unfolding traceBytes traceOf wordsAt
+trace-restored b h e =
+    let a : AcceptedTrace b = trace-accepted b e in
+    let s : unsigned (signed (word 28 b)) ≡ word 28 b = signed-again (word 28 b) (word-fits order 4 28 b h (omega arith)) in
+    let same : traceWords (traceOf b) ≡ read 12 b = rw (a .bookkeeping, a .first-size, a .timebase, a .second-size, a .again, a .samples, s) in
+    ap (λ (ns : List ℕ). words ns ++ drop 48 b) same ∙ puts-of-words order 4 12 0 b h (omega arith)
+
+pub trace-length : (b : List ℕ) → traceRule b ≡ 0 → (length b ≡ 48 + 2 * word 44 b) × (word 44 b % 2 ≡ 0) × (2 ≤ word 44 b) × (word 44 b ≤ 32768)
+trace-length b e = let a : AcceptedTrace b = trace-accepted b e in (a .size, a .even, a .fewest, a .most)
+
+-- ---- fields written and read back
+
+-- The fields fit their words.
+pub record TraceFits (f : Trace) : Type 0 where
+  pub address : Fits 4 (f .address)
+  pub channel : Fits 4 (f .channel)
+  pub code : Fits 4 (f .code)
+  pub t0 : SFits w32 (f .t0)
+  pub delta : Fits 4 (f .delta)
+  pub n : Fits 4 (f .n)
+
+abbrev fields : List ℕ → ℤ → List ℕ → Trace
+fields ns t ss = record { address = getD ns 2 0; channel = getD ns 3 0; code = getD ns 4 0; t0 = t; delta = getD ns 8 0; n = getD ns 11 0; samples = ss }
+
+module _ (f : Trace) (h : TraceFits f) where
+  twelve-read : read 12 (traceBytes f) ≡ traceWords f
+  unfolding traceBytes
+  twelve-read =
+      let t : Fits 4 (unsigned (f .t0)) = unsigned-fits (f .t0) (h .t0) in
+      words-of-puts order 4 (traceWords f) (f .samples) (omega arith)
+
+  samples-read : drop 48 (traceBytes f) ≡ f .samples
+  unfolding traceBytes
+  samples-read = drop-at (words (traceWords f)) (f .samples) 48 (length-puts order 4 (traceWords f))
+
+  trace-size : length (traceBytes f) ≡ 48 + length (f .samples)
+  unfolding traceBytes
+  trace-size = omega (arith, length-append (words (traceWords f)) (f .samples), length-puts order 4 (traceWords f))
+
+  fields-read : traceOf (traceBytes f) ≡ f
+  unfolding traceOf wordsAt
+  fields-read =
+      ap₂ (λ (ns ss : List ℕ). fields ns (signed (getD ns 7 0)) ss) twelve-read samples-read
+      ∙ ap (λ (t : ℤ). fields (traceWords f) t (f .samples)) (unsigned-again (f .t0) (h .t0))
+
+  pub trace-read-back : traceFault f ≡ 0 → (traceRule (traceBytes f) ≡ 0) × (traceOf (traceBytes f) ≡ f)
+  unfolding traceFault traceRule bookkeepingRule timebaseRule samplesRule wordsAt
+  trace-read-back e =
+      let at : (j : ℕ) → getD (read 12 (traceBytes f)) j 0 ≡ getD (traceWords f) j 0 = λ j. ap (λ (ns : List ℕ). getD ns j 0) twelve-read in
+      let s : length (f .samples) ≡ 2 * f .n = equal-passed (length (f .samples)) (2 * f .n) 5 (first-at _ e 4) in
+      let books : bookkeepingRule (traceBytes f) ≡ 0 =
+      first-passes _ (equal-passes 5 (at 0), (equal-passes 6 (at 1), (ap channelFault (at 3) ∙ first-at _ e 0, (ap codeFault (at 4) ∙ first-at _ e 1, tt)))) in
+      let base : timebaseRule (traceBytes f) ≡ 0 =
+      first-passes _ (equal-passes 5 (at 5), (equal-passes 6 (at 6), (ap deltaFault (at 8) ∙ first-at _ e 2, tt))) in
+      let counted : samplesRule (traceBytes f) ≡ 0 =
+      first-passes _ (equal-passes 5 (at 10), (ap countFault (at 11) ∙ first-at _ e 3, (equal-passes 11 (at 9 ∙ sym (at 11)), tt))) in
+      let room : 48 ≤ length (traceBytes f) = omega (arith, trace-size) in
+      let whole : length (traceBytes f) ≡ 48 + 2 * word 44 (traceBytes f) = omega (arith, trace-size, at 11) in
+      (first-passes _ (most-passes 6 room, (books, (base, (counted, (equal-passes 6 whole, tt))))), fields-read)
+
+-- ---- a byte of the samples is changed
+
+module _ (b : List ℕ) (i v : ℕ) (h : 48 ≤ i) where
+  -- Word j of the twelve is as before.
+  stays : (j : ℕ) → getD (read 12 (set b i v)) j 0 ≡ getD (read 12 b) j 0
+  stays j = ap (λ (ns : List ℕ). getD ns j 0) (words-set-behind order 4 12 0 b i v h)
+
+  pub trace-blind : traceRule (set b i v) ≡ traceRule b
+  unfolding traceRule bookkeepingRule timebaseRule samplesRule wordsAt
+  trace-blind = rw (length-set b i v, stays 0, stays 1, stays 3, stays 4, stays 5, stays 6, stays 8, stays 9, stays 10, stays 11)
+
+  pub trace-row-blind : (traceKind .one (set b i v) ≡ traceKind .one b) × (traceKind .two (set b i v) ≡ traceKind .two b)
+  unfolding wordsAt
+  trace-row-blind = (stays 4, stays 11)
+
+  pub trace-values-blind : (place : ℕ) → traceKind .values place (set b i v) ≡ traceKind .values place b
+  unfolding traceOf wordsAt
+  trace-values-blind place = rw (stays 2, stays 3, stays 4, stays 7, stays 8, stays 11)
+
+-- ---- samples
+
+module _ (part : List ℕ) (n : ℕ) (h : Bytes part) (l : length part ≡ 2 * n) (even : n % 2 ≡ 0) where
+  -- A sample is a word of two bytes.
+  pub sample-is-half : (k : ℕ) → 1 ≤ k → k ≤ n → sampleIn part k ≡ wordAt Little 2 (2 * (k - 1)) part
+  unfolding sampleIn
+  sample-is-half k lo hi = go (eqb (k % 2) 1) refl
+    where
+      p : ℕ
+      p = 4 * ((k - 1) / 2)
+
+      go : (t : Bool) → eqb (k % 2) 1 ≡ t → cond t (word p part % 65536) (word p part / 65536) ≡ wordAt Little 2 (2 * (k - 1)) part
+      go true e =
+          let odd : k % 2 ≡ 1 = eqb-true (k % 2) 1 e in
+          let q : p ≡ 2 * (k - 1) = omega arith in
+          word-low 2 2 p part h (omega arith) ∙ ap (λ (i : ℕ). wordAt Little 2 i part) q
+      go false e =
+          let odd : k % 2 ≢ 1 = eqb-false (k % 2) 1 e in
+          let q : p + 2 ≡ 2 * (k - 1) = omega arith in
+          word-high 2 2 p part h (omega arith) ∙ ap (λ (i : ℕ). wordAt Little 2 i part) q
+
+-- A byte of the samples is changed: its sample changes, every other sample stays.
+module _ (part : List ℕ) (n : ℕ) (h : Bytes part) (l : length part ≡ 2 * n) (even : n % 2 ≡ 0) (i v : ℕ) (b : v < 256) where
+  half : (k : ℕ) → 1 ≤ k → k ≤ n → sampleIn (set part i v) k ≡ wordAt Little 2 (2 * (k - 1)) (set part i v)
+  half = sample-is-half (set part i v) n (Bytes-set part i v b h) (length-set part i v ∙ l) even
+
+  pub sample-changed : i < length part → v ≢ getD part i 0 → sampleIn (set part i v) (i / 2 + 1) ≢ sampleIn part (i / 2 + 1)
+  sample-changed r d e =
+      let lo : 1 ≤ i / 2 + 1 = omega arith in
+      let hi : i / 2 + 1 ≤ n = omega arith in
+      word-set-here Little 2 (2 * (i / 2 + 1 - 1)) part i v h b (omega arith) (omega arith) (omega arith) d
+      (sym (half (i / 2 + 1) lo hi) ∙ e ∙ sample-is-half part n h l even (i / 2 + 1) lo hi)
+
+  pub sample-stays : (k : ℕ) → 1 ≤ k → k ≤ n → k ≢ i / 2 + 1 → sampleIn (set part i v) k ≡ sampleIn part k
+  sample-stays k lo hi d = half k lo hi ∙ word-set-other Little 2 (2 * (k - 1)) part i v away ∙ sym (sample-is-half part n h l even k lo hi)
+    where
+      away : (i < 2 * (k - 1)) ⊎ (2 * (k - 1) + 2 ≤ i)
+      away = elim (decLt i (2 * (k - 1))) [ yes a ↦ inl a | no a ↦ inr (omega arith) ]
