@@ -5,6 +5,7 @@ use mathlib.Core.Logic.{_↔_, _⊎_, inl, inr, ⊎-elim, Iff·trans, Iff·and}
 use mathlib.Core.Bool.{Bool, true, false, _&&_, _||_, false≢true, and-eq-true-iff}
 use mathlib.Core.List.{List, [], _∷_}
 use Prim.Native.Nat.{ℕ, _≤_}
+use native.Mathlib.Omega.{arith}
 use lib.Dec.{leb, eqb}
 use borrow.Author.Tests.{leb-true, le-leb, eqb-true, eq-eqb}
 use Rattle.theory.specs.Tests.{among}
@@ -37,3 +38,13 @@ OneOf (x ∷ xs) n = (n ≡ x) ⊎ OneOf xs n
 pub among-tells : (xs : List ℕ) (n : ℕ) → Tells (among n xs) (OneOf xs n)
 among-tells [] n = (λ e. absurd (false≢true e), λ h. absurd h)
 among-tells (x ∷ xs) n = either-tells (eq-tells n x) (among-tells xs n)
+
+-- Each of these numbers is at most m, so what is one of them is.
+abbrev pub upTo : ℕ → List ℕ → Bool
+upTo m [] = true
+upTo m (x ∷ xs) = leb x m && upTo m xs
+
+pub one-up-to : (m : ℕ) (xs : List ℕ) (n : ℕ) → upTo m xs ≡ true → OneOf xs n → n ≤ m
+one-up-to m [] n t h = absurd h
+one-up-to m (x ∷ xs) n t (inl e) = let l = leb-true x m (and-eq-true-iff (leb x m) (upTo m xs) .0 t .0) in omega arith
+one-up-to m (x ∷ xs) n t (inr h) = one-up-to m xs n (and-eq-true-iff (leb x m) (upTo m xs) .0 t .1) h

@@ -1,20 +1,20 @@
 -- The laws of the channel lists: code to names to code, name to code to name, and a channel code said a second time, without names.
 -- The idea: every type from 12 on has an empty list, so a fact about all lists is a test that antt computes at the types 0 to 11.
-use Prim.Native.Nat.{ℕ, zero, suc, _+_, _-_, _*_, _/_, _%_, _≤_, _<_}
-use mathlib.Core.Path.{_≡_, refl, sym, ap, _∙_, subst}
-use mathlib.Core.Logic.{_↔_, _⊎_, inl, inr, ⊎-elim, _≢_, by-cases}
-use mathlib.Core.Bool.{Bool, true, false, Bool·beq, not, cond, _&&_, _||_, false≢true, and-eq-true-iff}
+use Prim.Native.Nat.{ℕ, _+_, _-_, _*_, _/_, _≤_, _<_}
+use mathlib.Core.Path.{_≡_, refl, sym, _∙_, subst}
+use mathlib.Core.Logic.{_↔_, _⊎_, inl, inr, ⊎-elim, by-cases}
+use mathlib.Core.Bool.{Bool, true, false, Bool·beq, cond, _&&_, _||_, false≢true, and-eq-true-iff}
 use mathlib.Core.List.{List, [], _∷_, map}
 use mathlib.Core.Option.{Option, some, none}
 use native.Mathlib.Omega.{arith}
-use native.Mathlib.Decide.{decLt}
+use native.Mathlib.Decide.{decLe}
 use lib.Dec.{leb, eqb}
 use lib.ListN.{length, getD}
-use borrow.Author.Tests.{leb-true, le-leb, eqb-true, eq-eqb, ne-eqb}
+use borrow.Author.Tests.{leb-true, le-leb, eqb-true, ne-eqb}
 use Rattle.theory.specs.Tests.{among}
-use Rattle.note.specs.Answers.{Given, accepted, refused, counts}
+use Rattle.note.specs.Answers.{accepted, refused, counts}
 use Rattle.note.specs.Channels.{ascii, Channel, channelsOf, pick, same, typeOf, detectorOf, channelNumber, codeFrom, numbered, called, channelOf, named, phononNamed, chargeNamed, beginsWith, isSome, codeGiven, codeAnswer}
-use Rattle.note.proofs.BoolLaws.{Tells, both-tell, either-tells, le-tells, eq-tells, OneOf, among-tells}
+use Rattle.note.proofs.BoolLaws.{Tells, both-tell, either-tells, le-tells, OneOf, among-tells, upTo, one-up-to}
 use Rattle.note.proofs.Sweep.{all, all-at}
 use Rattle.note.proofs.Computing.{computing}
 
@@ -36,19 +36,22 @@ far-kind k h =
     )
 
 every-list : (p : List Channel → Bool) → p [] ≡ true → all (λ (k : ℕ). p (channelsOf k)) 0 12 ≡ true → (k : ℕ) → p (channelsOf k) ≡ true
-every-list p e t k = by-cases (decLt k 12) (λ l. all-at (λ (k : ℕ). p (channelsOf k)) 0 12 t k (omega arith) (omega arith)) (λ g. rw (far-kind k (omega arith)) e)
+every-list p e t k = by-cases (decLe k 11) (λ l. all-at (λ (k : ℕ). p (channelsOf k)) 0 12 t k (omega arith) (omega arith)) (λ g. rw (far-kind k (omega arith)) e)
 
 -- A test holds at every channel of a list.
 abbrev every : (Channel → Bool) → List Channel → Bool
 every p [] = true
 every p (x ∷ xs) = p x && every p xs
 
+none-some : {x : Channel} → none ≡ some x → ⊥
+none-some e = let z : _≡_ {A = ℕ} 0 1 = cc in omega arith
+
 first-or-rest : (b : Bool) (y x : Channel) (o : Option Channel) → cond b (some y) o ≡ some x → ((b ≡ true) × (y ≡ x)) ⊎ (o ≡ some x)
 first-or-rest true y x o e = inl (refl, (cc))
 first-or-rest false y x o e = inr e
 
 picked : (test p : Channel → Bool) (xs : List Channel) (x : Channel) → every p xs ≡ true → pick test xs ≡ some x → (test x ≡ true) × (p x ≡ true)
-picked test p [] x t e = let z : _≡_ {A = ℕ} 0 1 = cc in absurd (omega arith)
+picked test p [] x t e = absurd (none-some e)
 picked test p (y ∷ ys) x t e =
     let s = and-eq-true-iff (p y) (every p ys) .0 t in
     ⊎-elim (λ h. subst (λ (z : Channel). (test z ≡ true) × (p z ≡ true)) (h .1) (h .0, s .0)) (picked test p ys x (s .1))
@@ -58,6 +61,14 @@ picked test p (y ∷ ys) x t e =
 of-picked : (p : List Channel → Channel → Bool) → all (λ (k : ℕ). every (p (channelsOf k)) (channelsOf k)) 0 12 ≡ true
     → (k : ℕ) (test : Channel → Bool) (x : Channel) → pick test (channelsOf k) ≡ some x → (test x ≡ true) × (p (channelsOf k) x ≡ true)
 of-picked p t k test x e = picked test (p (channelsOf k)) (channelsOf k) x (every-list (λ (l : List Channel). every (p l) l) refl t k) e
+
+number-small : (k c : ℕ) (x : Channel) → numbered k c ≡ some x → (k ≤ 11) × (c ≤ 11)
+unfolding computing
+number-small k c x e =
+    let s = of-picked (λ l y. leb (y .channel) 11) refl k (λ y. eqb (y .channel) c) x e in (
+      by-cases (decLe k 11) (λ l. l) (λ g. absurd (none-some (rw (far-kind k (omega arith)) at e))),
+      omega (arith, leb-true (x .channel) 11 (s .1), eqb-true (x .channel) c (s .0)),
+    )
 
 -- ---- names
 
@@ -91,7 +102,7 @@ abbrev byName : List Channel → Channel → Bool
 byName l x = finds (pick (λ y. same (y .analysis) (x .analysis)) l) (λ y. eqb (y .channel) (x .channel))
 
 abbrev byNumber : List Channel → Channel → Bool
-byNumber l x = leb (x .channel) 11 && finds (pick (λ y. eqb (y .channel) (x .channel)) l) (λ y. same (y .analysis) (x .analysis))
+byNumber l x = finds (pick (λ y. eqb (y .channel) (x .channel)) l) (λ y. same (y .analysis) (x .analysis))
 
 number-leads : (k c : ℕ) (x : Channel) → numbered k c ≡ some x → (y : Channel) × (called k (x .analysis) ≡ some y) × (y .channel ≡ c)
 unfolding computing
@@ -100,14 +111,12 @@ number-leads k c x e =
     let (y, f, t) = found (called k (x .analysis)) (λ y. eqb (y .channel) (x .channel)) (s .1) in
     (y, f, eqb-true (y .channel) (x .channel) t ∙ eqb-true (x .channel) c (s .0))
 
-name-leads : (k : ℕ) (name : List ℕ) (x : Channel) → called k name ≡ some x
-    → (y : Channel) × (numbered k (x .channel) ≡ some y) × (y .analysis ≡ name) × (x .channel ≤ 11)
+name-leads : (k : ℕ) (name : List ℕ) (x : Channel) → called k name ≡ some x → (y : Channel) × (numbered k (x .channel) ≡ some y) × (y .analysis ≡ name)
 unfolding computing
 name-leads k name x e =
     let s = of-picked byNumber refl k (λ y. same (y .analysis) name) x e in
-    let u = and-eq-true-iff (leb (x .channel) 11) (finds (numbered k (x .channel)) (λ y. same (y .analysis) (x .analysis))) .0 (s .1) in
-    let (y, f, t) = found (numbered k (x .channel)) (λ y. same (y .analysis) (x .analysis)) (u .1) in
-    (y, f, same-equal (y .analysis) (x .analysis) t ∙ same-equal (x .analysis) name (s .0), leb-true (x .channel) 11 (u .0))
+    let (y, f, t) = found (numbered k (x .channel)) (λ y. same (y .analysis) (x .analysis)) (s .1) in
+    (y, f, same-equal (y .analysis) (x .analysis) t ∙ same-equal (x .analysis) name (s .0))
 
 -- No two listed channels of a type share an analysis name.
 pub names-differ : (k c d : ℕ) (x y : Channel) → numbered k c ≡ some x → numbered k d ≡ some y → x .analysis ≡ y .analysis → c ≡ d
@@ -148,8 +157,8 @@ pub name-leads-back : (kind detector : ℕ) (name : List ℕ) (w : ℕ) → code
 unfolding codeAnswer
 name-leads-back kind detector name w e =
     let (x, f, d, q) = code-from kind detector w (called kind name) e in
-    let (y, g, n, c) = name-leads kind name x f in
-    let (k, r, m) = parts-of-code kind detector (x .channel) w (sym q) d (omega arith) in
+    let (y, g, n) = name-leads kind name x f in
+    let (k, r, m) = parts-of-code kind detector (x .channel) w (sym q) d (omega (arith, number-small kind (x .channel) y g)) in
     (y, rw (k, m) g, n, k, r)
 
 -- ---- a channel code, said without names
@@ -192,18 +201,9 @@ on-line-tells (l ∷ ls) kind c =
     either-tells (both-tell (among-tells (l .types) kind) (both-tell (le-tells (l .low) c) (le-tells c (l .high)))) (on-line-tells ls kind c)
 
 -- No line goes past type 11 or channel 11.
-abbrev upTo : ℕ → List ℕ → Bool
-upTo m [] = true
-upTo m (x ∷ xs) = leb x m && upTo m xs
-
 abbrev bounded : List Line → Bool
 bounded [] = true
 bounded (l ∷ ls) = upTo 11 (l .types) && (leb (l .high) 11 && bounded ls)
-
-one-up-to : (m : ℕ) (xs : List ℕ) (n : ℕ) → upTo m xs ≡ true → OneOf xs n → n ≤ m
-one-up-to m [] n t h = absurd h
-one-up-to m (x ∷ xs) n t (inl e) = let l = leb-true x m (and-eq-true-iff (leb x m) (upTo m xs) .0 t .0) in omega arith
-one-up-to m (x ∷ xs) n t (inr h) = one-up-to m xs n (and-eq-true-iff (leb x m) (upTo m xs) .0 t .1) h
 
 line-small : (ls : List Line) (k c : ℕ) → bounded ls ≡ true → Listed ls k c → (k ≤ 11) × (c ≤ 11)
 line-small [] k c t h = absurd h
@@ -211,13 +211,6 @@ line-small (l ∷ ls) k c t h =
     let s = and-eq-true-iff (upTo 11 (l .types)) (leb (l .high) 11 && bounded ls) .0 t in
     let u = and-eq-true-iff (leb (l .high) 11) (bounded ls) .0 (s .1) in
     ⊎-elim (λ g. (one-up-to 11 (l .types) k (s .0) (g .0), omega (arith, leb-true (l .high) 11 (u .0)))) (line-small ls k c (u .1)) h
-
-number-small : (k c : ℕ) (x : Channel) → numbered k c ≡ some x → (k ≤ 11) × (c ≤ 11)
-unfolding computing
-number-small k c x e =
-    let s = of-picked (λ l y. leb (y .channel) 11) refl k (λ y. eqb (y .channel) c) x e in
-    let small : k < 12 = by-cases (decLt k 12) (λ l. l) (λ g. let z : _≡_ {A = Option Channel} none (some x) = rw (far-kind k (omega arith)) at e in let i : _≡_ {A = ℕ} 0 1 = cc in absurd (omega arith)) in
-    (omega arith, omega (arith, leb-true (x .channel) 11 (s .1), eqb-true (x .channel) c (s .0)))
 
 -- A test of the listed channel, which agrees with the lines at every type and channel up to 11, picks the codes of those lines.
 module _ (ls : List Line) (test : Option Channel → Bool) (nothing : test none ≡ false) (small : bounded ls ≡ true)
@@ -276,7 +269,8 @@ short-holds : (name : List ℕ) → short name ≡ true → Short name
 short-holds name e =
     let s = and-eq-true-iff (leb 1 (length name) && leb (length name) 4) (all (inAscii name) 0 (length name)) .0 e in (
       both-tell (le-tells 1 (length name)) (le-tells (length name) 4) .0 (s .0),
-      λ i h. both-tell (le-tells 1 (getD name i 0)) (le-tells (getD name i 0) 127) .0 (all-at (inAscii name) 0 (length name) (s .1) i (omega arith) (omega arith)),
+      λ i h. both-tell (le-tells 1 (getD name i 0)) (le-tells (getD name i 0) 127) .0
+          (all-at (inAscii name) 0 (length name) (s .1) i (omega arith) (omega arith)),
     )
 
 -- Every listed name fits four bytes that are not 0, so an answer's four bytes and length lose nothing of it.
@@ -295,7 +289,7 @@ sideOf (some x) = getD (x .analysis) (length (x .analysis) - 1) 0
 abbrev pub sides : ℕ → List ℕ
 sides kind = map (λ (c : ℕ). sideOf (numbered kind c)) (0 ∷ 1 ∷ 2 ∷ 3 ∷ 4 ∷ 5 ∷ 6 ∷ 7 ∷ 8 ∷ 9 ∷ 10 ∷ 11 ∷ [])
 
--- The sides of class I, type 10, and of class II, type 11: they are no function of the channel number alone.
+-- The sides of class I, type 10, and of class II, type 11: the same channel may have another side.
 pub side-is-listed : (sides 10 ≡ ascii "111211222122") × (sides 11 ≡ ascii "112121221212")
 unfolding computing
 side-is-listed = (refl, refl)

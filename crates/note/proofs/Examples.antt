@@ -1,6 +1,7 @@
--- P1 to P14 hold: the definitions, computed.
+-- P1 to P14 hold, and the slips that document 01 names are shut out: the definitions, computed.
 use mathlib.Core.Path.{refl}
 use Rattle.note.specs.Examples.{AllHold, examples}
+use Rattle.note.specs.Slips.{slips}
 use Rattle.note.proofs.Computing.{computing}
 
 -- One theorem for the table of document 01's examples.
@@ -8,3 +9,8 @@ pub examples-hold : AllHold examples
 unfolding computing
 examples-hold =
     (refl, (refl, (refl, (refl, (refl, (refl, (refl, (refl, (refl, (refl, (refl, (refl, (refl, (refl, ((refl, refl), (refl, (refl, (refl, (refl, (refl, tt))))))))))))))))))))
+
+-- The files of 'Slips a reader makes here'.
+pub slips-shut-out : AllHold slips
+unfolding computing
+slips-shut-out = (refl, (refl, tt))

@@ -1,24 +1,23 @@
 -- The laws of BCD, once over the number of digits; the Gregorian day said a second time; and the GPS record there and back.
 -- The idea: one digit more is one more step of division, by 16 in the word and by 10 in the number.
 use Prim.Native.Nat.{ℕ, zero, suc, _+_, _-_, _*_, _/_, _%_, _^_, _≤_, _<_}
-use mathlib.Core.Path.{_≡_, refl, sym, ap, ap₂, _∙_, subst}
-use mathlib.Core.Logic.{_↔_, _⊎_, inl, inr, ⊎-elim}
-use mathlib.Core.Bool.{Bool, true, false, not, cond, _&&_, _||_, false≢true, and-eq-true-iff, and-assoc}
-use mathlib.Core.List.{List, [], _∷_, _++_, append-nil}
+use mathlib.Core.Path.{_≡_, refl, sym, ap, _∙_, subst}
+use mathlib.Core.Logic.{_↔_}
+use mathlib.Core.Bool.{Bool, true, false, cond, _&&_, and-eq-true-iff, and-assoc}
+use mathlib.Core.List.{List, [], _∷_, append-nil}
 use native.Mathlib.Omega.{arith}
-use native.Mathlib.Nat.{pow-suc, pow-succ', pow-zero, mul-assoc, mod-lt, mod-one, mod-eq-of-lt, div-add-mod', div-one, div-div-eq-div-mul, zero-add, suc-add, mul-one, one-le-pow}
+use native.Mathlib.Nat.{pow-suc, pow-succ', pow-zero, mul-assoc, mod-one, mod-eq-of-lt, div-one, div-div-eq-div-mul, zero-add, suc-add, one-le-pow}
 use lib.Arith.{digits-div, digits-mod, digits-lt, mod-mul}
 use lib.Dec.{leb, eqb}
 use lib.ListN.{length, getD}
-use borrow.Author.Tests.{leb-true, le-leb, eqb-true, eq-eqb, eqb-false}
+use borrow.Author.Tests.{leb-true, le-leb, eqb-true, eq-eqb}
 use Rattle.theory.specs.Words.{Bytes, AllFit, wordsAt}
-use Rattle.theory.specs.Tests.{unless, first}
+use Rattle.theory.specs.Tests.{first}
 use Rattle.theory.proofs.TestLaws.{holds-at}
 use Rattle.theory.proofs.WordLaws.{word-fits, words-of-puts, puts-fill, length-puts}
 use Rattle.note.specs.Words.{order, word, words}
 use Rattle.note.specs.Gps.{Gps, areDigits, decimal, bcd, gpsOf, gpsWords, gpsBytes, isLeap, daysOfYear, gpsFault, gpsTests, gpsRule}
-use Rattle.note.proofs.BoolLaws.{Tells, both-tell, either-tells, le-tells, eq-tells}
-use Rattle.note.proofs.Sweep.{all, all-at}
+use Rattle.note.proofs.Sweep.{all-at}
 use Rattle.note.proofs.Computing.{computing}
 
 -- ---- BCD
@@ -29,17 +28,15 @@ unfolding decimal bcd
 digits-read-back zero v h = omega (arith, rw pow-zero at h)
 digits-read-back (suc n) v h =
     let p : v < 10 ^ n * 10 = rw pow-suc at h in
-    let d : (bcd n (v / 10) * 16 + v % 10) / 16 ≡ bcd n (v / 10) = omega arith in
-    let m : (bcd n (v / 10) * 16 + v % 10) % 16 ≡ v % 10 = omega arith in
-    rw (d, m, digits-read-back n (v / 10) (omega arith)) (omega arith)
+    let l : v % 10 < 16 = omega arith in
+    rw (digits-div (bcd n (v / 10)) l, digits-mod (bcd n (v / 10)) l, digits-read-back n (v / 10) (omega arith)) (omega arith)
 
 pub digits-are-written : (n v : ℕ) → areDigits n (bcd n v) ≡ true
 unfolding areDigits bcd
 digits-are-written zero v = refl
 digits-are-written (suc n) v =
-    let d : (bcd n (v / 10) * 16 + v % 10) / 16 ≡ bcd n (v / 10) = omega arith in
-    let m : (bcd n (v / 10) * 16 + v % 10) % 16 ≡ v % 10 = omega arith in
-    rw (d, m, le-leb (v % 10) 9 (omega arith)) (digits-are-written n (v / 10))
+    let l : v % 10 < 16 = omega arith in
+    rw (digits-div (bcd n (v / 10)) l, digits-mod (bcd n (v / 10)) l, le-leb (v % 10) 9 (omega arith)) (digits-are-written n (v / 10))
 
 pub digits-fit : (n v : ℕ) → bcd n v < 16 ^ n
 unfolding bcd
@@ -55,10 +52,8 @@ unfolding areDigits decimal bcd
 digits-restored zero w e = rw (pow-zero, mod-one)
 digits-restored (suc n) w e =
     let s = and-eq-true-iff (leb (w % 16) 9) (areDigits n (w / 16)) .0 e in
-    let l = leb-true (w % 16) 9 (s .0) in
-    let d : (decimal n (w / 16) * 10 + w % 16) / 10 ≡ decimal n (w / 16) = omega arith in
-    let m : (decimal n (w / 16) * 10 + w % 16) % 10 ≡ w % 16 = omega arith in
-    rw (d, m, digits-restored n (w / 16) (s .1)) (sym (mod-digit n w))
+    let l : w % 16 < 10 = omega (arith, leb-true (w % 16) 9 (s .0)) in
+    rw (digits-div (decimal n (w / 16)) l, digits-mod (decimal n (w / 16)) l, digits-restored n (w / 16) (s .1)) (sym (mod-digit n w))
 
 pub word-restored : (n w : ℕ) → w < 16 ^ n → areDigits n w ≡ true → bcd n (decimal n w) ≡ w
 word-restored n w h e = digits-restored n w e ∙ mod-eq-of-lt h
@@ -69,8 +64,7 @@ unfolding areDigits decimal
 decimal-fits zero w e = omega (arith, pow-zero 10)
 decimal-fits (suc n) w e =
     let s = and-eq-true-iff (leb (w % 16) 9) (areDigits n (w / 16)) .0 e in
-    let l = leb-true (w % 16) 9 (s .0) in
-    rw pow-suc (digits-lt (decimal-fits n (w / 16) (s .1)) (omega arith))
+    rw pow-suc (digits-lt (decimal-fits n (w / 16) (s .1)) (omega (arith, leb-true (w % 16) 9 (s .0))))
 
 -- Only the lowest n digits are read, so fields that stand side by side in a word are read apart.
 above-digits : (h m l : ℕ) → ((h * (m * 16) + l) / 16 ≡ h * m + l / 16) × ((h * (m * 16) + l) % 16 ≡ l % 16)
@@ -156,20 +150,20 @@ field-read-back : (n h v w : ℕ) → v < 10 ^ n → w ≡ h * 16 ^ n + bcd n v 
 field-read-back n h v w small e =
     (rw (e, digits-above n h (bcd n v)) (digits-are-written n v), rw (e, decimal-above n h (bcd n v)) (digits-read-back n v small))
 
+days-at-most : (b : Bool) → cond b 366 365 ≤ 366
+days-at-most true = omega arith
+days-at-most false = omega arith
+
 -- Fields without a fault: each fits its digits, the words that they make fit, and each is read where it was written.
 module _ (f : Gps) (fine : gpsFault f ≡ 0) where
   record Bounds : Type 0 where
-    year : f .year < 10000
-    day : f .day < 10000
+    year : (f .year < 10000) × (bcd 4 (f .year) < 65536)
+    day : (f .day < 10000) × (bcd 4 (f .day) < 65536)
     status : f .status < 16
-    hour : f .hour < 100
-    minute : f .minute < 100
-    second : f .second < 100
-    tenths : f .tenths < 100000000
-
-  days-at-most : (b : Bool) → cond b 366 365 ≤ 366
-  days-at-most true = omega arith
-  days-at-most false = omega arith
+    hour : (f .hour < 100) × (bcd 2 (f .hour) < 256)
+    minute : (f .minute < 100) × (bcd 2 (f .minute) < 256)
+    second : (f .second < 100) × (bcd 2 (f .second) < 256)
+    tenths : (f .tenths < 100000000) × (bcd 8 (f .tenths) < 4294967296)
 
   bounds : Bounds
   unfolding gpsFault
@@ -177,25 +171,17 @@ module _ (f : Gps) (fine : gpsFault f ≡ 0) where
       let at = holds-at _ fine in
       let d = and-eq-true-iff (leb 1 (f .day)) (leb (f .day) (daysOfYear (f .year))) .0 (at 1 (leb 1 (f .day) && leb (f .day) (daysOfYear (f .year))) 9 refl) in
       record {
-        year = omega (arith, leb-true (f .year) 9999 (at 0 _ 9 refl));
-        day = omega (arith, leb-true (f .day) (daysOfYear (f .year)) (d .1), days-at-most (isLeap (f .year)));
+        year = (omega (arith, leb-true (f .year) 9999 (at 0 _ 9 refl)), digits-fit 4 (f .year));
+        day = (omega (arith, leb-true (f .day) (daysOfYear (f .year)) (d .1), days-at-most (isLeap (f .year))), digits-fit 4 (f .day));
         status = omega (arith, leb-true (f .status) 15 (at 2 _ 9 refl));
-        hour = omega (arith, leb-true (f .hour) 23 (at 3 _ 9 refl));
-        minute = omega (arith, leb-true (f .minute) 59 (at 4 _ 9 refl));
-        second = omega (arith, leb-true (f .second) 59 (at 5 _ 9 refl));
-        tenths = omega (arith, leb-true (f .tenths) 9999999 (at 6 _ 9 refl));
+        hour = (omega (arith, leb-true (f .hour) 23 (at 3 _ 9 refl)), digits-fit 2 (f .hour));
+        minute = (omega (arith, leb-true (f .minute) 59 (at 4 _ 9 refl)), digits-fit 2 (f .minute));
+        second = (omega (arith, leb-true (f .second) 59 (at 5 _ 9 refl)), digits-fit 2 (f .second));
+        tenths = (omega (arith, leb-true (f .tenths) 9999999 (at 6 _ 9 refl)), digits-fit 8 (f .tenths));
       }
 
   fit : AllFit 4 (gpsWords f)
-  fit =
-      let y : bcd 4 (f .year) < 65536 = digits-fit 4 (f .year) in
-      let d : bcd 4 (f .day) < 65536 = digits-fit 4 (f .day) in
-      let h : bcd 2 (f .hour) < 256 = digits-fit 2 (f .hour) in
-      let m : bcd 2 (f .minute) < 256 = digits-fit 2 (f .minute) in
-      let s : bcd 2 (f .second) < 256 = digits-fit 2 (f .second) in
-      let t : bcd 8 (f .tenths) < 4294967296 = digits-fit 8 (f .tenths) in
-      let b = bounds in
-      (omega arith, (omega arith, (omega arith, tt)))
+  fit = let b = bounds in (omega arith, (omega arith, (omega arith, tt)))
 
   read-words : wordsAt order 4 3 0 (gpsBytes f) ≡ gpsWords f
   unfolding gpsBytes
@@ -214,22 +200,18 @@ module _ (f : Gps) (fine : gpsFault f ≡ 0) where
   unfolding wordsAt
   fields-read =
       let b = bounds in
-      let d : bcd 4 (f .day) < 65536 = digits-fit 4 (f .day) in
-      let h : bcd 2 (f .hour) < 256 = digits-fit 2 (f .hour) in
-      let m : bcd 2 (f .minute) < 256 = digits-fit 2 (f .minute) in
-      let s : bcd 2 (f .second) < 256 = digits-fit 2 (f .second) in
       let at : (j : ℕ) → getD (wordsAt order 4 3 0 (gpsBytes f)) j 0 ≡ getD (gpsWords f) j 0 = λ j. ap (λ (l : List ℕ). getD l j 0) read-words in
-      let w0 : word 0 (gpsBytes f) ≡ bcd 4 (f .year) * 65536 + bcd 4 (f .day) = at 0 in
-      let w1 : word 4 (gpsBytes f) ≡ f .status * 268435456 + bcd 2 (f .hour) * 65536 + bcd 2 (f .minute) * 256 + bcd 2 (f .second) = at 1 in
-      let w2 : word 8 (gpsBytes f) ≡ bcd 8 (f .tenths) = at 2 in
+      let date : word 0 (gpsBytes f) ≡ bcd 4 (f .year) * 65536 + bcd 4 (f .day) = at 0 in
+      let time : word 4 (gpsBytes f) ≡ f .status * 268435456 + bcd 2 (f .hour) * 65536 + bcd 2 (f .minute) * 256 + bcd 2 (f .second) = at 1 in
+      let part : word 8 (gpsBytes f) ≡ bcd 8 (f .tenths) = at 2 in
       record {
-        year = field-read-back 4 0 (f .year) _ (b .year) (omega arith);
-        day = field-read-back 4 (bcd 4 (f .year)) (f .day) _ (b .day) w0;
+        year = field-read-back 4 0 (f .year) _ (b .year .0) (omega arith);
+        day = field-read-back 4 (bcd 4 (f .year)) (f .day) _ (b .day .0) date;
         status = omega arith;
-        hour = field-read-back 2 (f .status * 16) (f .hour) _ (b .hour) (omega arith);
-        minute = field-read-back 2 (f .status * 4096 + bcd 2 (f .hour)) (f .minute) _ (b .minute) (omega arith);
-        second = field-read-back 2 (f .status * 1048576 + bcd 2 (f .hour) * 256 + bcd 2 (f .minute)) (f .second) _ (b .second) (omega arith);
-        tenths = field-read-back 8 0 (f .tenths) _ (b .tenths) (omega arith);
+        hour = field-read-back 2 (f .status * 16) (f .hour) _ (b .hour .0) (omega arith);
+        minute = field-read-back 2 (f .status * 4096 + bcd 2 (f .hour)) (f .minute) _ (b .minute .0) (omega arith);
+        second = field-read-back 2 (f .status * 1048576 + bcd 2 (f .hour) * 256 + bcd 2 (f .minute)) (f .second) _ (b .second .0) (omega arith);
+        tenths = field-read-back 8 0 (f .tenths) _ (b .tenths .0) (omega arith);
       }
 
   fields-back : gpsOf (gpsBytes f) ≡ f
@@ -282,24 +264,22 @@ unfolding gpsRule gpsOf gpsBytes wordsAt
 gps-restored b bytes fine =
     let at = holds-at (gpsTests b) fine in
     let size = eqb-true (length b) 12 (at 0 _ 5 refl) in
-    let d0 = digits-split 4 4 (word 0 b) .0 (at 1 _ 9 refl) in
-    let d1 = digits-split 2 4 (word 4 b) .0 (at 3 _ 9 refl) in
-    let d2 = digits-split 2 2 (word 4 b / 256) .0 (d1 .1) in
-    let free : word 4 b / 16777216 % 16 ≡ 0 = eqb-true (word 4 b / 16777216 % 16) 0 (at 2 _ 9 refl) in
+    let gap = eqb-true (word 4 b / 16777216 % 16) 0 (at 2 _ 9 refl) in
+    let inDate = digits-split 4 4 (word 0 b) .0 (at 1 _ 9 refl) in
+    let inTime = digits-split 2 4 (word 4 b) .0 (at 3 _ 9 refl) in
+    let inHours = digits-split 2 2 (word 4 b / 256) .0 (inTime .1) in
     let q : word 4 b / 256 / 256 ≡ word 4 b / 65536 = omega arith in
-    let f0 : word 0 b < 4294967296 = word-fits order 4 0 b bytes (omega arith) in
-    let f1 : word 4 b < 4294967296 = word-fits order 4 4 b bytes (omega arith) in
-    let f2 : word 8 b < 4294967296 = word-fits order 4 8 b bytes (omega arith) in
-    let year : bcd 4 (decimal 4 (word 0 b / 65536)) ≡ word 0 b / 65536 % 65536 = digits-restored 4 (word 0 b / 65536) (d0 .1) in
-    let day : bcd 4 (decimal 4 (word 0 b)) ≡ word 0 b % 65536 = digits-restored 4 (word 0 b) (d0 .0) in
-    let hour : bcd 2 (decimal 2 (word 4 b / 65536)) ≡ word 4 b / 65536 % 256 = digits-restored 2 (word 4 b / 65536) (rw q at d2 .1) in
-    let minute : bcd 2 (decimal 2 (word 4 b / 256)) ≡ word 4 b / 256 % 256 = digits-restored 2 (word 4 b / 256) (d2 .0) in
-    let second : bcd 2 (decimal 2 (word 4 b)) ≡ word 4 b % 256 = digits-restored 2 (word 4 b) (d1 .0) in
-    let tenths : bcd 8 (decimal 8 (word 8 b)) ≡ word 8 b % 4294967296 = digits-restored 8 (word 8 b) (at 4 _ 9 refl) in
-    let w0 : bcd 4 (gpsOf b .year) * 65536 + bcd 4 (gpsOf b .day) ≡ word 0 b = omega arith in
-    let w1 : gpsOf b .status * 268435456 + bcd 2 (gpsOf b .hour) * 65536 + bcd 2 (gpsOf b .minute) * 256 + bcd 2 (gpsOf b .second) ≡ word 4 b = rw (hour, minute, second) (parts-of-time (word 4 b) free) in
-    let w2 : bcd 8 (gpsOf b .tenths) ≡ word 8 b = omega arith in
-    ap words (λ i. w0 i ∷ w1 i ∷ w2 i ∷ []) ∙ puts-fill order 4 3 b bytes size
+    let year : bcd 4 (gpsOf b .year) ≡ word 0 b / 65536 % 65536 = digits-restored 4 (word 0 b / 65536) (inDate .1) in
+    let day : bcd 4 (gpsOf b .day) ≡ word 0 b % 65536 = digits-restored 4 (word 0 b) (inDate .0) in
+    let hour : bcd 2 (gpsOf b .hour) ≡ word 4 b / 65536 % 256 = digits-restored 2 (word 4 b / 65536) (rw q at inHours .1) in
+    let minute : bcd 2 (gpsOf b .minute) ≡ word 4 b / 256 % 256 = digits-restored 2 (word 4 b / 256) (inHours .0) in
+    let second : bcd 2 (gpsOf b .second) ≡ word 4 b % 256 = digits-restored 2 (word 4 b) (inTime .0) in
+    let fit : word 0 b < 4294967296 = word-fits order 4 0 b bytes (omega arith) in
+    let date : bcd 4 (gpsOf b .year) * 65536 + bcd 4 (gpsOf b .day) ≡ word 0 b = omega arith in
+    let time : gpsOf b .status * 268435456 + bcd 2 (gpsOf b .hour) * 65536 + bcd 2 (gpsOf b .minute) * 256 + bcd 2 (gpsOf b .second) ≡ word 4 b =
+    rw (hour, minute, second) (parts-of-time (word 4 b) gap) in
+    let part : bcd 8 (gpsOf b .tenths) ≡ word 8 b = word-restored 8 (word 8 b) (word-fits order 4 8 b bytes (omega arith)) (at 4 _ 9 refl) in
+    ap words (λ i. date i ∷ time i ∷ part i ∷ []) ∙ puts-fill order 4 3 b bytes size
 
 -- Day 366 is none in the year 1900 and is one in 2000.
 pub century-years : (gpsRule (words (0x19000366 ∷ 0 ∷ 0 ∷ [])) ≡ 10) × (gpsRule (words (0x20000366 ∷ 0 ∷ 0 ∷ [])) ≡ 0)

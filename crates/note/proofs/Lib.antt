@@ -10,6 +10,7 @@ pub mod SeriesLaws
 pub mod TraceLaws
 pub mod HistoryLaws
 pub mod GpsLaws
+pub mod TlbLaws
 pub mod UnitLaws
 pub mod KindCases
 pub mod KindLaws

@@ -1,19 +1,18 @@
 -- The series words said a second time: a date that exists, by the rule of the knuckles in place of a table, and a time of day.
 -- The idea: a test tells its parts; the table agrees with the knuckles at each of the twelve months, which antt computes.
-use Prim.Native.Nat.{ℕ, zero, suc, _+_, _-_, _*_, _/_, _%_, _≤_, _<_}
+use Prim.Native.Nat.{ℕ, zero, suc, _+_, _*_, _/_, _%_, _≤_}
 use mathlib.Core.Path.{_≡_, refl, sym, ap, _∙_, subst}
 use mathlib.Core.Logic.{_↔_, _⊎_, inl, inr, ⊎-elim, _≢_, by-cases}
-use mathlib.Core.Bool.{Bool, true, false, not, cond, _&&_, _||_, false≢true}
+use mathlib.Core.Bool.{Bool, true, false, cond, _&&_, _||_}
 use mathlib.Core.List.{List, [], _∷_, _++_, map}
 use native.Mathlib.Omega.{arith}
 use native.Mathlib.Decide.{decLe}
 use lib.Dec.{leb, eqb}
-use lib.ListN.{length, getD, List·getD-eq-default}
-use borrow.Author.Tests.{leb-true, le-leb, eqb-true, eqb-false, eq-eqb, ne-eqb}
-use Rattle.theory.specs.Tests.{among}
+use lib.ListN.{getD, List·getD-eq-default}
+use borrow.Author.Tests.{eqb-true, eqb-false}
 use Rattle.note.specs.Administrative.{locations, daysOfMonth, daysIn, isSeries, isClock}
-use Rattle.note.proofs.BoolLaws.{Tells, both-tell, either-tells, le-tells, eq-tells, OneOf, among-tells}
-use Rattle.note.proofs.Sweep.{all, all-at}
+use Rattle.note.proofs.BoolLaws.{Tells, both-tell, either-tells, le-tells, eq-tells, OneOf, among-tells, one-up-to}
+use Rattle.note.proofs.Sweep.{all-at}
 
 -- ---- HHMM
 
@@ -21,6 +20,7 @@ use Rattle.note.proofs.Sweep.{all, all-at}
 abbrev pub ClockTime : ℕ → Type 0
 ClockTime w = (hh : ℕ) × (mm : ℕ) × (w ≡ hh * 100 + mm) × (hh ≤ 23) × (mm ≤ 59)
 
+-- A word is a series clock exactly where it is a time of day.
 pub clock-is-time : (w : ℕ) → (isClock w ≡ true) ↔ ClockTime w
 unfolding isClock
 clock-is-time w =
@@ -31,20 +31,134 @@ clock-is-time w =
 
 -- ---- LLYYMMDD
 
--- A location, by itself or plus 50.
-abbrev pub Location : ℕ → Type 0
-Location ll = (b : ℕ) × OneOf (0 ∷ 1 ∷ 2 ∷ 3 ∷ 6 ∷ 7 ∷ []) b × ((ll ≡ b) ⊎ (ll ≡ b + 50))
+-- A location: one of six numbers, by itself or plus 50.
+abbrev pub sites : List ℕ
+sites = 0 ∷ 1 ∷ 2 ∷ 3 ∷ 6 ∷ 7 ∷ []
 
--- Day dd is in month mm of the year yy: the months have 31 and 30 days in turn, 31 both on the seventh and the eighth; the second
--- has 28, and 29 where 4 divides yy.
+abbrev pub Location : ℕ → Type 0
+Location ll = (b : ℕ) × OneOf sites b × ((ll ≡ b) ⊎ (ll ≡ b + 50))
+
+-- Day dd is not past the end of month mm of the year yy: the months have 31 and 30 days in turn, where the seventh and the eighth
+-- both have 31; the second has 28, and 29 where 4 divides yy.
 abbrev pub InMonth : ℕ → ℕ → ℕ → Type 0
 InMonth yy mm dd =
     ((mm ≢ 2) × (dd ≤ 30 + (mm + mm / 8) % 2))
     ⊎ ((mm ≡ 2) × ((dd ≤ 28) ⊎ ((dd ≡ 29) × ((q : ℕ) × (yy ≡ 4 * q)))))
 
+-- There is such a day.
 abbrev pub DateExists : ℕ → ℕ → ℕ → Type 0
 DateExists yy mm dd = (1 ≤ mm) × (mm ≤ 12) × (1 ≤ dd) × InMonth yy mm dd
 
+-- w reads llyymmdd in decimal, a location and a day that exists.
 abbrev pub SeriesDate : ℕ → Type 0
 SeriesDate w =
     (ll : ℕ) × (yy : ℕ) × (mm : ℕ) × (dd : ℕ) × (w ≡ ll * 1000000 + yy * 10000 + mm * 100 + dd) × Location ll × (yy ≤ 99) × DateExists yy mm dd
+
+-- The list of locations is the six and the six plus 50.
+one-of-append : (xs ys : List ℕ) (n : ℕ) → OneOf (xs ++ ys) n ↔ (OneOf xs n ⊎ OneOf ys n)
+one-of-append [] ys n = (inr, ⊎-elim (λ h. absurd h) (λ h. h))
+one-of-append (x ∷ xs) ys n =
+    let r = one-of-append xs ys n in
+    (⊎-elim (λ e. inl (inl e)) (λ h. ⊎-elim (λ g. inl (inr g)) inr (r .0 h)), ⊎-elim (⊎-elim inl (λ g. inr (r .1 (inl g)))) (λ g. inr (r .1 (inr g))))
+
+one-of-map : (f : ℕ → ℕ) (xs : List ℕ) (n : ℕ) → OneOf (map f xs) n ↔ ((b : ℕ) × OneOf xs b × (n ≡ f b))
+one-of-map f [] n = (λ h. absurd h, λ h. absurd (h .1))
+one-of-map f (x ∷ xs) n =
+    let r = one-of-map f xs n in (
+      ⊎-elim (λ e. (x, inl refl, e)) (λ h. let (b, o, e) = r .0 h in (b, inr o, e)),
+      λ h. ⊎-elim (λ e. inl (h .2 ∙ ap f e)) (λ o. inr (r .1 (h .0, o, h .2))) (h .1),
+    )
+
+location-listed : (ll : ℕ) → OneOf locations ll ↔ Location ll
+location-listed ll =
+    let both = one-of-append sites (map (λ (b : ℕ). b + 50) sites) ll in
+    let more = one-of-map (λ (b : ℕ). b + 50) sites ll in (
+      λ h. ⊎-elim (λ o. (ll, o, inl refl)) (λ o. let (b, p, e) = more .0 o in (b, p, inr e)) (both .0 h),
+      λ h. let (b, o, s) = h in both .1 (⊎-elim (λ e. inl (subst (OneOf sites) (sym e) o)) (λ e. inr (more .1 (b, o, e))) s),
+    )
+
+-- The table of the months and the knuckles agree.
+knuckles : (mm : ℕ) → 1 ≤ mm → mm ≤ 12 → mm ≢ 2 → getD daysOfMonth mm 0 ≡ 30 + (mm + mm / 8) % 2
+knuckles mm l h n =
+    let days : ℕ → ℕ = λ m. getD daysOfMonth m 0 in
+    let knuckle : ℕ → ℕ = λ m. 30 + (m + m / 8) % 2 in
+    ⊎-elim (λ e. absurd (n e)) (λ e. e)
+    (either-tells (eq-tells mm 2) (eq-tells (days mm) (knuckle mm)) .0
+    (all-at (λ (m : ℕ). eqb m 2 || eqb (days m) (knuckle m)) 1 12 refl mm l (omega arith)))
+
+is-month : (mm : ℕ) → 1 ≤ getD daysOfMonth mm 0 → (1 ≤ mm) × (mm ≤ 12)
+is-month zero h = absurd (omega arith)
+is-month (suc m) h = (
+  omega arith,
+  by-cases (decLe (suc m) 12) (λ l. l) (λ g. let l : 13 ≤ suc m = omega arith in absurd (omega (arith, List·getD-eq-default daysOfMonth 0 l))),
+)
+
+date-exists : (yy mm dd : ℕ) → ((1 ≤ dd) × (dd ≤ daysIn yy mm)) ↔ DateExists yy mm dd
+date-exists yy mm dd = go (eqb mm 2) (eqb (yy % 4) 0) refl refl
+  where
+    go : (a b : Bool) → eqb mm 2 ≡ a → eqb (yy % 4) 0 ≡ b → ((1 ≤ dd) × (dd ≤ cond (a && b) 29 (getD daysOfMonth mm 0))) ↔ DateExists yy mm dd
+    go true true p q =
+        let m = eqb-true mm 2 p in
+        let y = eqb-true (yy % 4) 0 q in (
+          λ h. (omega arith, omega arith, h .0, inr (m, by-cases (decLe dd 28) inl (λ g. inr (omega arith, (yy / 4, omega arith))))),
+          λ h. (h .2, ⊎-elim (λ g. absurd (g .0 m)) (λ g. ⊎-elim (λ s. omega arith) (λ s. omega arith) (g .1)) (h .3)),
+        )
+    go true false p q =
+        let m = eqb-true mm 2 p in
+        let y = eqb-false (yy % 4) 0 q in
+        let d : getD daysOfMonth mm 0 ≡ 28 = ap (λ (k : ℕ). getD daysOfMonth k 0) m in (
+          λ h. (omega arith, omega arith, h .0, inr (m, inl (omega arith))),
+          λ h. (h .2, ⊎-elim (λ g. absurd (g .0 m)) (λ g. ⊎-elim (λ s. omega arith) (λ s. absurd (y (omega arith))) (g .1)) (h .3)),
+        )
+    go false b p q =
+        let m = eqb-false mm 2 p in (
+          λ h. let (l, u) = is-month mm (omega arith) in (l, u, h .0, inl (m, omega (arith, knuckles mm l u m))),
+          λ h. (h .2, ⊎-elim (λ g. omega (arith, knuckles mm (h .0) (h .1) m)) (λ g. absurd (m (g .0))) (h .3)),
+        )
+
+at-most : (yy mm dd : ℕ) → DateExists yy mm dd → dd ≤ 31
+at-most yy mm dd h = ⊎-elim (λ g. omega arith) (λ g. ⊎-elim (λ s. omega arith) (λ s. omega arith) (g .1)) (h .3)
+
+location-at-most : (ll : ℕ) → Location ll → ll ≤ 57
+location-at-most ll h =
+    let (b, o, s) = h in
+    let l = one-up-to 7 sites b refl o in
+    ⊎-elim (λ e. omega arith) (λ e. omega arith) s
+
+-- Eight decimal digits, put together and taken apart.
+put-together : (w : ℕ) → w ≡ w / 1000000 * 1000000 + w / 10000 % 100 * 10000 + w / 100 % 100 * 100 + w % 100
+put-together w =
+    let a : w / 100 / 100 ≡ w / 10000 = omega arith in
+    let b : w / 10000 / 100 ≡ w / 1000000 = omega arith in
+    omega arith
+
+taken-apart : (ll yy mm dd w : ℕ) → w ≡ ll * 1000000 + yy * 10000 + mm * 100 + dd → yy ≤ 99 → mm ≤ 99 → dd ≤ 99
+    → (w / 1000000 ≡ ll) × (w / 10000 % 100 ≡ yy) × (w / 100 % 100 ≡ mm) × (w % 100 ≡ dd)
+taken-apart ll yy mm dd w e y m d =
+    let a : w / 100 ≡ ll * 10000 + yy * 100 + mm = omega arith in
+    let b : w / 10000 ≡ ll * 100 + yy = omega arith in
+    (omega arith, rw b (omega arith), rw a (omega arith), omega arith)
+
+-- A word is a series date exactly where its digits say a location and a day that exists.
+pub series-is-date : (w : ℕ) → (isSeries w ≡ true) ↔ SeriesDate w
+unfolding isSeries
+series-is-date w =
+    let t : Tells (isSeries w) ((((w ≤ 99999999) × OneOf locations (w / 1000000)) × (1 ≤ w % 100)) × (w % 100 ≤ daysIn (w / 10000 % 100) (w / 100 % 100))) =
+    both-tell (both-tell (both-tell (le-tells w 99999999) (among-tells locations (w / 1000000))) (le-tells 1 (w % 100)))
+    (le-tells (w % 100) (daysIn (w / 10000 % 100) (w / 100 % 100))) in (
+      λ e. let h = t .0 e in (
+        w / 1000000,
+        w / 10000 % 100,
+        w / 100 % 100,
+        w % 100,
+        put-together w,
+        location-listed (w / 1000000) .0 (h .0 .0 .1),
+        omega arith,
+        date-exists (w / 10000 % 100) (w / 100 % 100) (w % 100) .0 (h .0 .1, h .1),
+      ),
+      λ s.
+          let (ll, yy, mm, dd, e, l, y, d) = s in
+          let (a, b, c, r) = taken-apart ll yy mm dd w e y (omega arith) (omega (arith, at-most yy mm dd d)) in
+          let (i, j) = date-exists yy mm dd .1 d in
+          t .1 (((omega (arith, location-at-most ll l, at-most yy mm dd d), rw a (location-listed ll .1 l)), rw r i), rw (b, c, r) j),
+    )

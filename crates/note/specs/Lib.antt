@@ -19,3 +19,4 @@ pub mod Calls
 pub mod Listing
 pub mod Writers
 pub mod Examples
+pub mod Slips
