@@ -1,10 +1,11 @@
-// equations DIR: turns the outside implementation's answers (standard input, as `outside vectors` prints them) into modules of
-// equations about the definitions, DIR/specs/*.antt. The check of those modules compares every answer by computation.
+// equations DIR: turns the outside implementation's answers (standard input, as `outside vectors`, `channels` and `names` print them)
+// into modules of equations about the definitions, DIR/specs/*.antt. The check of those modules compares every answer by computation.
 use std::fmt::Write as _;
 use std::fs;
 use std::io::{self, BufRead};
 
 const CASES_IN_A_MODULE: usize = 100;
+const NAMES_IN_A_CASE: usize = 50;
 
 const HEADER: &str = "\
 -- Generated: what the outside implementation answers, as equations.
@@ -15,6 +16,7 @@ use lib.IntN.{pos, negsuc}
 use lib.Ieee.{binary64, div, ofInt, ofBits}
 use Rattle.note.specs.Words.{words}
 use Rattle.note.specs.Answers.{Given, whole, float, accepted, refused}
+use Rattle.note.specs.Channels.{ascii, nameOf, channelAnswer, codeAnswer}
 use Rattle.note.specs.Listing.{listing}
 use Rattle.note.specs.Calls.{recordAt, settingAt, sampleAt, findAt}
 use Rattle.note.proofs.Computing.{computing}
@@ -73,6 +75,19 @@ fn refused(number: &str, place: &str) -> String {
     format!("refused {} {}", number, place)
 }
 
+/// The answer for a code: 0 with the names, or the refusal's number with nothing.
+fn channel(number: &str, kind: &str, detector: &str, analysis: &str, cold: &str) -> String {
+    let name = |n: &str| format!("nameOf (ascii \"{}\")", n);
+    format!(
+        "record {{ number = {}; place = 0; kind = {}; detector = {}; analysis = {}; cold = {} }}",
+        number,
+        kind,
+        detector,
+        name(analysis),
+        name(cold)
+    )
+}
+
 /// Which fields of a setting are floats: gain, both biases and lockpoint of a phonon entry, the gain of a charge entry.
 fn is_float(kind: &str, field: usize) -> bool {
     match kind {
@@ -107,6 +122,12 @@ fn equation(line: &[String], name: &str) -> String {
             format!("(findAt {} {} {} ≡ {})", name, line[1], line[2], accepted(&found))
         }
         "find" => format!("(findAt {} {} {} ≡ {})", name, line[1], line[2], refused(&line[3], &line[4])),
+        "channel" if line.len() == 3 => format!("(channelAnswer {} ≡ {})", line[1], channel(&line[2], "0", "0", "", "")),
+        "channel" => format!("(channelAnswer {} ≡ {})", line[1], channel("0", &line[2], &line[3], &line[4], &line[5])),
+        "name" => {
+            let code = if line[4] == "10" { refused("10", "0") } else { accepted(&[value(&line[4])]) };
+            format!("(codeAnswer {} {} (ascii \"{}\") ≡ {})", line[1], line[2], line[3], code)
+        }
         other => panic!("an answer of another kind: {}", other),
     }
 }
@@ -115,8 +136,10 @@ fn equation(line: &[String], name: &str) -> String {
 fn declaration(number: usize, case: &Case) -> String {
     let name = format!("file{}", number);
     let mut equations = Vec::new();
-    let lines: Vec<String> = case.list.iter().map(|l| format!("({})", naturals(l))).collect();
-    equations.push(format!("(listing {} ≡ {})", name, naturals(&lines)));
+    if !case.list.is_empty() {
+        let lines: Vec<String> = case.list.iter().map(|l| format!("({})", naturals(l))).collect();
+        equations.push(format!("(listing {} ≡ {})", name, naturals(&lines)));
+    }
     for line in &case.rest {
         equations.push(equation(line, &name));
     }
@@ -143,6 +166,15 @@ fn cases() -> Vec<Case> {
         match words[0].as_str() {
             "case" => cases.push(Case { name: words[1..].join(" "), bytes: vec![], list: vec![], rest: vec![] }),
             "file" => cases.last_mut().expect("a case").bytes = words.get(1).map_or(vec![], |h| bytes_of(h)),
+            // A name is a word: one that holds a blank or is empty is left to the tests of the calls.
+            "name" if words.len() != 5 => {}
+            "channel" | "name" => {
+                let full = cases.last().map_or(true, |c| !c.list.is_empty() || c.rest.len() == NAMES_IN_A_CASE);
+                if full {
+                    cases.push(Case { name: String::from("channels"), bytes: vec![], list: vec![], rest: vec![] });
+                }
+                cases.last_mut().expect("a case").rest.push(words);
+            }
             "list" => cases.last_mut().expect("a case").list.push(words[1..].to_vec()),
             _ => cases.last_mut().expect("a case").rest.push(words),
         }
@@ -153,7 +185,8 @@ fn cases() -> Vec<Case> {
 fn main() {
     let dir = std::env::args().nth(1).expect("usage: equations DIR");
     let cases = cases();
-    let equations: usize = cases.iter().map(|c| 1 + c.rest.len()).sum();
+    let files = cases.iter().filter(|c| !c.list.is_empty()).count();
+    let equations: usize = files + cases.iter().map(|c| c.rest.len()).sum::<usize>();
     let mut root = String::new();
     for (m, chunk) in cases.chunks(CASES_IN_A_MODULE).enumerate() {
         let mut text = String::from(HEADER);
@@ -164,5 +197,5 @@ fn main() {
         writeln!(root, "pub mod Cases{}", m).unwrap();
     }
     fs::write(format!("{}/specs/Lib.antt", dir), root).expect("written");
-    println!("{} files, {} equations", cases.len(), equations);
+    println!("{} files, {} equations", files, equations);
 }

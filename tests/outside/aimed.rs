@@ -975,6 +975,7 @@ fn series_date_cases(cases: &mut Cases) {
     }
     for month in [0, 13, 19, 20, 99] {
         date_case(1_100_015 + 100 * month, false);
+        date_case(1_100_001 + 100 * month, false);
     }
     for year in [0, 1, 2, 3, 4, 10, 50, 96, 98, 99] {
         date_case(1_000_229 + 10_000 * year, year % 4 == 0);

@@ -1,13 +1,13 @@
 //! The examples of document 01, and the aimed cases' expected answers.
 
-use std::collections::HashSet;
+use std::collections::{HashMap, HashSet};
 use std::fmt::Write;
 
 use super::aimed::{aimed, full, p14, with_record};
 use super::big::{full_of_history, full_of_traces, trace_of};
 use super::files::{
-    event, random_file, structure, structure_of, valid_parts, words, ADMINISTRATIVE, EVENT, GPS,
-    HISTORY, PHONON, TLB,
+    event, random_file, structure, structure_of, valid_parts, words, ADMINISTRATIVE, CHARGE, EVENT,
+    GPS, HISTORY, PHONON, TLB, TRACE, TRIGGER,
 };
 use super::random::Random;
 use super::reader::{
@@ -34,6 +34,7 @@ pub fn selftest(text: &mut String) -> bool {
         failures: Vec::new(),
     };
     channel_examples(&mut checks);
+    listed_examples(&mut checks);
     name_examples(&mut checks);
     series_examples(&mut checks);
     gps_examples(&mut checks);
@@ -41,6 +42,7 @@ pub fn selftest(text: &mut String) -> bool {
     file_examples(&mut checks);
     listing_example(&mut checks);
     count_examples(&mut checks);
+    field_examples(&mut checks);
     history_examples(&mut checks);
     setting_examples(&mut checks);
     zip_examples(&mut checks);
@@ -77,6 +79,61 @@ fn channel_examples(checks: &mut Checks) {
     );
     checks.check("P4", channel_of(12_000_000).is_err());
     checks.check("P5", channel_of(3_005_001).is_err());
+}
+
+/// Section "Channels": its lists in its own words.
+const CLASS_ONE: &str = "0 QIS1, 1 QOS1, 2 PAS1 (A1), 3 PBS2 (B1), 4 PCS1 (C1), 5 PDS1 (D1), \
+    6 QIS2, 7 QOS2, 8 PAS2 (A2), 9 PBS1 (B2), 10 PCS2 (C2), 11 PDS2 (D2)";
+const CLASS_TWO_CHANGES: &str =
+    "2 PAS2 (A1), 3 PBS1 (B1), 4 PCS2 (C1), 8 PAS1 (A2), 9 PBS2 (B2), 10 PCS1 (C2)";
+const LISTS: [(&[u32], &str); 6] = [
+    (&[1], "1 QI, 2 QO, 3 PS1, 4 PS2"),
+    (&[3], "0 Veto"),
+    (&[2, 4, 5, 6], "0 QI, 1 QO, 2 PA, 3 PB, 4 PC, 5 PD"),
+    (&[7], "0 Q, 1 PA, 2 PB"),
+    (&[10, 11], CLASS_ONE),
+    (&[11], CLASS_TWO_CHANGES),
+];
+
+// Section "Channels": channel number, analysis name and cold name of a list's item; the cold
+// name stands in brackets or is the analysis name.
+fn listed_item(item: &str) -> (u32, String, String) {
+    let parts: Vec<&str> = item.split_whitespace().collect();
+    let cold = parts[parts.len() - 1].trim_matches(|mark| mark == '(' || mark == ')');
+    (
+        parts[0].parse().unwrap_or(999),
+        parts[1].to_string(),
+        cold.to_string(),
+    )
+}
+
+// Section "Channels": every code of three digits each gives what the lists say, later lists
+// replacing earlier ones.
+fn listed_examples(checks: &mut Checks) {
+    let mut listed = HashMap::new();
+    for (detector_types, list) in LISTS {
+        for detector_type in detector_types {
+            for item in list.split(',') {
+                let (channel, analysis, cold) = listed_item(item);
+                listed.insert((*detector_type, channel), (analysis, cold));
+            }
+        }
+    }
+    for detector_type in 0..1_000 {
+        for channel in 0..1_000 {
+            let code = detector_type * 1_000_000 + 17_000 + channel;
+            let fine = match (channel_of(code), listed.get(&(detector_type, channel))) {
+                (Ok((given_type, 17, analysis, cold)), Some(names)) => {
+                    given_type == detector_type
+                        && analysis == names.0.as_bytes()
+                        && cold == names.1.as_bytes()
+                }
+                (Err(()), None) => true,
+                _ => false,
+            };
+            checks.check("listed channel", fine);
+        }
+    }
 }
 
 // Section "Channels": each listed code and its name give each other.
@@ -256,6 +313,83 @@ fn count_examples(checks: &mut Checks) {
     three[44..48].copy_from_slice(&3u32.to_le_bytes());
     three[52..56].copy_from_slice(&3u32.to_le_bytes());
     checks.check("n of 3 gives 11", answer(&with_record(three)) == (11, 56));
+}
+
+// Section "The six records": every field from its own word.
+fn field_examples(checks: &mut Checks) {
+    let body = [
+        0x11,
+        12,
+        101,
+        8,
+        11_017_006,
+        0x12,
+        12,
+        0x8000_0001,
+        0x8000_0002,
+        2,
+        0x13,
+        2,
+        0,
+    ];
+    let trace = Record::Trace {
+        base_address: 101,
+        channel: 8,
+        code: 11_017_006,
+        t0: -0x7FFF_FFFF,
+        delta_t: 0x8000_0002,
+        n: 2,
+    };
+    checks.check(
+        "trace fields",
+        record(&structure_of(TRACE, &body), 0) == Ok(trace),
+    );
+    let gps = Record::Gps {
+        year: 9876,
+        day: 123,
+        status: 15,
+        hour: 23,
+        minute: 45,
+        second: 57,
+        tenths: 9_123_457,
+    };
+    let body = [0x9876_0123, 0xF023_4557, 0x0912_3457];
+    checks.check(
+        "GPS fields",
+        record(&structure_of(GPS, &body), 0) == Ok(gps),
+    );
+    let body = [0, 11, 12, 13, 14, 15, 16];
+    let trigger = Record::Trigger([11, 12, 13, 14, 15, 16]);
+    checks.check(
+        "trigger fields",
+        record(&structure_of(TRIGGER, &body), 0) == Ok(trigger),
+    );
+    let body = [
+        0x0100_0001,
+        0x0200_0002,
+        0x0300_0003,
+        0x0400_0004,
+        0x0500_0005,
+        0x0600_0006,
+    ];
+    let tlb = Record::Tlb(body);
+    checks.check(
+        "TLB fields",
+        record(&structure_of(TLB, &body), 0) == Ok(tlb),
+    );
+    let minus_one = 0xFFFF_FFFF;
+    let body = [11_017_006, minus_one, 2, 3, 4, 5, 6, 7];
+    let charge = Record::Charge([11_017_006, -1, 2, 3, 4, 5, 6, 7]);
+    checks.check(
+        "charge fields",
+        record(&structure_of(CHARGE, &body), 0) == Ok(charge),
+    );
+    let body = [10_001_003, minus_one, 2, 3, 4, 5, 6, 7, 8, 9, 10];
+    let phonon = Record::Phonon([10_001_003, -1, 2, 3, 4, 5, 6, 7, 8, 9, 10]);
+    checks.check(
+        "phonon fields",
+        record(&structure_of(PHONON, &body), 0) == Ok(phonon),
+    );
 }
 
 // Section "The six records": the counts and where each list starts.
