@@ -41,6 +41,7 @@ pub fn selftest(text: &mut String) -> bool {
     sample_examples(&mut checks);
     file_examples(&mut checks);
     listing_example(&mut checks);
+    row_examples(&mut checks);
     count_examples(&mut checks);
     field_examples(&mut checks);
     history_examples(&mut checks);
@@ -155,6 +156,7 @@ fn name_examples(checks: &mut Checks) {
         }
     }
     checks.check("listed channels", listed == 4 + 1 + 4 * 6 + 3 + 12 + 12);
+    checks.check("number 999", code_of(4, 999, b"PA") == Ok(4_999_002));
     checks.check("number 1000", code_of(4, 1_000, b"PA").is_err());
     checks.check("empty name", code_of(4, 1, b"").is_err());
     checks.check("code over nine digits", channel_of(1_004_001_002).is_err());
@@ -299,6 +301,27 @@ fn listing_example(checks: &mut Checks) {
         "12 is given last",
         table_within(&file[..87], 0) == table(&file[..87]),
     );
+}
+
+// Section "Rows and calls": a row of each kind.
+fn row_examples(checks: &mut Checks) {
+    let rows: [Row; 13] = [
+        [1, 0, 8, 0, 0x0100_0200, 0],
+        [2, 8, 100, 0, 2, 0],
+        [3, 16, 52, 2, 10_001_003, 1],
+        [4, 68, 40, 2, 11_017_006, 2],
+        [5, 108, 248, 0, 0, 6],
+        [6, 116, 32, 5, 7, 1_263_573_000],
+        [7, 148, 60, 5, 11_017_006, 2],
+        [8, 208, 60, 5, 1, 1],
+        [9, 268, 20, 5, 0x2005_0320, 0x0011_1526],
+        [10, 288, 36, 5, 0x11, 0x22],
+        [11, 324, 32, 5, 0x0100_0004, 0x0200_0000],
+        [5, 356, 40, 0, 0x260A, 1],
+        [6, 364, 32, 12, 7, 1_263_573_000],
+    ];
+    let given = table(&full());
+    checks.check("rows of each kind", given.number == 0 && given.rows == rows);
 }
 
 // Section "Examples to hold to": n of 2 and 32,768 pass; 0, 3 and 32,770 give 11.
@@ -541,8 +564,13 @@ fn aimed_answers(checks: &mut Checks) {
             &format!("name {}", case.name),
             plain && names.insert(case.name.clone()),
         );
-        let expected = (case.number, case.place);
-        checks.check(&case.name, answer(&case.bytes) == expected);
+        let given = table(&case.bytes);
+        let same = (given.number, given.place) == (case.number, case.place);
+        let counted = given.count as usize == given.rows.len();
+        checks.check(
+            &case.name,
+            same && counted && (given.number == 0) != (given.count == 0),
+        );
     }
     checks.check("full", full().len() == 396);
     let last_place = record(&structure(TLB, &[0; 24]), u64::MAX);
