@@ -1687,7 +1687,7 @@ pub fn full() -> Vec<u8> {
         header(),
         configuration(&[good(PHONON), good(CHARGE)]),
         event(EVENT, &all),
-        event(EVENT | 0x260A, &[good_administrative()]),
+        event(EVENT | 0x2609, &[good_administrative()]),
     ]
     .concat()
 }

@@ -220,6 +220,11 @@ fn sample_examples(checks: &mut Checks) {
     checks.check("sample 0", sample(&changed, 3, 0) == Err((11, 3)));
     checks.check("sample n + 1", sample(&changed, 3, 3) == Err((11, 3)));
     checks.check("no samples", samples(&changed, 0) == (0, 0));
+    let counted = trace_of(8);
+    for number in 1..=8 {
+        let value = number as u16 - 1;
+        checks.check("samples in order", sample(&counted, 0, number) == Ok(value));
+    }
     let tlb = p14();
     checks.check(
         "sample of another kind",
@@ -317,7 +322,7 @@ fn row_examples(checks: &mut Checks) {
         [9, 268, 20, 5, 0x2005_0320, 0x0011_1526],
         [10, 288, 36, 5, 0x11, 0x22],
         [11, 324, 32, 5, 0x0100_0004, 0x0200_0000],
-        [5, 356, 40, 0, 0x260A, 1],
+        [5, 356, 40, 0, 0x2609, 1],
         [6, 364, 32, 12, 7, 1_263_573_000],
     ];
     let given = table(&full());
@@ -470,6 +475,18 @@ fn setting_examples(checks: &mut Checks) {
         _ => false,
     };
     checks.check("zero is plus zero", plus_zero);
+    let file = structure_of(CHARGE, &[11_017_006, 4, minus(1), 100, 5, 6, minus(7), 8]);
+    let expected = Setting::Charge {
+        code: 11_017_006,
+        tower: 4,
+        gain: -0.01,
+        bias: 100,
+        rtf_offset: 5,
+        delta_t: 6,
+        t0: -7,
+        trace_length: 8,
+    };
+    checks.check("charge setting", setting(&file, 0) == Ok(expected));
     checks.check(
         "setting of another kind",
         setting(&p14(), 24) == Err((5, 24)),
