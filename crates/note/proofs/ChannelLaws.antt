@@ -62,7 +62,7 @@ of-picked : (p : List Channel → Channel → Bool) → all (λ (k : ℕ). every
     → (k : ℕ) (test : Channel → Bool) (x : Channel) → pick test (channelsOf k) ≡ some x → (test x ≡ true) × (p (channelsOf k) x ≡ true)
 of-picked p t k test x e = picked test (p (channelsOf k)) (channelsOf k) x (every-list (λ (l : List Channel). every (p l) l) refl t k) e
 
-number-small : (k c : ℕ) (x : Channel) → numbered k c ≡ some x → (k ≤ 11) × (c ≤ 11)
+pub number-small : (k c : ℕ) (x : Channel) → numbered k c ≡ some x → (k ≤ 11) × (c ≤ 11)
 unfolding computing
 number-small k c x e =
     let s = of-picked (λ l y. leb (y .channel) 11) refl k (λ y. eqb (y .channel) c) x e in (
@@ -78,7 +78,7 @@ beq-equal true false e = sym e
 beq-equal false true e = e
 beq-equal false false e = refl
 
-same-equal : (a b : List ℕ) → same a b ≡ true → a ≡ b
+pub same-equal : (a b : List ℕ) → same a b ≡ true → a ≡ b
 same-equal [] [] e = refl
 same-equal [] (y ∷ ys) e = absurd (false≢true e)
 same-equal (x ∷ xs) [] e = absurd (false≢true e)
@@ -104,14 +104,14 @@ byName l x = finds (pick (λ y. same (y .analysis) (x .analysis)) l) (λ y. eqb 
 abbrev byNumber : List Channel → Channel → Bool
 byNumber l x = finds (pick (λ y. eqb (y .channel) (x .channel)) l) (λ y. same (y .analysis) (x .analysis))
 
-number-leads : (k c : ℕ) (x : Channel) → numbered k c ≡ some x → (y : Channel) × (called k (x .analysis) ≡ some y) × (y .channel ≡ c)
+pub number-leads : (k c : ℕ) (x : Channel) → numbered k c ≡ some x → (y : Channel) × (called k (x .analysis) ≡ some y) × (y .channel ≡ c)
 unfolding computing
 number-leads k c x e =
     let s = of-picked byName refl k (λ y. eqb (y .channel) c) x e in
     let (y, f, t) = found (called k (x .analysis)) (λ y. eqb (y .channel) (x .channel)) (s .1) in
     (y, f, eqb-true (y .channel) (x .channel) t ∙ eqb-true (x .channel) c (s .0))
 
-name-leads : (k : ℕ) (name : List ℕ) (x : Channel) → called k name ≡ some x → (y : Channel) × (numbered k (x .channel) ≡ some y) × (y .analysis ≡ name)
+pub name-leads : (k : ℕ) (name : List ℕ) (x : Channel) → called k name ≡ some x → (y : Channel) × (numbered k (x .channel) ≡ some y) × (y .analysis ≡ name)
 unfolding computing
 name-leads k name x e =
     let s = of-picked byNumber refl k (λ y. same (y .analysis) name) x e in

@@ -1,7 +1,7 @@
 -- What holds of each of the eight kinds, and of no kind at all, holds of the kind of any kind word.
 -- The idea: the choice of a kind is eight tests of the kind word, and each test is taken apart once, here.
 use Prim.Native.Nat.{ℕ}
-use mathlib.Core.Path.{_≡_, refl, sym, subst}
+use mathlib.Core.Path.{_≡_, refl, sym, _∙_, subst}
 use mathlib.Core.Bool.{Bool, true, false, cond}
 use lib.Dec.{eqb}
 use borrow.Author.Tests.{eqb-true}
@@ -39,3 +39,25 @@ kind-cases P k phonon charge administrative trace history gps trigger tlb unknow
     (test-case P k (triggerKind .word) triggerKind _ trigger
     (test-case P k (tlbKind .word) tlbKind unknownKind tlb
     unknown)))))))
+
+-- A word that is none of the eight kind words names no kind.
+skip : (k w : ℕ) (x y : Kind) → (k ≡ w → ⊥) → cond (eqb k w) x y ≡ y
+skip k w x y h = go (eqb k w) refl
+  where
+    go : (t : Bool) → eqb k w ≡ t → cond t x y ≡ y
+    go true e = absurd (h (eqb-true k w e))
+    go false e = refl
+
+pub no-kind : (k : ℕ) → (k ≡ phononKind .word → ⊥) → (k ≡ chargeKind .word → ⊥) → (k ≡ administrativeKind .word → ⊥)
+    → (k ≡ traceKind .word → ⊥) → (k ≡ historyKind .word → ⊥) → (k ≡ gpsKind .word → ⊥) → (k ≡ triggerKind .word → ⊥)
+    → (k ≡ tlbKind .word → ⊥) → kindOf k ≡ unknownKind
+unfolding kindOf
+no-kind k phonon charge administrative trace history gps trigger tlb =
+    skip k (phononKind .word) phononKind _ phonon
+    ∙ skip k (chargeKind .word) chargeKind _ charge
+    ∙ skip k (administrativeKind .word) administrativeKind _ administrative
+    ∙ skip k (traceKind .word) traceKind _ trace
+    ∙ skip k (historyKind .word) historyKind _ history
+    ∙ skip k (gpsKind .word) gpsKind _ gps
+    ∙ skip k (triggerKind .word) triggerKind _ trigger
+    ∙ skip k (tlbKind .word) tlbKind unknownKind tlb

@@ -1,0 +1,141 @@
+-- Names as numbers: a listed name has one to four letters and none is 0, so its number gives back its letters, its size and no other name.
+-- The idea: a letter below 256 in front of a number is split off again by the remainder, and the rest by the quotient.
+use Prim.Native.Nat.{ℕ, zero, suc, _+_, _*_, _/_, _%_, _≤_, _<_}
+use mathlib.Core.Path.{_≡_, refl, sym, ap, _∙_}
+use mathlib.Core.Bool.{Bool, true, false, not, _&&_, false≢true}
+use mathlib.Core.List.{List, [], _∷_, _++_}
+use mathlib.Core.Option.{Option, some, none}
+use native.Mathlib.Numerals.{add-one}
+use native.Mathlib.Omega.{arith}
+use native.Mathlib.Nat.{zero-add}
+use lib.Dec.{leb, ltb, eqb}
+use lib.ListN.{length, getD, drop, drop-of-length-le}
+use lib.Seq.{drop-cons}
+use borrow.Author.Tests.{lt-ltb, le-ltb, le-leb, lt-leb, eq-eqb, ne-eqb}
+use Rattle.theory.specs.Words.{num, bytes}
+use Rattle.note.specs.Answers.{givenCode}
+use Rattle.note.specs.Channels.{Channel, same, nameOf, numbered, called, channelOf, typeOf, detectorOf, channelNumber, channelGiven, channelAnswer, codeFrom, codeGiven, codeAnswer}
+use Rattle.note.specs.declared.ChannelAnswer.{ChannelAnswer}
+use Rattle.note.specs.declared.CodeAnswer.the-variants.{Code, Refused}
+use Rattle.note.proofs.ChannelLaws.{Short, names-fit, number-small, same-equal, number-leads, name-leads}
+use Rattle.channels.specs.Tables.{nameIn, analysisNumber, coldNumber, sizeOf, nameOfNumber, areLetters, isSpelled, channelOr, channelCalled}
+
+-- Every letter is from 1 to 127.
+abbrev Letters : List ℕ → Type 0
+Letters name = (i : ℕ) → i < length name → (1 ≤ getD name i 0) × (getD name i 0 ≤ 127)
+
+rest-letters : (x : ℕ) (name : List ℕ) → Letters (x ∷ name) → Letters name
+rest-letters x name h = λ i l. h (suc i) (omega arith)
+
+-- ---- how many letters a number has
+
+pub one-letter : (w : ℕ) → w < 256 → 1 ≡ sizeOf w
+unfolding sizeOf
+one-letter w h = rw (lt-ltb w 256 h)
+
+pub two-letters : (w : ℕ) → 256 ≤ w → w < 65536 → 2 ≡ sizeOf w
+unfolding sizeOf
+two-letters w g h = rw (le-ltb w 256 g, lt-ltb w 65536 h)
+
+pub three-letters : (w : ℕ) → 65536 ≤ w → w < 16777216 → 3 ≡ sizeOf w
+unfolding sizeOf
+three-letters w g h = rw (le-ltb w 256 (omega arith), le-ltb w 65536 g, lt-ltb w 16777216 h)
+
+pub four-letters : (w : ℕ) → 16777216 ≤ w → 4 ≡ sizeOf w
+unfolding sizeOf
+four-letters w g = rw (le-ltb w 256 (omega arith), le-ltb w 65536 (omega arith), le-ltb w 16777216 g)
+
+-- ---- from a number back to its name
+
+pub name-made : (w n : ℕ) (bs : List ℕ) → bs ≡ bytes 4 w → n ≡ sizeOf w → record { bytes = bs; length = n } ≡ nameOfNumber w
+unfolding nameOfNumber
+name-made w n bs e s = cc
+
+letter-off : (w m x : ℕ) → x ≤ 127 → bytes (suc w) (m * 256 + x) ≡ x ∷ bytes w m
+unfolding bytes
+letter-off w m x h =
+    let r : (m * 256 + x) % 256 ≡ x = omega arith in
+    let q : (m * 256 + x) / 256 ≡ m = omega arith in
+    rw (r, q)
+
+-- The letters of a name stand lowest first in its number, and zeros after them.
+padded-back : (w : ℕ) (name : List ℕ) → Letters name → bytes (length name + w) (num name) ≡ name ++ bytes w 0
+padded-back w [] h = rw (zero-add w)
+padded-back w (x ∷ name) h =
+    let s : length (x ∷ name) + w ≡ suc (length name + w) = omega arith in
+    rw s (letter-off (length name + w) (num name) x (h 0 (omega arith) .1) ∙ rw (padded-back w name (rest-letters x name h)))
+
+name-back : (name : List ℕ) → Short name → nameOfNumber (num name) ≡ nameOf name
+unfolding bytes
+name-back [] (s, h) = absurd (omega arith)
+name-back (a ∷ []) (s, h) = sym (name-made _ _ _ (sym (padded-back 3 (a ∷ []) h)) (one-letter _ (omega (arith, h 0 (omega arith)))))
+name-back (a ∷ b ∷ []) (s, h) = sym (name-made _ _ _ (sym (padded-back 2 (a ∷ b ∷ []) h)) (two-letters _ (omega (arith, h 1 (omega arith))) (omega (arith, h 0 (omega arith), h 1 (omega arith)))))
+name-back (a ∷ b ∷ c ∷ []) (s, h) = sym (name-made _ _ _ (sym (padded-back 1 (a ∷ b ∷ c ∷ []) h)) (three-letters _ (omega (arith, h 2 (omega arith))) (omega (arith, h 0 (omega arith), h 1 (omega arith), h 2 (omega arith)))))
+name-back (a ∷ b ∷ c ∷ d ∷ []) (s, h) = sym (name-made _ _ _ (sym (padded-back 0 (a ∷ b ∷ c ∷ d ∷ []) h)) (four-letters _ (omega (arith, h 3 (omega arith)))))
+name-back (a ∷ b ∷ c ∷ d ∷ e ∷ name) (s, h) = absurd (omega arith)
+
+-- ---- what a channel's answer holds
+
+some-letter : (name : List ℕ) → Short name → num name ≡ 0 → ⊥
+some-letter [] (s, h) e = omega arith
+some-letter (x ∷ name) (s, h) e = omega (arith, h 0 (omega arith))
+
+pub unlisted : (w : ℕ) → analysisNumber (channelOf w) ≡ 0
+    → record { number = 10; place = 0; kind = 0; detector = 0; analysis = nameOf []; cold = nameOf [] } ≡ channelAnswer w
+unfolding analysisNumber channelAnswer
+unlisted w e = go (channelOf w) refl e
+  where
+    go : (o : Option Channel) → channelOf w ≡ o → num (nameIn (λ x. x .analysis) o) ≡ 0 → channelGiven w none ≡ channelGiven w o
+    go none q e = refl
+    go (some x) q e = absurd (some-letter (x .analysis) (names-fit (typeOf w) (channelNumber w) x q .0) e)
+
+pub listed : (w : ℕ) → (analysisNumber (channelOf w) ≡ 0 → ⊥)
+    → record { number = 0; place = 0; kind = typeOf w; detector = detectorOf w; analysis = nameOfNumber (analysisNumber (channelOf w)); cold = nameOfNumber (coldNumber (channelOf w)) } ≡ channelAnswer w
+unfolding analysisNumber coldNumber channelAnswer
+listed w n = go (channelOf w) refl n
+  where
+    go : (o : Option Channel) → channelOf w ≡ o → (num (nameIn (λ x. x .analysis) o) ≡ 0 → ⊥)
+        → _≡_ {A = ChannelAnswer} (record { number = 0; place = 0; kind = typeOf w; detector = detectorOf w; analysis = nameOfNumber (num (nameIn (λ x. x .analysis) o)); cold = nameOfNumber (num (nameIn (λ x. x .cold) o)) }) (channelGiven w o)
+    go none q n = absurd (n refl)
+    go (some x) q n = let (a, b) = names-fit (typeOf w) (channelNumber w) x q in rw (name-back (x .analysis) a, name-back (x .cold) b)
+
+-- ---- whether bytes are a name
+
+letters-same : (a b : List ℕ) → Letters a → areLetters (num a) b ≡ same a b
+letters-same [] [] h = refl
+letters-same [] (y ∷ b) h = refl
+letters-same (x ∷ a) [] h = ne-eqb (num (x ∷ a)) 0 (λ e. omega (arith, h 0 (omega arith)))
+letters-same (x ∷ a) (y ∷ b) h =
+    let p = h 0 (omega arith) in
+    let n : num (x ∷ a) ≡ 0 → ⊥ = λ e. omega arith in
+    let r : num (x ∷ a) % 256 ≡ x = omega arith in
+    let q : num (x ∷ a) / 256 ≡ num a = omega arith in
+    rw (ne-eqb (num (x ∷ a)) 0 n, r, q, letters-same a b (rest-letters x a h))
+
+-- The number of a name is spelled by that name alone.
+pub spelled-same : (a b : List ℕ) → Short a → isSpelled (num a) b ≡ same a b
+unfolding isSpelled
+spelled-same a b s = rw (ne-eqb (num a) 0 (some-letter a s)) (letters-same a b (s .1))
+
+pub never-spelled : (w : ℕ) (name : List ℕ) → w ≡ 0 → false ≡ isSpelled w name
+unfolding isSpelled
+never-spelled w name e = rw (eq-eqb w 0 e)
+
+-- What is left of the number, w, and of the name, from byte i on, still decides.
+pub decides : (number w : ℕ) (name : List ℕ) (i : ℕ) (b : Bool) → (number ≡ 0 → ⊥) → areLetters number name ≡ areLetters w (drop i name)
+    → areLetters w (drop i name) ≡ b → b ≡ isSpelled number name
+unfolding isSpelled
+decides number w name i b n e t = rw (ne-eqb number 0 n) (sym (e ∙ t))
+
+pub at-end : (w : ℕ) (name : List ℕ) (i : ℕ) → length name ≤ i → areLetters w (drop i name) ≡ eqb w 0
+at-end w name i h = rw (drop-of-length-le name h)
+
+module _ (w : ℕ) (name : List ℕ) (i : ℕ) (h : i < length name) where
+  pub no-letters : w ≡ 0 → areLetters w (drop i name) ≡ false
+  no-letters e = rw (drop-cons name i 0 h, eq-eqb w 0 e)
+
+  pub other-letter : (w ≡ 0 → ⊥) → (w % 256 ≡ getD name i 0 → ⊥) → areLetters w (drop i name) ≡ false
+  other-letter n d = rw (drop-cons name i 0 h, ne-eqb w 0 n, ne-eqb (w % 256) (getD name i 0) d)
+
+  pub next-letter : (w ≡ 0 → ⊥) → w % 256 ≡ getD name i 0 → areLetters w (drop i name) ≡ areLetters (w / 256) (drop (i + 1) name)
+  next-letter n e = rw (drop-cons name i 0 h, ne-eqb w 0 n, eq-eqb (w % 256) (getD name i 0) e, add-one i)

@@ -1,0 +1,72 @@
+-- The tables of letters say what the lists of document 01 say.
+-- The idea: nothing is listed past type 11 or channel 11, and antt computes both sides at the 144 places that are left.
+use Prim.Native.Nat.{ℕ, _+_, _*_, _<_, _≤_}
+use mathlib.Core.Path.{_≡_, refl, sym, _∙_}
+use mathlib.Core.Logic.{by-cases}
+use mathlib.Core.Bool.{Bool, true, false, _&&_}
+use mathlib.Core.List.{List, [], _∷_}
+use mathlib.Core.Option.{Option, some, none}
+use native.Mathlib.Omega.{arith}
+use native.Mathlib.Decide.{decLe}
+use lib.Dec.{eqb, leb}
+use borrow.Author.Tests.{le-leb, lt-leb, eqb-true}
+use Rattle.theory.specs.Words.{num}
+use Rattle.note.specs.Channels.{Channel, numbered}
+use Rattle.note.proofs.ChannelLaws.{number-small}
+use Rattle.note.proofs.Computing.{computing}
+use Rattle.note.proofs.Sweep.{all, all-at}
+use Rattle.channels.specs.Tables.{lettersAt, entryAt, nameIn, tableOf, analysisNumber, coldNumber}
+
+-- ---- a table's entry
+
+pub past-types : (t : List ℕ) (k c : ℕ) → 11 < k → 0 ≡ entryAt t k c
+unfolding entryAt
+past-types t k c h = rw (lt-leb k 11 h)
+
+pub past-channels : (t : List ℕ) (k c : ℕ) → 11 < c → 0 ≡ entryAt t k c
+unfolding entryAt
+past-channels t k c h = by-cases (decLe k 11) (λ l. rw (le-leb k 11 l, lt-leb c 11 h)) (λ g. rw (lt-leb k 11 (omega arith)))
+
+pub in-table : (t : List ℕ) (k c : ℕ) → k ≤ 11 → c ≤ 11 → num (lettersAt t (k * 48 + c * 4)) ≡ entryAt t k c
+unfolding entryAt
+in-table t k c h g = rw (le-leb k 11 h, le-leb c 11 g)
+
+-- ---- what is listed
+
+-- What is 0 of no channel is 0 past type 11 and past channel 11.
+pub none-past : (f : Option Channel → ℕ) → f none ≡ 0 → (k c : ℕ) → ((k ≤ 11) × (c ≤ 11) → ⊥) → f (numbered k c) ≡ 0
+none-past f e k c h = go (numbered k c) refl
+  where
+    go : (o : Option Channel) → numbered k c ≡ o → f o ≡ 0
+    go none q = e
+    go (some x) q = absurd (h (number-small k c x q))
+
+-- Two numbers agree at every type and channel up to 11.
+abbrev pub agree : (ℕ → ℕ → ℕ) → (ℕ → ℕ → ℕ) → Bool
+agree f g = all (λ (k : ℕ). all (λ (c : ℕ). eqb (f k c) (g k c)) 0 12) 0 12
+
+pub agree-at : (f g : ℕ → ℕ → ℕ) → agree f g ≡ true → (k c : ℕ) → k ≤ 11 → c ≤ 11 → f k c ≡ g k c
+agree-at f g e k c h l =
+    eqb-true (f k c) (g k c)
+    (all-at (λ (c : ℕ). eqb (f k c) (g k c)) 0 12
+    (all-at (λ (k : ℕ). all (λ (c : ℕ). eqb (f k c) (g k c)) 0 12) 0 12 e k (omega arith) (omega arith))
+    c (omega arith) (omega arith))
+
+-- A table that agrees with the lists up to type 11 and channel 11 agrees with them everywhere.
+table-agrees : (t : List ℕ) (name : Channel → List ℕ) → agree (entryAt t) (λ k c. num (nameIn name (numbered k c))) ≡ true
+    → (k c : ℕ) → entryAt t k c ≡ num (nameIn name (numbered k c))
+table-agrees t name e k c =
+    by-cases (decLe k 11)
+    (λ h. by-cases (decLe c 11)
+    (agree-at (entryAt t) (λ k c. num (nameIn name (numbered k c))) e k c h)
+    (λ g. sym (past-channels t k c (omega arith)) ∙ sym (none-past (λ o. num (nameIn name o)) refl k c (λ s. g (s .1)))))
+    (λ g. sym (past-types t k c (omega arith)) ∙ sym (none-past (λ o. num (nameIn name o)) refl k c (λ s. g (s .0))))
+
+-- The tables that the lists give.
+pub analysis-table : (k c : ℕ) → entryAt (tableOf (λ x. x .analysis)) k c ≡ analysisNumber (numbered k c)
+unfolding computing entryAt analysisNumber
+analysis-table = table-agrees (tableOf (λ x. x .analysis)) (λ x. x .analysis) refl
+
+pub cold-table : (k c : ℕ) → entryAt (tableOf (λ x. x .cold)) k c ≡ coldNumber (numbered k c)
+unfolding computing entryAt coldNumber
+cold-table = table-agrees (tableOf (λ x. x .cold)) (λ x. x .cold) refl

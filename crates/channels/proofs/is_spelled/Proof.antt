@@ -1,0 +1,69 @@
+-- `is_spelled` meets its contract. The loop's invariant: what is left of the number and of the name still decides.
+-- The measure is what is left of the name. Assumes nothing.
+use Prim.Native.Nat.{_≤_, _-_}
+use mathlib.Core.Path.{_≡_, refl, sym, _∙_}
+use native.Mathlib.Omega.{arith}
+use lib.ListN.{length, drop}
+use denote.Ref.{now}
+use borrow.Author.Needs.{needs}
+use Rattle.channels.specs.Tables.{areLetters}
+use Rattle.channels.proofs.NameLaws.{never-spelled, decides, at-end, no-letters, other-letter, next-letter}
+use Rattle.channels.proofs.is_spelled.Statement.{statement}
+use Rattle.channels.proofs.is_spelled.Tie as tie
+
+abbrev Inv-loop : tie.InvT-loop
+Inv-loop number name rest₀ i₀ rest i = (i ≤ length name) × (areLetters number name ≡ areLetters rest (drop i name))
+
+abbrev μ-loop : tie.MeasureT-loop
+μ-loop number name rest₀ i₀ rest i = length name - i
+
+returns : tie.Need-returns Inv-loop μ-loop
+returns c = never-spelled _ _ (c .if1 .taken)
+
+loop-holds : tie.Need-loop-holds Inv-loop μ-loop
+loop-holds c = (omega arith, refl)
+
+returns-2 : tie.Need-returns-2 Inv-loop μ-loop
+returns-2 c =
+    let a = c .before .before .before .before .before .args in let l = c .before .before .loop in decides (a .number) (l .rest) (now (a .name)) (l .i) _ (c .before .before .before .if1 .left) (l .inv .1) (no-letters (l .rest) (now (a .name)) (l .i) (omega arith) (c .if2 .taken))
+
+lowest-requires : tie.Need-lowest-requires Inv-loop μ-loop
+lowest-requires c κs = search needs
+
+shared-slice-read-if3 : tie.Need-shared-slice-read-if3 Inv-loop μ-loop
+shared-slice-read-if3 c = search needs
+
+returns-3 : tie.Need-returns-3 Inv-loop μ-loop
+returns-3 c =
+    let a = c .before .before .before .before .before .before .before .before .args in let l = c .before .before .before .before .before .loop in decides (a .number) (l .rest) (now (a .name)) (l .i) _ (c .before .before .before .before .before .before .if1 .left) (l .inv .1) (other-letter (l .rest) (now (a .name)) (l .i) (omega arith) (c .before .before .before .if2 .left) (λ e. c .if3 .taken (c .before .before .lowest .ensures ∙ e)))
+
+add-i : tie.Need-add-i Inv-loop μ-loop
+add-i c = search needs
+
+loop-less : tie.Need-loop-less Inv-loop μ-loop
+loop-less c = search needs
+
+loop-again : tie.Need-loop-again Inv-loop μ-loop
+loop-again c =
+    let a = c .before .before .before .before .before .before .before .before .args in let l = c .before .before .before .before .before .loop in (omega arith, l .inv .1 ∙ next-letter (l .rest) (now (a .name)) (l .i) (omega arith) (c .before .before .before .if2 .left) (sym (c .before .before .lowest .ensures) ∙ c .if3 .left))
+
+returns-4 : tie.Need-returns-4 Inv-loop μ-loop
+returns-4 c =
+    let a = c .before .before .before .before .args in let l = c .before .loop in decides (a .number) (l .rest) (now (a .name)) (l .i) _ (c .before .before .if1 .left) (l .inv .1) (at-end (l .rest) (now (a .name)) (l .i) (omega arith))
+
+pub is-spelled-spec : {M : Type 1} → statement M
+is-spelled-spec =
+    tie.close
+    (tie.spec
+    Inv-loop
+    μ-loop
+    returns
+    loop-holds
+    returns-2
+    lowest-requires
+    shared-slice-read-if3
+    returns-3
+    add-i
+    loop-less
+    loop-again
+    returns-4)

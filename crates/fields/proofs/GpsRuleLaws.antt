@@ -1,0 +1,27 @@
+-- The note's GPS rule in three parts: the length, the digits of its three words, its fields.
+-- The idea: the first fault of a list is the first fault of its parts' first faults.
+use Prim.Native.Nat.{ℕ, zero, suc}
+use mathlib.Core.Path.{_≡_, refl, sym}
+use mathlib.Core.List.{List, [], _∷_, _++_}
+use lib.Dec.{eqb}
+use lib.ListN.{length}
+use Rattle.theory.specs.Tests.{unless, first}
+use Rattle.note.specs.Words.{word}
+use Rattle.note.specs.Gps.{gpsOf, gpsFault, gpsRule}
+use Rattle.fields.specs.Digits.{gpsDigitsFault}
+
+first-of-part : (cs ds : List ℕ) → first (first cs ∷ ds) ≡ first (cs ++ ds)
+unfolding first
+first-of-part [] ds = refl
+first-of-part (zero ∷ cs) ds = first-of-part cs ds
+first-of-part (suc c ∷ cs) ds = refl
+
+pub first-of-parts : (b : ℕ) (cs ds : List ℕ) → first (b ∷ first cs ∷ ds) ≡ first (b ∷ (cs ++ ds))
+unfolding first
+first-of-parts zero cs ds = first-of-part cs ds
+first-of-parts (suc b) cs ds = refl
+
+pub gps-rule-in-parts : (b : List ℕ)
+    → gpsRule b ≡ first (unless (eqb (length b) 12) 6 ∷ gpsDigitsFault (word 0 b) (word 4 b) (word 8 b) ∷ gpsFault (gpsOf b) ∷ [])
+unfolding gpsRule gpsDigitsFault
+gps-rule-in-parts b = sym (first-of-parts _ _ _)

@@ -1,0 +1,186 @@
+// One record: what stands at the front of a part, in its context. Every loop over records takes this step.
+use rules::rule;
+use words::word_at;
+ghost use mathlib.Core.Path.{_≡_};
+ghost use lib.ListN.{length};
+ghost use Rattle.theory.specs.Tests.{among};
+ghost use Rattle.note.specs.Records.{entryKinds, recordKinds, event, none, isKind, isPlaced, isAllowed, behind, readRecord};
+ghost use Rattle.record.specs.Steps.{seenOf, contextOf, stepOf};
+
+/// Which kinds that occur at most once came before in an event.
+pub struct Seen {
+    pub administrative: bool,
+    pub history: bool,
+    pub gps: bool,
+    pub trigger: bool,
+    pub tlb: bool,
+}
+
+/// Where a record is read: as an entry of a configuration, in an event after what came before, or alone.
+pub enum Context {
+    Entry,
+    Event(Seen),
+    Alone,
+}
+
+/// What stands at the front of a part: a record's kind word and its body's length, or the refusal.
+pub enum Step {
+    Good { kind: u32, length: usize },
+    Bad { number: u32, place: usize },
+}
+
+/// An event before its first record.
+pub fn fresh() -> Context
+    ensures { λ r. ⌜ contextOf r ≡ event none ⌝ }
+{
+    Context::Event(Seen {
+        administrative: false,
+        history: false,
+        gps: false,
+        trigger: false,
+        tlb: false,
+    })
+}
+
+fn is_entry_kind(kind: u32) -> bool
+    ensures { λ r. ⌜ r ≡ among kind entryKinds ⌝ }
+{
+    match kind {
+        0x0001_0001 => true,
+        0x0001_0002 => true,
+        _ => false,
+    }
+}
+
+fn is_record_kind(kind: u32) -> bool
+    ensures { λ r. ⌜ r ≡ among kind recordKinds ⌝ }
+{
+    match kind {
+        0x02 => true,
+        0x11 => true,
+        0x21 => true,
+        0x60 => true,
+        0x80 => true,
+        0x81 => true,
+        _ => false,
+    }
+}
+
+// Whether a kind is allowed here.
+fn is_kind(context: Context, kind: u32) -> bool
+    ensures { λ r. ⌜ r ≡ isKind (contextOf context) kind ⌝ }
+{
+    match context {
+        Context::Entry => is_entry_kind(kind),
+        Context::Event(_) => is_record_kind(kind),
+        Context::Alone => {
+            if is_entry_kind(kind) {
+                return true;
+            }
+            is_record_kind(kind)
+        }
+    }
+}
+
+// Whether a record may stand after those that came before.
+fn is_placed(seen: Seen, kind: u32) -> bool
+    ensures { λ r. ⌜ r ≡ isPlaced (seenOf seen) kind ⌝ }
+{
+    if kind == 0x02 {
+        return !seen.administrative;
+    }
+    if !seen.administrative {
+        return false;
+    }
+    if kind == 0x21 {
+        return !seen.history;
+    }
+    if kind == 0x60 {
+        return !seen.gps;
+    }
+    if kind == 0x80 {
+        return !seen.trigger;
+    }
+    if kind == 0x81 {
+        return !seen.tlb;
+    }
+    true
+}
+
+fn is_allowed(context: Context, kind: u32) -> bool
+    ensures { λ r. ⌜ r ≡ isAllowed (contextOf context) kind ⌝ }
+{
+    match context {
+        Context::Entry => true,
+        Context::Event(seen) => is_placed(seen, kind),
+        Context::Alone => true,
+    }
+}
+
+// What came before, with one record more.
+fn noted(seen: Seen, kind: u32) -> Seen
+    ensures { λ r. ⌜ seenOf r ≡ Rattle.note.specs.Records.noted (seenOf seen) kind ⌝ }
+{
+    let mut next = seen;
+    match kind {
+        0x02 => next.administrative = true,
+        0x21 => next.history = true,
+        0x60 => next.gps = true,
+        0x80 => next.trigger = true,
+        0x81 => next.tlb = true,
+        _ => {}
+    }
+    next
+}
+
+/// The context behind a record of that kind.
+pub fn next_context(context: Context, kind: u32) -> Context
+    ensures { λ r. ⌜ contextOf r ≡ behind (contextOf context) kind ⌝ }
+{
+    match context {
+        Context::Entry => Context::Entry,
+        Context::Event(seen) => Context::Event(noted(seen, kind)),
+        Context::Alone => Context::Alone,
+    }
+}
+
+/// The record at the front of a part, whose first byte stands at the place `at`.
+pub fn record_in(part: &[u8], at: usize, context: Context) -> Step
+    ensures { λ r. ⌜ r ≡ stepOf (readRecord (contextOf context) at (now (part .entry))) ⌝ }
+{
+    let room = part.len();
+    if room < 8 {
+        return Step::Bad {
+            number: 2,
+            place: at,
+        };
+    }
+    let kind = word_at(part, 0);
+    if !is_kind(context, kind) {
+        return Step::Bad {
+            number: 5,
+            place: at,
+        };
+    }
+    let length = word_at(part, 4) as usize;
+    if room - 8 < length {
+        return Step::Bad {
+            number: 2,
+            place: at,
+        };
+    }
+    if !is_allowed(context, kind) {
+        return Step::Bad {
+            number: 9,
+            place: at,
+        };
+    }
+    let fault = rule(kind, &part[8..8 + length]);
+    if fault != 0 {
+        return Step::Bad {
+            number: fault,
+            place: at,
+        };
+    }
+    Step::Good { kind, length }
+}

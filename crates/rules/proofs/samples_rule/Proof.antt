@@ -1,0 +1,82 @@
+use borrow.Author.Tests.{eq-eqb, ne-eqb}
+use Rattle.theory.specs.Tests.{first}
+use Rattle.theory.proofs.TestLaws.{positive}
+use Rattle.note.specs.Trace.{samplesRule}
+use borrow.Author.Needs.{needs}
+use Rattle.rules.proofs.samples_rule.Statement.{statement}
+use Rattle.rules.proofs.samples_rule.Tie as tie
+use Rattle.rules.proofs.samples_rule.Reads as reads
+use Rattle.rules.proofs.samples_rule.Lts as lts
+use Rattle.fields.proofs.count_fault.Reads as count-fault-reads
+use Rattle.words.proofs.word_at.Reads as word-at-reads
+
+-- src/lib.rt:66:8
+word-at-requires : tie.Need-word-at-requires
+word-at-requires c κs = search needs
+
+-- src/lib.rt:67:9
+returns : tie.Need-returns
+unfolding samplesRule first
+returns c = rw (← c .before .word-at .ensures, ne-eqb _ _ (c .if1 .taken))
+
+-- src/lib.rt:69:9
+word-at-requires-2 : tie.Need-word-at-requires-2
+word-at-requires-2 c κs = search needs
+
+-- src/lib.rt:70:9
+count-fault-requires : tie.Need-count-fault-requires
+count-fault-requires c κs = search needs
+
+-- src/lib.rt:72:9
+returns-2 : tie.Need-returns-2
+unfolding samplesRule first
+returns-2 c = rw (
+  ← c .before .before .before .before .word-at .ensures,
+  eq-eqb _ _ (c .before .before .before .if1 .left),
+  ← c .before .before .word-at2 .ensures,
+  ← c .before .count-fault .ensures,
+  positive (c .before .count-fault .result) (c .if2 .taken),
+)
+
+-- src/lib.rt:74:8
+word-at-requires-3 : tie.Need-word-at-requires-3
+word-at-requires-3 c κs = search needs
+
+-- src/lib.rt:75:9
+returns-3 : tie.Need-returns-3
+unfolding samplesRule first
+returns-3 c = rw (
+  ← c .before .before .before .before .before .before .word-at .ensures,
+  eq-eqb _ _ (c .before .before .before .before .before .if1 .left),
+  ← c .before .before .before .before .word-at2 .ensures,
+  ← c .before .before .before .count-fault .ensures,
+  c .before .before .if2 .left,
+  ← c .before .word-at3 .ensures,
+  ne-eqb _ _ (c .if3 .taken),
+)
+
+-- src/lib.rt:62:1
+returns-4 : tie.Need-returns-4
+unfolding samplesRule first
+returns-4 c = rw (
+  ← c .before .before .before .before .before .before .word-at .ensures,
+  eq-eqb _ _ (c .before .before .before .before .before .if1 .left),
+  ← c .before .before .before .before .word-at2 .ensures,
+  ← c .before .before .before .count-fault .ensures,
+  c .before .before .if2 .left,
+  ← c .before .word-at3 .ensures,
+  eq-eqb _ _ (c .if3 .left),
+)
+
+pub samples-rule-spec : {M : Type 1} → statement M
+samples-rule-spec =
+    tie.close
+    (tie.spec
+    word-at-requires
+    returns
+    word-at-requires-2
+    count-fault-requires
+    returns-2
+    word-at-requires-3
+    returns-3
+    returns-4)

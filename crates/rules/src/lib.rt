@@ -1,0 +1,314 @@
+// The rules of the eight kinds: 0, or the number of the first test that fails, in document 01's order. Each takes a body's bytes.
+use channels::is_charge;
+use channels::is_named;
+use channels::is_phonon;
+use fields::administrative_fault;
+use fields::count_fault;
+use fields::decimal;
+use fields::gps_digits_fault;
+use fields::gps_fault;
+use fields::is_width;
+use fields::tlb_fault;
+use words::word_at;
+ghost use mathlib.Core.Path.{_≡_};
+ghost use Prim.Native.Nat.{_+_, _≤_, _<_};
+ghost use lib.ListN.{length};
+ghost use Rattle.note.specs.Phonon.{phononFault, phononRule};
+ghost use Rattle.note.specs.Charge.{chargeFault, chargeRule};
+ghost use Rattle.note.specs.Administrative.{administrativeRule};
+ghost use Rattle.note.specs.Trace.{bookkeepingRule, timebaseRule, samplesRule, traceRule};
+ghost use Rattle.note.specs.History.{widthAt, widthOf, after, sectionRule, historyRule};
+ghost use Rattle.note.specs.Gps.{gpsRule};
+ghost use Rattle.note.specs.Trigger.{triggerRule};
+ghost use Rattle.note.specs.Tlb.{tlbRule};
+ghost use Rattle.note.specs.Records.{recordRule};
+
+/// The kind words.
+pub const PHONON: u32 = 0x0001_0001;
+
+pub const CHARGE: u32 = 0x0001_0002;
+
+pub const ADMINISTRATIVE: u32 = 0x02;
+
+pub const TRACE: u32 = 0x11;
+
+pub const HISTORY: u32 = 0x21;
+
+pub const GPS: u32 = 0x60;
+
+pub const TRIGGER: u32 = 0x80;
+
+pub const TLB: u32 = 0x81;
+
+/// The fault of a phonon entry's code.
+pub fn phonon_fault(code: u32) -> u32
+    ensures { λ r. ⌜ r ≡ phononFault code ⌝ }
+{
+    if !is_phonon(code) {
+        return 10;
+    }
+    0
+}
+
+/// The fault of a charge entry's code.
+pub fn charge_fault(code: u32) -> u32
+    ensures { λ r. ⌜ r ≡ chargeFault code ⌝ }
+{
+    if !is_charge(code) {
+        return 10;
+    }
+    0
+}
+
+/// A phonon entry's rule.
+pub fn phonon_rule(b: &[u8]) -> u32
+    ensures { λ r. ⌜ r ≡ phononRule (now (b .entry)) ⌝ }
+{
+    if b.len() != 44 {
+        return 6;
+    }
+    phonon_fault(word_at(b, 0))
+}
+
+/// A charge entry's rule.
+pub fn charge_rule(b: &[u8]) -> u32
+    ensures { λ r. ⌜ r ≡ chargeRule (now (b .entry)) ⌝ }
+{
+    if b.len() != 32 {
+        return 6;
+    }
+    charge_fault(word_at(b, 0))
+}
+
+/// An administrative record's rule.
+pub fn administrative_rule(b: &[u8]) -> u32
+    ensures { λ r. ⌜ r ≡ administrativeRule (now (b .entry)) ⌝ }
+{
+    if b.len() != 24 {
+        return 6;
+    }
+    administrative_fault(word_at(b, 0), word_at(b, 4))
+}
+
+// A trace's first inner block: bookkeeping.
+fn bookkeeping_rule(b: &[u8]) -> u32
+    requires { ⌜ 48 ≤ length (now b) ⌝ }
+    ensures { λ r. ⌜ r ≡ bookkeepingRule (now (b .entry)) ⌝ }
+{
+    if word_at(b, 0) != 0x11 {
+        return 5;
+    }
+    if word_at(b, 4) != 12 {
+        return 6;
+    }
+    let channel = word_at(b, 12);
+    if channel < 1 {
+        return 10;
+    }
+    if 8 < channel {
+        return 10;
+    }
+    if !is_named(word_at(b, 16)) {
+        return 10;
+    }
+    0
+}
+
+// Its second: the timebase.
+fn timebase_rule(b: &[u8]) -> u32
+    requires { ⌜ 48 ≤ length (now b) ⌝ }
+    ensures { λ r. ⌜ r ≡ timebaseRule (now (b .entry)) ⌝ }
+{
+    if word_at(b, 20) != 0x12 {
+        return 5;
+    }
+    if word_at(b, 24) != 12 {
+        return 6;
+    }
+    if word_at(b, 32) < 1 {
+        return 10;
+    }
+    0
+}
+
+// Its third: the samples' count, the same as the first.
+fn samples_rule(b: &[u8]) -> u32
+    requires { ⌜ 48 ≤ length (now b) ⌝ }
+    ensures { λ r. ⌜ r ≡ samplesRule (now (b .entry)) ⌝ }
+{
+    if word_at(b, 40) != 0x13 {
+        return 5;
+    }
+    let n = word_at(b, 44);
+    let fault = count_fault(n);
+    if fault != 0 {
+        return fault;
+    }
+    if word_at(b, 36) != n {
+        return 11;
+    }
+    0
+}
+
+/// A trace's rule: it reads the first 48 bytes and no sample.
+pub fn trace_rule(b: &[u8]) -> u32
+    ensures { λ r. ⌜ r ≡ traceRule (now (b .entry)) ⌝ }
+{
+    if b.len() < 48 {
+        return 6;
+    }
+    let bookkeeping = bookkeeping_rule(b);
+    if bookkeeping != 0 {
+        return bookkeeping;
+    }
+    let timebase = timebase_rule(b);
+    if timebase != 0 {
+        return timebase;
+    }
+    let samples = samples_rule(b);
+    if samples != 0 {
+        return samples;
+    }
+    if b.len() != 48 + 2 * word_at(b, 44) as usize {
+        return 6;
+    }
+    0
+}
+
+// A history section's rule, its count standing at place p.
+fn section_rule(trigger: bool, p: usize, b: &[u8]) -> u32
+    requires { ⌜ (p ≤ 0x7FFFFFFFFFFFFFFF) × (length (now b) < 0x100000000) ⌝ }
+    ensures { λ r. ⌜ r ≡ sectionRule trigger p (now (b .entry)) ⌝ }
+{
+    let room = b.len();
+    if room < p + 4 {
+        return 6;
+    }
+    let times = word_at(b, p);
+    if 0x7FFF_FFFF < times {
+        return 10;
+    }
+    let q = p + 4 + 4 * times as usize;
+    if room < q + 4 {
+        return 6;
+    }
+    let width = word_at(b, q);
+    if 0x7FFF_FFFF < width {
+        return 10;
+    }
+    if !is_width(trigger, times, width) {
+        return 10;
+    }
+    0
+}
+
+/// Where a section that follows its rule ends.
+pub fn section_end(p: usize, b: &[u8]) -> usize
+    requires { ⌜ (widthAt p (now b) + 4 ≤ length (now b)) × (widthOf p (now b) ≤ 0x7FFFFFFF) × (length (now b) < 0x100000000) ⌝ }
+    ensures { λ r. ⌜ r ≡ after p (now (b .entry)) ⌝ }
+{
+    let n = word_at(b, p) as usize;
+    let q = p + 4 + 4 * n;
+    let w = word_at(b, q) as usize;
+    q + 4 + 4 * (n * w)
+}
+
+/// A history's rule.
+pub fn history_rule(b: &[u8]) -> u32
+    requires { ⌜ length (now b) < 0x100000000 ⌝ }
+    ensures { λ r. ⌜ r ≡ historyRule (now (b .entry)) ⌝ }
+{
+    let room = b.len();
+    if room < 16 {
+        return 6;
+    }
+    if room % 4 != 0 {
+        return 6;
+    }
+    let veto = section_rule(false, 0, b);
+    if veto != 0 {
+        return veto;
+    }
+    let middle = section_end(0, b);
+    let trigger = section_rule(true, middle, b);
+    if trigger != 0 {
+        return trigger;
+    }
+    if room != section_end(middle, b) {
+        return 6;
+    }
+    0
+}
+
+/// A GPS record's rule.
+pub fn gps_rule(b: &[u8]) -> u32
+    ensures { λ r. ⌜ r ≡ gpsRule (now (b .entry)) ⌝ }
+{
+    if b.len() != 12 {
+        return 6;
+    }
+    let date = word_at(b, 0);
+    let clock = word_at(b, 4);
+    let tenths = word_at(b, 8);
+    let digits = gps_digits_fault(date, clock, tenths);
+    if digits != 0 {
+        return digits;
+    }
+    gps_fault(
+        decimal(4, date >> 16),
+        decimal(4, date),
+        clock >> 28,
+        decimal(2, clock >> 16),
+        decimal(2, clock >> 8),
+        decimal(2, clock),
+        decimal(8, tenths),
+    )
+}
+
+/// A trigger record's rule.
+pub fn trigger_rule(b: &[u8]) -> u32
+    ensures { λ r. ⌜ r ≡ triggerRule (now (b .entry)) ⌝ }
+{
+    if b.len() != 28 {
+        return 6;
+    }
+    if word_at(b, 0) != 0 {
+        return 10;
+    }
+    0
+}
+
+/// A TLB mask's rule.
+pub fn tlb_rule(b: &[u8]) -> u32
+    ensures { λ r. ⌜ r ≡ tlbRule (now (b .entry)) ⌝ }
+{
+    if b.len() != 24 {
+        return 6;
+    }
+    tlb_fault(
+        word_at(b, 0),
+        word_at(b, 4),
+        word_at(b, 8),
+        word_at(b, 12),
+        word_at(b, 16),
+        word_at(b, 20),
+    )
+}
+
+/// The rule of a kind word's kind; 5 for a word that names none.
+pub fn rule(kind: u32, b: &[u8]) -> u32
+    requires { ⌜ length (now b) < 0x100000000 ⌝ }
+    ensures { λ r. ⌜ r ≡ recordRule kind (now (b .entry)) ⌝ }
+{
+    match kind {
+        0x0001_0001 => phonon_rule(b),
+        0x0001_0002 => charge_rule(b),
+        0x02 => administrative_rule(b),
+        0x11 => trace_rule(b),
+        0x21 => history_rule(b),
+        0x60 => gps_rule(b),
+        0x80 => trigger_rule(b),
+        0x81 => tlb_rule(b),
+        _ => 5,
+    }
+}
