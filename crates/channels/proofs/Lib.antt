@@ -1,4 +1,4 @@
 pub mod TableLaws
 pub mod NameLaws
 pub mod SearchLaws
-pub mod SortLaws
+pub mod GroupLaws

@@ -1,24 +1,22 @@
 -- Names as numbers: a listed name has one to four letters and none is 0, so its number gives back its letters, its size and no other name.
 -- The idea: a letter below 256 in front of a number is split off again by the remainder, and the rest by the quotient.
-use Prim.Native.Nat.{ℕ, zero, suc, _+_, _*_, _/_, _%_, _≤_, _<_}
-use mathlib.Core.Path.{_≡_, refl, sym, ap, _∙_}
-use mathlib.Core.Bool.{Bool, true, false, not, _&&_, false≢true}
+use Prim.Native.Nat.{ℕ, suc, _+_, _*_, _/_, _%_, _≤_, _<_}
+use mathlib.Core.Path.{_≡_, refl, sym, _∙_}
+use mathlib.Core.Bool.{Bool, false}
 use mathlib.Core.List.{List, [], _∷_, _++_}
 use mathlib.Core.Option.{Option, some, none}
 use native.Mathlib.Numerals.{add-one}
 use native.Mathlib.Omega.{arith}
 use native.Mathlib.Nat.{zero-add}
-use lib.Dec.{leb, ltb, eqb}
+use lib.Dec.{eqb}
 use lib.ListN.{length, getD, drop, drop-of-length-le}
 use lib.Seq.{drop-cons}
-use borrow.Author.Tests.{lt-ltb, le-ltb, le-leb, lt-leb, eq-eqb, ne-eqb}
+use borrow.Author.Tests.{lt-ltb, le-ltb, eq-eqb, ne-eqb}
 use Rattle.theory.specs.Words.{num, bytes}
-use Rattle.note.specs.Answers.{givenCode}
-use Rattle.note.specs.Channels.{Channel, same, nameOf, numbered, called, channelOf, typeOf, detectorOf, channelNumber, channelGiven, channelAnswer, codeFrom, codeGiven, codeAnswer}
+use Rattle.note.specs.Channels.{Channel, same, nameOf, channelOf, typeOf, detectorOf, channelNumber, channelGiven, channelAnswer}
 use Rattle.note.specs.declared.ChannelAnswer.{ChannelAnswer}
-use Rattle.note.specs.declared.CodeAnswer.the-variants.{Code, Refused}
-use Rattle.note.proofs.ChannelLaws.{Short, names-fit, number-small, same-equal, number-leads, name-leads}
-use Rattle.channels.specs.Tables.{nameIn, analysisNumber, coldNumber, sizeOf, nameOfNumber, areLetters, isSpelled, channelOr, channelCalled}
+use Rattle.note.proofs.ChannelLaws.{Short, names-fit}
+use Rattle.channels.specs.Tables.{analysisNumber, coldNumber, sizeOf, nameOfNumber, areLetters, isSpelled}
 
 -- Every letter is from 1 to 127.
 abbrev Letters : List ℕ → Type 0
@@ -65,13 +63,25 @@ padded-back w (x ∷ name) h =
     let s : length (x ∷ name) + w ≡ suc (length name + w) = omega arith in
     rw s (letter-off (length name + w) (num name) x (h 0 (omega arith) .1) ∙ rw (padded-back w name (rest-letters x name h)))
 
-name-back : (name : List ℕ) → Short name → nameOfNumber (num name) ≡ nameOf name
+-- A listed name's number gives back the name.
+name-back : (name : List ℕ) → Short name → nameOf name ≡ nameOfNumber (num name)
 unfolding bytes
 name-back [] (s, h) = absurd (omega arith)
-name-back (a ∷ []) (s, h) = sym (name-made _ _ _ (sym (padded-back 3 (a ∷ []) h)) (one-letter _ (omega (arith, h 0 (omega arith)))))
-name-back (a ∷ b ∷ []) (s, h) = sym (name-made _ _ _ (sym (padded-back 2 (a ∷ b ∷ []) h)) (two-letters _ (omega (arith, h 1 (omega arith))) (omega (arith, h 0 (omega arith), h 1 (omega arith)))))
-name-back (a ∷ b ∷ c ∷ []) (s, h) = sym (name-made _ _ _ (sym (padded-back 1 (a ∷ b ∷ c ∷ []) h)) (three-letters _ (omega (arith, h 2 (omega arith))) (omega (arith, h 0 (omega arith), h 1 (omega arith), h 2 (omega arith)))))
-name-back (a ∷ b ∷ c ∷ d ∷ []) (s, h) = sym (name-made _ _ _ (sym (padded-back 0 (a ∷ b ∷ c ∷ d ∷ []) h)) (four-letters _ (omega (arith, h 3 (omega arith)))))
+name-back (a ∷ []) (s, h) =
+    let p = h 0 (omega arith) in
+    name-made _ _ _ (sym (padded-back 3 (a ∷ []) h)) (one-letter _ (omega arith))
+name-back (a ∷ b ∷ []) (s, h) =
+    let p = h 0 (omega arith) in
+    let q = h 1 (omega arith) in
+    name-made _ _ _ (sym (padded-back 2 (a ∷ b ∷ []) h)) (two-letters _ (omega arith) (omega arith))
+name-back (a ∷ b ∷ c ∷ []) (s, h) =
+    let p = h 0 (omega arith) in
+    let q = h 1 (omega arith) in
+    let r = h 2 (omega arith) in
+    name-made _ _ _ (sym (padded-back 1 (a ∷ b ∷ c ∷ []) h)) (three-letters _ (omega arith) (omega arith))
+name-back (a ∷ b ∷ c ∷ d ∷ []) (s, h) =
+    let t = h 3 (omega arith) in
+    name-made _ _ _ (sym (padded-back 0 (a ∷ b ∷ c ∷ d ∷ []) h)) (four-letters _ (omega arith))
 name-back (a ∷ b ∷ c ∷ d ∷ e ∷ name) (s, h) = absurd (omega arith)
 
 -- ---- what a channel's answer holds
@@ -80,24 +90,34 @@ some-letter : (name : List ℕ) → Short name → num name ≡ 0 → ⊥
 some-letter [] (s, h) e = omega arith
 some-letter (x ∷ name) (s, h) e = omega (arith, h 0 (omega arith))
 
-pub unlisted : (w : ℕ) → analysisNumber (channelOf w) ≡ 0
-    → record { number = 10; place = 0; kind = 0; detector = 0; analysis = nameOf []; cold = nameOf [] } ≡ channelAnswer w
+pub unlisted : (w : ℕ) → analysisNumber (channelOf w) ≡ 0 → channelGiven w none ≡ channelAnswer w
 unfolding analysisNumber channelAnswer
 unlisted w e = go (channelOf w) refl e
   where
-    go : (o : Option Channel) → channelOf w ≡ o → num (nameIn (λ x. x .analysis) o) ≡ 0 → channelGiven w none ≡ channelGiven w o
+    go : (o : Option Channel) → channelOf w ≡ o → analysisNumber o ≡ 0 → channelGiven w none ≡ channelGiven w o
     go none q e = refl
     go (some x) q e = absurd (some-letter (x .analysis) (names-fit (typeOf w) (channelNumber w) x q .0) e)
 
-pub listed : (w : ℕ) → (analysisNumber (channelOf w) ≡ 0 → ⊥)
-    → record { number = 0; place = 0; kind = typeOf w; detector = detectorOf w; analysis = nameOfNumber (analysisNumber (channelOf w)); cold = nameOfNumber (coldNumber (channelOf w)) } ≡ channelAnswer w
+-- The answer that names as numbers give.
+abbrev pub answerOf : ℕ → Option Channel → ChannelAnswer
+answerOf w o = record {
+  number = 0;
+  place = 0;
+  kind = typeOf w;
+  detector = detectorOf w;
+  analysis = nameOfNumber (analysisNumber o);
+  cold = nameOfNumber (coldNumber o);
+}
+
+pub listed : (w : ℕ) → (analysisNumber (channelOf w) ≡ 0 → ⊥) → answerOf w (channelOf w) ≡ channelAnswer w
 unfolding analysisNumber coldNumber channelAnswer
 listed w n = go (channelOf w) refl n
   where
-    go : (o : Option Channel) → channelOf w ≡ o → (num (nameIn (λ x. x .analysis) o) ≡ 0 → ⊥)
-        → _≡_ {A = ChannelAnswer} (record { number = 0; place = 0; kind = typeOf w; detector = detectorOf w; analysis = nameOfNumber (num (nameIn (λ x. x .analysis) o)); cold = nameOfNumber (num (nameIn (λ x. x .cold) o)) }) (channelGiven w o)
+    go : (o : Option Channel) → channelOf w ≡ o → (analysisNumber o ≡ 0 → ⊥) → answerOf w o ≡ channelGiven w o
     go none q n = absurd (n refl)
-    go (some x) q n = let (a, b) = names-fit (typeOf w) (channelNumber w) x q in rw (name-back (x .analysis) a, name-back (x .cold) b)
+    go (some x) q n =
+        let (a, b) = names-fit (typeOf w) (channelNumber w) x q in
+        rw (name-back (x .analysis) a, name-back (x .cold) b)
 
 -- ---- whether bytes are a name
 

@@ -6,14 +6,12 @@ use mathlib.Core.Bool.{Bool, true, false, false≢true}
 use mathlib.Core.List.{List, [], _∷_}
 use mathlib.Core.Option.{Option, some, none}
 use native.Mathlib.Omega.{arith}
-use lib.Dec.{leb, eqb}
 use borrow.Author.Tests.{le-leb, lt-leb, eq-eqb}
-use Rattle.theory.specs.Words.{num}
 use Rattle.note.specs.Answers.{givenCode}
 use Rattle.note.specs.Channels.{Channel, same, numbered, called, codeGiven, codeAnswer}
 use Rattle.note.specs.declared.CodeAnswer.the-variants.{Code, Refused}
 use Rattle.note.proofs.ChannelLaws.{names-fit, number-small, same-equal, number-leads, name-leads}
-use Rattle.channels.specs.Tables.{nameIn, analysisNumber, isSpelled, channelOr, channelCalled}
+use Rattle.channels.specs.Tables.{analysisNumber, isSpelled, channelOr, channelCalled}
 use Rattle.channels.proofs.NameLaws.{spelled-same, never-spelled}
 
 same-as-itself : (a : List ℕ) → same a a ≡ true

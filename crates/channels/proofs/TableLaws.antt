@@ -3,32 +3,32 @@
 use Prim.Native.Nat.{ℕ, _+_, _*_, _<_, _≤_}
 use mathlib.Core.Path.{_≡_, refl, sym, _∙_}
 use mathlib.Core.Logic.{by-cases}
-use mathlib.Core.Bool.{Bool, true, false, _&&_}
-use mathlib.Core.List.{List, [], _∷_}
+use mathlib.Core.Bool.{Bool, true}
+use mathlib.Core.List.{List}
 use mathlib.Core.Option.{Option, some, none}
 use native.Mathlib.Omega.{arith}
 use native.Mathlib.Decide.{decLe}
-use lib.Dec.{eqb, leb}
+use lib.Dec.{eqb}
 use borrow.Author.Tests.{le-leb, lt-leb, eqb-true}
 use Rattle.theory.specs.Words.{num}
 use Rattle.note.specs.Channels.{Channel, numbered}
 use Rattle.note.proofs.ChannelLaws.{number-small}
 use Rattle.note.proofs.Computing.{computing}
 use Rattle.note.proofs.Sweep.{all, all-at}
-use Rattle.channels.specs.Tables.{lettersAt, entryAt, nameIn, tableOf, analysisNumber, coldNumber}
+use Rattle.channels.specs.Tables.{lettersAt, lookedUp, nameIn, tableOf, analysisNumber, coldNumber}
 
--- ---- a table's entry
+-- ---- looking a name up
 
-pub past-types : (t : List ℕ) (k c : ℕ) → 11 < k → 0 ≡ entryAt t k c
-unfolding entryAt
+pub past-types : (t : List ℕ) (k c : ℕ) → 11 < k → 0 ≡ lookedUp t k c
+unfolding lookedUp
 past-types t k c h = rw (lt-leb k 11 h)
 
-pub past-channels : (t : List ℕ) (k c : ℕ) → 11 < c → 0 ≡ entryAt t k c
-unfolding entryAt
+pub past-channels : (t : List ℕ) (k c : ℕ) → 11 < c → 0 ≡ lookedUp t k c
+unfolding lookedUp
 past-channels t k c h = by-cases (decLe k 11) (λ l. rw (le-leb k 11 l, lt-leb c 11 h)) (λ g. rw (lt-leb k 11 (omega arith)))
 
-pub in-table : (t : List ℕ) (k c : ℕ) → k ≤ 11 → c ≤ 11 → num (lettersAt t (k * 48 + c * 4)) ≡ entryAt t k c
-unfolding entryAt
+pub in-table : (t : List ℕ) (k c : ℕ) → k ≤ 11 → c ≤ 11 → num (lettersAt t (k * 48 + c * 4)) ≡ lookedUp t k c
+unfolding lookedUp
 in-table t k c h g = rw (le-leb k 11 h, le-leb c 11 g)
 
 -- ---- what is listed
@@ -53,20 +53,20 @@ agree-at f g e k c h l =
     c (omega arith) (omega arith))
 
 -- A table that agrees with the lists up to type 11 and channel 11 agrees with them everywhere.
-table-agrees : (t : List ℕ) (name : Channel → List ℕ) → agree (entryAt t) (λ k c. num (nameIn name (numbered k c))) ≡ true
-    → (k c : ℕ) → entryAt t k c ≡ num (nameIn name (numbered k c))
+table-agrees : (t : List ℕ) (name : Channel → List ℕ) → agree (lookedUp t) (λ k c. num (nameIn name (numbered k c))) ≡ true
+    → (k c : ℕ) → lookedUp t k c ≡ num (nameIn name (numbered k c))
 table-agrees t name e k c =
     by-cases (decLe k 11)
     (λ h. by-cases (decLe c 11)
-    (agree-at (entryAt t) (λ k c. num (nameIn name (numbered k c))) e k c h)
+    (agree-at (lookedUp t) (λ k c. num (nameIn name (numbered k c))) e k c h)
     (λ g. sym (past-channels t k c (omega arith)) ∙ sym (none-past (λ o. num (nameIn name o)) refl k c (λ s. g (s .1)))))
     (λ g. sym (past-types t k c (omega arith)) ∙ sym (none-past (λ o. num (nameIn name o)) refl k c (λ s. g (s .0))))
 
 -- The tables that the lists give.
-pub analysis-table : (k c : ℕ) → entryAt (tableOf (λ x. x .analysis)) k c ≡ analysisNumber (numbered k c)
-unfolding computing entryAt analysisNumber
+pub analysis-table : (k c : ℕ) → lookedUp (tableOf (λ x. x .analysis)) k c ≡ analysisNumber (numbered k c)
+unfolding computing lookedUp analysisNumber
 analysis-table = table-agrees (tableOf (λ x. x .analysis)) (λ x. x .analysis) refl
 
-pub cold-table : (k c : ℕ) → entryAt (tableOf (λ x. x .cold)) k c ≡ coldNumber (numbered k c)
-unfolding computing entryAt coldNumber
+pub cold-table : (k c : ℕ) → lookedUp (tableOf (λ x. x .cold)) k c ≡ coldNumber (numbered k c)
+unfolding computing lookedUp coldNumber
 cold-table = table-agrees (tableOf (λ x. x .cold)) (λ x. x .cold) refl

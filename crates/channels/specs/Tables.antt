@@ -1,7 +1,7 @@
 -- How the code holds the lists of document 01: names as numbers, tables of letters, a type's channels as hex digits.
--- Holds the definitions alone; that they say what the lists say is in proofs/TableLaws.antt, NameLaws.antt and SortLaws.antt.
+-- Holds the definitions alone; that they say what the lists say is in proofs/: TableLaws, NameLaws, GroupLaws.
 use Prim.Native.Nat.{ℕ, zero, suc, _+_, _*_, _/_, _%_}
-use mathlib.Core.Bool.{Bool, true, false, cond, not, _&&_}
+use mathlib.Core.Bool.{Bool, cond, not, _&&_}
 use mathlib.Core.List.{List, [], _∷_, _++_, map}
 use mathlib.Core.Option.{Option, some, none}
 use lib.Dec.{leb, ltb, eqb}
@@ -48,8 +48,8 @@ undotted b = cond (eqb b 46) 0 b
 abbrev pub lettersAt : List ℕ → ℕ → List ℕ
 lettersAt t p = undotted (getD t p 0) ∷ undotted (getD t (p + 1) 0) ∷ undotted (getD t (p + 2) 0) ∷ undotted (getD t (p + 3) 0) ∷ []
 
-unfoldable pub entryAt : List ℕ → ℕ → ℕ → ℕ
-entryAt t kind c = cond (leb kind 11 && leb c 11) (num (lettersAt t (kind * 48 + c * 4))) 0
+unfoldable pub lookedUp : List ℕ → ℕ → ℕ → ℕ
+lookedUp t kind c = cond (leb kind 11 && leb c 11) (num (lettersAt t (kind * 48 + c * 4))) 0
 
 -- The name that a number other than 0 stands for: its letters, and how many they are.
 unfoldable pub sizeOf : ℕ → ℕ
@@ -74,17 +74,17 @@ channelOr n (some x) = x .channel
 unfoldable pub channelCalled : ℕ → List ℕ → ℕ
 channelCalled kind name = channelOr 12 (called kind name)
 
--- ---- sorts of channels as hex digits
+-- ---- groups of channels as hex digits
 
--- The sort of the channel that is listed: 1 charge, 2 phonon, 3 the veto; 0 where none is.
-unfoldable pub sortOf : Option Channel → ℕ
-sortOf none = 0
-sortOf (some x) = cond (beginsWith "Q" (some x)) 1 (cond (beginsWith "P" (some x)) 2 3)
+-- The group of the channel that is listed: 1 charge, 2 phonon, 3 the veto; 0 where none is.
+unfoldable pub groupOf : Option Channel → ℕ
+groupOf none = 0
+groupOf (some x) = cond (beginsWith "Q" (some x)) 1 (cond (beginsWith "P" (some x)) 2 3)
 
--- The sorts of a type's n channels from c on, a hex digit for each, the first lowest; of all its channels.
-abbrev pub sortsFrom : ℕ → ℕ → ℕ → ℕ
-sortsFrom kind zero c = 0
-sortsFrom kind (suc n) c = sortOf (numbered kind c) + 16 * sortsFrom kind n (suc c)
+-- The groups of a type's n channels from c on, a hex digit for each, the first lowest; of all its channels.
+abbrev pub groupsFrom : ℕ → ℕ → ℕ → ℕ
+groupsFrom kind zero c = 0
+groupsFrom kind (suc n) c = groupOf (numbered kind c) + 16 * groupsFrom kind n (suc c)
 
-unfoldable pub sortsOf : ℕ → ℕ
-sortsOf kind = sortsFrom kind 12 0
+unfoldable pub groupsOf : ℕ → ℕ
+groupsOf kind = groupsFrom kind 12 0

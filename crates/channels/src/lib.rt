@@ -8,7 +8,7 @@ ghost use Prim.Native.Nat.{_%_};
 ghost use Rattle.theory.specs.Words.{num};
 ghost use Rattle.note.specs.Answers.{givenCode};
 ghost use Rattle.note.specs.Channels.{channelAnswer, codeAnswer, named, phononNamed, chargeNamed, numbered, channelOf};
-ghost use Rattle.channels.specs.Tables.{undotted, entryAt, analysisNumber, coldNumber, sizeOf, nameOfNumber, isSpelled, channelCalled, sortsOf, sortOf};
+ghost use Rattle.channels.specs.Tables.{undotted, lookedUp, analysisNumber, coldNumber, sizeOf, nameOfNumber, isSpelled, channelCalled, groupsOf, groupOf};
 
 // The analysis names: a row for each detector type, four letters for each channel, dots for what is not there.
 const ANALYSIS: [u8; 576] = *b"\
@@ -40,7 +40,10 @@ Q...PA..PB......................................\
 QIS1QOS1A1..B1..C1..D1..QIS2QOS2A2..B2..C2..D2..\
 QIS1QOS1A1..B1..C1..D1..QIS2QOS2A2..B2..C2..D2..";
 
-// The sorts of channels, as hex digits.
+// The refusal of a code or a name that no list has.
+const NOT_LISTED: u32 = 10;
+
+// The groups of channels, as hex digits.
 const CHARGE: u64 = 1;
 
 const PHONON: u64 = 2;
@@ -63,8 +66,8 @@ fn joined(a: u8, b: u8, c: u8, d: u8) -> u32
 }
 
 // The name that a table has for a type's channel, as a number; 0 where it has none.
-fn entry(table: &[u8; 576], kind: u32, channel: u32) -> u32
-    ensures { λ r. ⌜ r ≡ entryAt (now (table .entry)) kind channel ⌝ }
+fn look_up(table: &[u8; 576], kind: u32, channel: u32) -> u32
+    ensures { λ r. ⌜ r ≡ lookedUp (now (table .entry)) kind channel ⌝ }
 {
     if kind > 11 {
         return 0;
@@ -85,14 +88,14 @@ fn entry(table: &[u8; 576], kind: u32, channel: u32) -> u32
 fn analysis_name(kind: u32, channel: u32) -> u32
     ensures { λ r. ⌜ r ≡ analysisNumber (numbered kind channel) ⌝ }
 {
-    entry(&ANALYSIS, kind, channel)
+    look_up(&ANALYSIS, kind, channel)
 }
 
 // The cold name of a type's channel, as a number; 0 where none is listed.
 fn cold_name(kind: u32, channel: u32) -> u32
     ensures { λ r. ⌜ r ≡ coldNumber (numbered kind channel) ⌝ }
 {
-    entry(&COLD, kind, channel)
+    look_up(&COLD, kind, channel)
 }
 
 // The letter that stands lowest in a number.
@@ -172,9 +175,9 @@ fn channel_called(kind: u32, name: &[u8]) -> u32
     channel
 }
 
-// The sorts of a type's channels, a hex digit for each from channel 0 up: 1 charge, 2 phonon, 3 the veto, 0 not listed.
-fn sorts(kind: u32) -> u64
-    ensures { λ r. ⌜ r ≡ sortsOf kind ⌝ }
+// The groups of a type's channels, a hex digit for each from channel 0 up: 1 charge, 2 phonon, 3 the veto, 0 not listed.
+fn groups(kind: u32) -> u64
+    ensures { λ r. ⌜ r ≡ groupsOf kind ⌝ }
 {
     match kind {
         1 => 0x2_2110,
@@ -186,36 +189,36 @@ fn sorts(kind: u32) -> u64
     }
 }
 
-// The sort of the channel that a code names; 0 where none is listed.
-fn sort(code: u32) -> u64
-    ensures { λ r. ⌜ r ≡ sortOf (channelOf code) ⌝ }
+// The group of the channel that a code names; 0 where none is listed.
+fn group(code: u32) -> u64
+    ensures { λ r. ⌜ r ≡ groupOf (channelOf code) ⌝ }
 {
     let channel = code % 1000;
     if channel > 11 {
         return 0;
     }
-    (sorts(code / 1000000) >> (4 * channel)) % 16
+    (groups(code / 1000000) >> (4 * channel)) % 16
 }
 
 /// Whether a code names a listed channel.
 pub fn is_named(code: u32) -> bool
     ensures { λ r. ⌜ r ≡ named code ⌝ }
 {
-    sort(code) != 0
+    group(code) != 0
 }
 
 /// Whether a code names a phonon channel.
 pub fn is_phonon(code: u32) -> bool
     ensures { λ r. ⌜ r ≡ phononNamed code ⌝ }
 {
-    sort(code) == PHONON
+    group(code) == PHONON
 }
 
 /// Whether a code names a charge channel.
 pub fn is_charge(code: u32) -> bool
     ensures { λ r. ⌜ r ≡ chargeNamed code ⌝ }
 {
-    sort(code) == CHARGE
+    group(code) == CHARGE
 }
 
 /// Channel: type, number, analysis name and cold name of a detector code; 10 at place 0 where it names no listed channel.
@@ -230,7 +233,7 @@ pub fn channel(code: u32) -> ChannelAnswer
             length: 0,
         };
         return ChannelAnswer {
-            number: 10,
+            number: NOT_LISTED,
             place: 0,
             kind: 0,
             detector: 0,
@@ -255,14 +258,14 @@ pub fn code(kind: u32, detector: u32, name: &[u8]) -> CodeAnswer
 {
     if detector > 999 {
         return CodeAnswer::Refused {
-            number: 10,
+            number: NOT_LISTED,
             place: 0,
         };
     }
     let channel = channel_called(kind, name);
     if channel > 11 {
         return CodeAnswer::Refused {
-            number: 10,
+            number: NOT_LISTED,
             place: 0,
         };
     }

@@ -1,7 +1,7 @@
 -- `channel_called` meets its contract. The loop's invariant: no channel that was passed has the name.
--- The measure is how many channels are left. Assumes nothing.
+-- The measure is how many channels are left.
 use Prim.Native.Nat.{ℕ, _≤_, _<_, _-_}
-use mathlib.Core.Path.{_≡_, sym, _∙_}
+use mathlib.Core.Path.{_≡_, _∙_}
 use mathlib.Core.Bool.{false}
 use native.Mathlib.Omega.{arith}
 use denote.Ref.{now}
@@ -28,7 +28,8 @@ is-spelled-requires c κs = search needs
 
 returns : tie.Need-returns Inv-loop μ-loop
 returns c =
-    let a = c .before .before .before .before .before .before .args in search-found (a .kind) (c .before .before .before .before .loop .channel) (now (a .name)) (cc)
+    let a = c .before .before .before .before .before .before .args in
+    search-found (a .kind) (c .before .before .before .before .loop .channel) (now (a .name)) (cc)
 
 add-channel : tie.Need-add-channel Inv-loop μ-loop
 add-channel c = search needs
@@ -41,7 +42,8 @@ loop-again c = (search needs, below-more _ _ (c .before .before .before .before 
 
 returns-2 : tie.Need-returns-2 Inv-loop μ-loop
 returns-2 c =
-    let a = c .before .before .before .args in let l = c .before .loop in
+    let a = c .before .before .before .args in
+    let l = c .before .loop in
     let e : l .channel ≡ 12 = omega arith in
     e ∙ search-ended (a .kind) (now (a .name)) (λ i h. l .inv .1 i (omega arith))
 

@@ -1,5 +1,5 @@
--- `code` meets its contract: each of its ways out is one law of the search. A listed name's type is at most 11, so the code fits.
--- Assumes nothing.
+-- `code` meets its contract.
+-- The idea: each of its three ways out is one law of the search. The type of a listed name is at most 11, so the code fits.
 use Prim.Native.Nat.{_≤_}
 use native.Mathlib.Omega.{arith}
 use borrow.Author.Needs.{needs}
@@ -8,7 +8,7 @@ use Rattle.channels.proofs.code.Statement.{statement}
 use Rattle.channels.proofs.code.Tie as tie
 
 returns : tie.Need-returns
-returns c = past-detectors _ _ _ (c .if1 .taken)
+returns c = past-detectors _ (c .before .before .args .detector) _ (omega arith)
 
 channel-called-requires : tie.Need-channel-called-requires
 channel-called-requires c κs = search needs
@@ -32,7 +32,9 @@ add-t9 : tie.Need-add-t9
 add-t9 c = omega (arith, kind-small c)
 
 returns-3 : tie.Need-returns-3
-returns-3 c = code-made _ _ _ (c .before .channel-called .ensures) _ (c .before .before .if1 .left) (c .if2 .left)
+returns-3 c =
+    let d = c .before .before .before .before .args .detector in
+    code-made _ _ _ (c .before .channel-called .ensures) d (omega arith) (c .if2 .left)
 
 pub code-spec : {M : Type 1} → statement M
 code-spec =

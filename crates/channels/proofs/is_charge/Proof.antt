@@ -1,15 +1,15 @@
--- `is_charge` meets its contract: the digit of the code's channel says it.
--- Assumes nothing.
+-- `is_charge` meets its contract.
+-- The idea: the digit of the code's channel says it, which is one law of the groups.
 use borrow.Author.Needs.{needs}
-use Rattle.channels.proofs.SortLaws.{charge-by-sort}
+use Rattle.channels.proofs.GroupLaws.{charge-by-group}
 use Rattle.channels.proofs.is_charge.Statement.{statement}
 use Rattle.channels.proofs.is_charge.Tie as tie
 
-sort-requires : tie.Need-sort-requires
-sort-requires c κs = search needs
+group-requires : tie.Need-group-requires
+group-requires c κs = search needs
 
 returns : tie.Need-returns
-returns c = rw (c .sort .ensures) (charge-by-sort (c .before .args .code))
+returns c = rw (c .group .ensures) (charge-by-group (c .before .args .code))
 
 pub is-charge-spec : {M : Type 1} → statement M
-is-charge-spec = tie.close (tie.spec sort-requires returns)
+is-charge-spec = tie.close (tie.spec group-requires returns)

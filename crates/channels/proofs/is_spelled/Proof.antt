@@ -1,5 +1,5 @@
 -- `is_spelled` meets its contract. The loop's invariant: what is left of the number and of the name still decides.
--- The measure is what is left of the name. Assumes nothing.
+-- The measure is what is left of the name.
 use Prim.Native.Nat.{_≤_, _-_}
 use mathlib.Core.Path.{_≡_, refl, sym, _∙_}
 use native.Mathlib.Omega.{arith}
@@ -25,7 +25,10 @@ loop-holds c = (omega arith, refl)
 
 returns-2 : tie.Need-returns-2 Inv-loop μ-loop
 returns-2 c =
-    let a = c .before .before .before .before .before .args in let l = c .before .before .loop in decides (a .number) (l .rest) (now (a .name)) (l .i) _ (c .before .before .before .if1 .left) (l .inv .1) (no-letters (l .rest) (now (a .name)) (l .i) (omega arith) (c .if2 .taken))
+    let a = c .before .before .before .before .before .args in
+    let l = c .before .before .loop in
+    decides (a .number) (l .rest) (now (a .name)) (l .i) _ (c .before .before .before .if1 .left) (l .inv .1)
+    (no-letters (l .rest) (now (a .name)) (l .i) (omega arith) (c .if2 .taken))
 
 lowest-requires : tie.Need-lowest-requires Inv-loop μ-loop
 lowest-requires c κs = search needs
@@ -35,7 +38,10 @@ shared-slice-read-if3 c = search needs
 
 returns-3 : tie.Need-returns-3 Inv-loop μ-loop
 returns-3 c =
-    let a = c .before .before .before .before .before .before .before .before .args in let l = c .before .before .before .before .before .loop in decides (a .number) (l .rest) (now (a .name)) (l .i) _ (c .before .before .before .before .before .before .if1 .left) (l .inv .1) (other-letter (l .rest) (now (a .name)) (l .i) (omega arith) (c .before .before .before .if2 .left) (λ e. c .if3 .taken (c .before .before .lowest .ensures ∙ e)))
+    let a = c .before .before .before .before .before .before .before .before .args in
+    let l = c .before .before .before .before .before .loop in
+    decides (a .number) (l .rest) (now (a .name)) (l .i) _ (c .before .before .before .before .before .before .if1 .left) (l .inv .1)
+    (other-letter (l .rest) (now (a .name)) (l .i) (omega arith) (c .before .before .before .if2 .left) (λ e. c .if3 .taken (c .before .before .lowest .ensures ∙ e)))
 
 add-i : tie.Need-add-i Inv-loop μ-loop
 add-i c = search needs
@@ -45,11 +51,16 @@ loop-less c = search needs
 
 loop-again : tie.Need-loop-again Inv-loop μ-loop
 loop-again c =
-    let a = c .before .before .before .before .before .before .before .before .args in let l = c .before .before .before .before .before .loop in (omega arith, l .inv .1 ∙ next-letter (l .rest) (now (a .name)) (l .i) (omega arith) (c .before .before .before .if2 .left) (sym (c .before .before .lowest .ensures) ∙ c .if3 .left))
+    let a = c .before .before .before .before .before .before .before .before .args in
+    let l = c .before .before .before .before .before .loop in
+    (omega arith, l .inv .1 ∙ next-letter (l .rest) (now (a .name)) (l .i) (omega arith) (c .before .before .before .if2 .left) (sym (c .before .before .lowest .ensures) ∙ c .if3 .left))
 
 returns-4 : tie.Need-returns-4 Inv-loop μ-loop
 returns-4 c =
-    let a = c .before .before .before .before .args in let l = c .before .loop in decides (a .number) (l .rest) (now (a .name)) (l .i) _ (c .before .before .if1 .left) (l .inv .1) (at-end (l .rest) (now (a .name)) (l .i) (omega arith))
+    let a = c .before .before .before .before .args in
+    let l = c .before .loop in
+    decides (a .number) (l .rest) (now (a .name)) (l .i) _ (c .before .before .if1 .left) (l .inv .1)
+    (at-end (l .rest) (now (a .name)) (l .i) (omega arith))
 
 pub is-spelled-spec : {M : Type 1} → statement M
 is-spelled-spec =

@@ -1,4 +1,5 @@
--- `letter` meets its contract: its test is the definition's.
+-- `letter` meets its contract.
+-- The idea: its test is the definition's.
 use borrow.Author.Tests.{eq-eqb, ne-eqb}
 use Rattle.channels.proofs.letter.Statement.{statement}
 use Rattle.channels.proofs.letter.Tie as tie

@@ -1,5 +1,5 @@
--- `name_of` meets its contract: each letter is the lowest of what the letters before it leave.
--- Assumes nothing.
+-- `name_of` meets its contract.
+-- The idea: each letter is the lowest of what the letters before it leave, as the definition has it.
 use borrow.Author.Needs.{needs}
 use Rattle.theory.specs.Words.{bytes}
 use Rattle.channels.proofs.NameLaws.{name-made}

@@ -1,5 +1,5 @@
--- `size` meets its contract: each of its ways out is one law of the definition.
--- Assumes nothing.
+-- `size` meets its contract.
+-- The idea: each of its ways out is one law of the definition.
 use Rattle.channels.proofs.NameLaws.{one-letter, two-letters, three-letters, four-letters}
 use Rattle.channels.proofs.size.Statement.{statement}
 use Rattle.channels.proofs.size.Tie as tie

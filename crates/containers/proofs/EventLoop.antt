@@ -1,0 +1,103 @@
+-- The loop over events: what is known at each turn, and one law for each way of a turn.
+-- The idea: the theory's loop over items, for the note's event item; an event's length word is its contents' length.
+use mathlib.Core.Path.{_≡_, refl, sym, ap, _∙_, subst}
+use mathlib.Core.List.{List, [], _∷_, _++_}
+use Prim.Native.Nat.{ℕ, _+_, _-_, _≤_, _<_}
+use native.Mathlib.Omega.{arith}
+use lib.ListN.{length, take, drop, length-append}
+use Rattle.theory.specs.Words.{Bytes}
+use Rattle.theory.specs.Tests.{Res, ok, bad}
+use Rattle.theory.proofs.WordLaws.{Bytes-drop}
+use Rattle.theory.proofs.StructureLaws.{length-structure}
+use Rattle.theory.proofs.LoopLaws.{At, start, ended, stopped, more}
+use Rattle.note.specs.Words.{order, word}
+use Rattle.note.specs.Records.{Record, Context, event, none, recordBytes, recordsBytes, readRecord, readRecords}
+use Rattle.note.specs.Events.{Container, containerSize, eventHead, eventLate, readEvent, readEvents}
+use Rattle.demands.proofs.Bundles.{eventItem, same-event, same-events}
+use Rattle.containers.specs.declared.Count.the-variants as Count
+use Rattle.containers.specs.declared.Holding.{Holding}
+use Rattle.containers.specs.declared.Holding.the-variants.{Good, Bad}
+use Rattle.containers.specs.Counts.{containerStep, rowsOfEvents, eventRows}
+use Rattle.containers.proofs.RecordLoop.{left}
+use Rattle.containers.proofs.ContainerLaws.{sized}
+
+abbrev stepped : Holding → Type 0
+stepped (Good k n t) = Unit {0}
+stepped (Bad c p) = ⊥
+
+-- What a container's answer says of what was read.
+pub holding-good : (r : Res Container) (k n t : ℕ) → Good k n t ≡ containerStep r
+    → (e : Container) × (r ≡ ok e) × (e .kind ≡ k) × (length (recordsBytes (e .body)) ≡ n) × (length (e .body) ≡ t)
+unfolding containerStep
+holding-good (ok e) k n t q = (e, refl, cc, cc, cc)
+holding-good (bad c p) k n t q = absurd (subst stepped q tt)
+
+pub holding-bad : (r : Res Container) (c p : ℕ) → Bad c p ≡ containerStep r → r ≡ bad c p
+unfolding containerStep
+holding-bad (ok e) c p q = cc
+holding-bad (bad c′ p′) c p q = cc
+
+-- Records are no more than their bytes.
+pub few : (xs : List Record) → length xs ≤ length (recordsBytes xs)
+few [] = omega arith
+few (x ∷ xs) = omega (arith, length-append (recordBytes x) (recordsBytes xs), length-structure order (λ (b : List ℕ). b) x, few xs)
+
+rows-more : (es : List Container) (e : Container) → rowsOfEvents (es ++ e ∷ []) ≡ rowsOfEvents es + 1 + length (e .body)
+rows-more [] e = omega arith
+rows-more (x ∷ es) e = omega (arith, rows-more es e)
+
+pub record Rows (from : ℕ) (bs : List ℕ) (at : ℕ) (rest : List ℕ) (count : ℕ) : Type 0 where
+  pub es : List Container
+  pub is : At eventItem tt from bs tt at rest es
+  pub size : rowsOfEvents es ≡ count
+  pub low : from + count ≤ at
+  pub bytes : Bytes rest
+
+pub begin : (from : ℕ) (bs : List ℕ) → Bytes bs → Rows from bs from bs 0
+begin from bs h = record { es = []; is = start eventItem tt from bs; size = refl; low = omega arith; bytes = h }
+
+-- An event that was read moves the loop on.
+pub on-event : {from : ℕ} {bs : List ℕ} {at : ℕ} {rest : List ℕ} {es : List Container} → At eventItem tt from bs tt at rest es → 0 < length rest
+    → (e : Container) → eventItem .read tt at rest ≡ ok e → (n : ℕ) → length (recordsBytes (e .body)) ≡ n → 8 + n ≤ length rest
+    → At eventItem tt from bs tt (at + (8 + n)) (take (length rest - (8 + n)) (drop (8 + n) rest)) (es ++ e ∷ [])
+on-event {from} {bs} {at} {rest} {es} i l e r n en fits =
+    let z : 8 + length (recordsBytes (e .body)) ≡ 8 + n = ap (λ (x : ℕ). 8 + x) en in
+    let m : At eventItem tt from bs tt (at + (8 + length (recordsBytes (e .body)))) (drop (8 + length (recordsBytes (e .body))) rest) (es ++ e ∷ []) =
+    more eventItem i l e r (omega arith) (omega (arith, z)) in
+    subst (λ (x : List ℕ). At eventItem tt from bs tt (at + (8 + n)) x (es ++ e ∷ [])) (left (8 + n) rest)
+    (subst (λ (x : ℕ). At eventItem tt from bs tt (at + x) (drop x rest) (es ++ e ∷ [])) z m)
+
+module _ {from : ℕ} {bs : List ℕ} {at : ℕ} {rest : List ℕ} {count : ℕ} (i : Rows from bs at rest count) where
+  pub place : at + length rest ≡ from + length bs
+  place = i .is .place
+
+  pub low : from + count ≤ at
+  low = i .low
+
+  pub done : length rest ≤ 0 → Count.Good count ≡ eventRows (readEvents tt from bs)
+  unfolding eventRows
+  done h = ap Count.Good (sym (i .size)) ∙ ap eventRows (ended eventItem (i .is) (omega arith) ∙ sym (same-events tt from bs))
+
+  pub stops : 0 < length rest → (c p : ℕ) → Bad c p ≡ containerStep (readEvent tt at rest) → Count.Bad c p ≡ eventRows (readEvents tt from bs)
+  unfolding eventRows
+  stops l c p e = ap eventRows (stopped eventItem (i .is) l c p (sym (same-event tt at rest) ∙ holding-bad (readEvent tt at rest) c p e) ∙ sym (same-events tt from bs))
+
+  module _ (l : 0 < length rest) (k n t : ℕ) (q : Good k n t ≡ containerStep (readEvent tt at rest)) where
+    pub fits : (8 + n ≤ length rest) × (t ≤ n)
+    unfolding readEvent
+    fits =
+        let (e, r, k-is, n-is, t-is) = holding-good (readEvent tt at rest) k n t q in
+        let (a, b) = sized eventHead eventLate (event none) at rest e (i .bytes) r in
+        (omega arith, omega (arith, few (e .body)))
+
+    pub next : Rows from bs (at + (8 + n)) (take (length rest - (8 + n)) (drop (8 + n) rest)) (count + 1 + t)
+    next =
+        let (e, r, k-is, n-is, t-is) = holding-good (readEvent tt at rest) k n t q in
+        let f : (8 + n ≤ length rest) × (t ≤ n) = fits in
+        record {
+          es = i .es ++ e ∷ [];
+          is = on-event (i .is) l e (sym (same-event tt at rest) ∙ r) n n-is (f .0);
+          size = rows-more (i .es) e ∙ omega (arith, i .size, t-is);
+          low = omega (arith, i .low, f .1);
+          bytes = subst Bytes (left (8 + n) rest) (Bytes-drop (8 + n) rest (i .bytes));
+        }

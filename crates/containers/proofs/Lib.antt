@@ -1,0 +1,4 @@
+pub mod RecordLoop
+pub mod ContainerLaws
+pub mod EventLoop
+pub mod FileLaws

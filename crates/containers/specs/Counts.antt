@@ -1,0 +1,34 @@
+-- What the code answers of the note's readers: how many records, a container's word, length and count, how many rows.
+use Prim.Native.Nat.{ℕ, _+_}
+use mathlib.Core.List.{List, [], _∷_}
+use lib.ListN.{length}
+use Rattle.theory.specs.Tests.{Res, ok, bad}
+use Rattle.note.specs.Records.{Record, recordsBytes}
+use Rattle.note.specs.Events.{Container}
+use Rattle.note.specs.Files.{File, configurationOf, eventsOf}
+use Rattle.containers.specs.declared.Count.{Count}
+use Rattle.containers.specs.declared.Count.the-variants as Count
+use Rattle.containers.specs.declared.Holding.{Holding}
+use Rattle.containers.specs.declared.Holding.the-variants as Holding
+
+unfoldable pub recordCount : Res (List Record) → Count
+recordCount (ok rs) = Count.Good (length rs)
+recordCount (bad c p) = Count.Bad c p
+
+unfoldable pub containerStep : Res Container → Holding
+containerStep (ok c) = Holding.Good (c .kind) (length (recordsBytes (c .body))) (length (c .body))
+containerStep (bad c p) = Holding.Bad c p
+
+-- The rows of events: each its own and one for each record.
+abbrev pub rowsOfEvents : List Container → ℕ
+rowsOfEvents [] = 0
+rowsOfEvents (e ∷ es) = 1 + length (e .body) + rowsOfEvents es
+
+unfoldable pub eventRows : Res (List Container) → Count
+eventRows (ok es) = Count.Good (rowsOfEvents es)
+eventRows (bad c p) = Count.Bad c p
+
+-- The rows of a file: the header's, the configuration's and its entries', the events'.
+unfoldable pub fileRows : Res File → Count
+fileRows (ok f) = Count.Good (2 + length (configurationOf f .body) + rowsOfEvents (eventsOf f))
+fileRows (bad c p) = Count.Bad c p

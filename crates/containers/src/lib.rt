@@ -1,0 +1,214 @@
+// Containers: the records that fill a part, a configuration, an event, the events of a file, and the file as a whole.
+use fields::event_word_rule;
+use record::Context;
+use record::Step;
+use record::fresh;
+use record::next_context;
+use record::record_in;
+use words::word_at;
+ghost use mathlib.Core.Path.{_≡_};
+ghost use Prim.Native.Nat.{_+_, _≤_};
+ghost use lib.ListN.{length};
+ghost use Rattle.note.specs.Records.{readRecords};
+ghost use Rattle.note.specs.Events.{readEvent, readEvents};
+ghost use Rattle.note.specs.Files.{readConfiguration, readFile};
+ghost use Rattle.record.specs.Steps.{contextOf};
+ghost use Rattle.containers.specs.Counts.{recordCount, containerStep, eventRows, fileRows};
+
+/// The greatest length of a lent file or output.
+pub const FILE_LIMIT: usize = 16_777_216;
+
+/// How many there are, or the refusal.
+pub enum Count {
+    Good { count: usize },
+    Bad { number: u32, place: usize },
+}
+
+/// A container: its first word, the length of its contents and how many records they are; or the refusal.
+pub enum Holding {
+    Good {
+        word: u32,
+        length: usize,
+        count: usize,
+    },
+    Bad {
+        number: u32,
+        place: usize,
+    },
+}
+
+/// How many records fill a part whose first byte stands at `from`.
+pub fn records_in(part: &[u8], from: usize, context: Context) -> Count
+    requires { ⌜ from + length (now part) ≤ 0x1000000 ⌝ }
+    ensures { λ r. ⌜ r ≡ recordCount (readRecords (contextOf context) from (now (part .entry))) ⌝ }
+{
+    let mut rest = part;
+    let mut at = from;
+    let mut count = 0;
+    let mut state = context;
+    while 0 < rest.len() {
+        match record_in(rest, at, state) {
+            Step::Bad { number, place } => return Count::Bad { number, place },
+            Step::Good { kind, length } => {
+                let size = 8 + length;
+                state = next_context(state, kind);
+                rest = &rest[size..];
+                at = at + size;
+                count = count + 1;
+            }
+        }
+    }
+    Count::Good { count }
+}
+
+/// The configuration at the front of a part whose first byte stands at `at`.
+pub fn configuration_in(part: &[u8], at: usize) -> Holding
+    requires { ⌜ at + length (now part) ≤ 0x1000000 ⌝ }
+    ensures { λ r. ⌜ r ≡ containerStep (readConfiguration tt at (now (part .entry))) ⌝ }
+{
+    let room = part.len();
+    if room < 8 {
+        return Holding::Bad {
+            number: 2,
+            place: at,
+        };
+    }
+    let word = word_at(part, 0);
+    if word != 0x0001_0000 {
+        return Holding::Bad {
+            number: 5,
+            place: at,
+        };
+    }
+    let length = word_at(part, 4) as usize;
+    if room - 8 < length {
+        return Holding::Bad {
+            number: 2,
+            place: at,
+        };
+    }
+    match records_in(&part[8..8 + length], at + 8, Context::Entry) {
+        Count::Good { count } => Holding::Good {
+            word,
+            length,
+            count,
+        },
+        Count::Bad { number, place } => Holding::Bad { number, place },
+    }
+}
+
+/// The event at the front of a part whose first byte stands at `at`.
+pub fn event_in(part: &[u8], at: usize) -> Holding
+    requires { ⌜ at + length (now part) ≤ 0x1000000 ⌝ }
+    ensures { λ r. ⌜ r ≡ containerStep (readEvent tt at (now (part .entry))) ⌝ }
+{
+    let room = part.len();
+    if room < 8 {
+        return Holding::Bad {
+            number: 2,
+            place: at,
+        };
+    }
+    let word = word_at(part, 0);
+    let fault = event_word_rule(word);
+    if fault != 0 {
+        return Holding::Bad {
+            number: fault,
+            place: at,
+        };
+    }
+    let length = word_at(part, 4) as usize;
+    if room - 8 < length {
+        return Holding::Bad {
+            number: 2,
+            place: at,
+        };
+    }
+    if length < 1 {
+        return Holding::Bad {
+            number: 9,
+            place: at,
+        };
+    }
+    match records_in(&part[8..8 + length], at + 8, fresh()) {
+        Count::Good { count } => Holding::Good {
+            word,
+            length,
+            count,
+        },
+        Count::Bad { number, place } => Holding::Bad { number, place },
+    }
+}
+
+/// How many rows the events have that fill a part whose first byte stands at `from`.
+pub fn events_in(part: &[u8], from: usize) -> Count
+    requires { ⌜ from + length (now part) ≤ 0x1000000 ⌝ }
+    ensures { λ r. ⌜ r ≡ eventRows (readEvents tt from (now (part .entry))) ⌝ }
+{
+    let mut rest = part;
+    let mut at = from;
+    let mut count = 0;
+    while 0 < rest.len() {
+        match event_in(rest, at) {
+            Holding::Bad { number, place } => return Count::Bad { number, place },
+            Holding::Good {
+                word: _,
+                length,
+                count: records,
+            } => {
+                let size = 8 + length;
+                rest = &rest[size..];
+                at = at + size;
+                count = count + 1 + records;
+            }
+        }
+    }
+    Count::Good { count }
+}
+
+/// How many rows a file has, or its refusal.
+pub fn check(file: &[u8]) -> Count
+    ensures { λ r. ⌜ r ≡ fileRows (readFile (now (file .entry))) ⌝ }
+{
+    let room = file.len();
+    if FILE_LIMIT < room {
+        return Count::Bad {
+            number: 1,
+            place: 0,
+        };
+    }
+    if room < 8 {
+        return Count::Bad {
+            number: 2,
+            place: 0,
+        };
+    }
+    if word_at(file, 0) != 0x0102_0304 {
+        return Count::Bad {
+            number: 3,
+            place: 0,
+        };
+    }
+    if word_at(file, 4) % 65536 != 0x0200 {
+        return Count::Bad {
+            number: 4,
+            place: 0,
+        };
+    }
+    match configuration_in(&file[8..], 8) {
+        Holding::Bad { number, place } => Count::Bad { number, place },
+        Holding::Good {
+            word: _,
+            length,
+            count,
+        } => {
+            let from = 16 + length;
+            match events_in(&file[from..], from) {
+                Count::Bad { number, place } => Count::Bad { number, place },
+                Count::Good { count: rows } => Count::Good {
+                    count: 2 + count + rows,
+                },
+            }
+        }
+    }
+}
