@@ -204,3 +204,21 @@ AllFrom-at P n (r ∷ rs) a zero h = let e : n ≡ n + 0 = omega arith in subst 
 AllFrom-at P n (r ∷ rs) a (suc j) h =
     let e : suc n + j ≡ n + suc j = omega arith in
     subst (λ (m : ℕ). P m (row rs j)) e (AllFrom-at P (suc n) rs (a .1) j (le-of-suc-le-suc h))
+
+-- Nodes have as many rows as they count.
+pub length-rows : (i at : ℕ) (ns : List Node) → length (rows i at ns) ≡ rowCount ns
+unfolding rows
+length-rows i at [] = refl
+length-rows i at (single c ∷ ns) = ap suc (length-rows (i + 1) (at + c .size) ns)
+length-rows i at (box k a b cs ∷ ns) =
+    ap suc (length-append (childRows i (at + 8) cs) (rows (i + 1 + length cs) (at + (8 + total cs)) ns)
+    ∙ ap₂ (λ (x y : ℕ). x + y) (length-childRows i (at + 8) cs) (length-rows (i + 1 + length cs) (at + (8 + total cs)) ns))
+
+pub rowCount-append : (xs ys : List Node) → rowCount (xs ++ ys) ≡ rowCount xs + rowCount ys
+rowCount-append [] ys = omega arith
+rowCount-append (single c ∷ xs) ys = omega (arith, rowCount-append xs ys)
+rowCount-append (box k a b cs ∷ xs) ys = omega (arith, rowCount-append xs ys)
+
+pub extents-append : (xs ys : List Node) → extents (xs ++ ys) ≡ extents xs + extents ys
+extents-append [] ys = omega arith
+extents-append (x ∷ xs) ys = omega (arith, extents-append xs ys)

@@ -85,6 +85,15 @@ module _ {S A : Type 0} (F : Item S A) where
               ∙ ap (λ (r : Res A). behind xs (bind r (turn F k s at rest))) (sym e) ∙ q;
         }
 
+    -- where the whole is read, what stands next is read too
+    pub reads : 0 < length rest → (ys : List A) → whole s₀ from bs ≡ ok ys → (a : A) × (F .read s at rest ≡ ok a)
+    unfolding behind
+    reads l ys w = let (k, f, q) = turned l in go (F .read s at rest) refl k (q ∙ w)
+      where
+        go : (r : Res A) → F .read s at rest ≡ r → (k : ℕ) → behind xs (bind r (turn F k s at rest)) ≡ ok ys → (a : A) × (F .read s at rest ≡ ok a)
+        go (ok a) e k q = (a, e)
+        go (bad c p) e k q = absurd (bad-ok q)
+
     -- what was read is the beginning of the whole
     pub prefix : (ys : List A) → whole s₀ from bs ≡ ok ys → (zs : List A) × (ys ≡ xs ++ zs)
     prefix ys e = go (seqs F (i .k) s at rest) (i .same ∙ e)

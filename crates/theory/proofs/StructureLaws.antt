@@ -21,7 +21,7 @@ use Rattle.theory.proofs.Items.{Item, Whole}
 
 -- ---- two words at the front
 
-second-word : (o : Order) (k n : ℕ) (rest : List ℕ) → Fits 4 n → wordAt o 4 4 (put o 4 k ++ (put o 4 n ++ rest)) ≡ n
+pub second-word : (o : Order) (k n : ℕ) (rest : List ℕ) → Fits 4 n → wordAt o 4 4 (put o 4 k ++ (put o 4 n ++ rest)) ≡ n
 second-word o k n rest h =
     let e : 4 ≡ length (put o 4 k) + 0 = omega (arith, length-put o 4 k) in
     ap (λ (p : ℕ). wordAt o 4 p (put o 4 k ++ (put o 4 n ++ rest))) e
@@ -39,7 +39,7 @@ pub length-two : (o : Order) (k n : ℕ) (rest : List ℕ) → length (put o 4 k
 length-two o k n rest =
     omega (arith, length-append (put o 4 k) (put o 4 n ++ rest), length-append (put o 4 n) rest, length-put o 4 k, length-put o 4 n)
 
-drop-two : (o : Order) (k n : ℕ) (rest : List ℕ) → drop 8 (put o 4 k ++ (put o 4 n ++ rest)) ≡ rest
+pub drop-two : (o : Order) (k n : ℕ) (rest : List ℕ) → drop 8 (put o 4 k ++ (put o 4 n ++ rest)) ≡ rest
 drop-two o k n rest =
     sym (drop-drop 4 4 (put o 4 k ++ (put o 4 n ++ rest)))
     ∙ ap (drop 4) (drop-at (put o 4 k) (put o 4 n ++ rest) 4 (length-put o 4 k))

@@ -1,0 +1,5 @@
+pub mod StoreLaws
+pub mod FillLaws
+pub mod EventFillLaws
+pub mod FileFillLaws
+pub mod TableLaws

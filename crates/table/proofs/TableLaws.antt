@@ -1,0 +1,72 @@
+-- Table's answer and buffer in each of its three cases: refused, too few rows lent, filled.
+-- The idea: the count that check gives is the number of rows, so the code's test is the definition's.
+use Prim.Native.Nat.{ℕ, _+_, _*_, _/_, _≤_, _<_}
+use native.Mathlib.Omega.{arith}
+use mathlib.Core.Path.{_≡_, refl, sym, ap, _∙_, subst}
+use mathlib.Core.List.{List, [], _∷_, map}
+use lib.ListN.{length, length-append, length-map}
+use borrow.Author.Tests.{le-leb, lt-leb}
+use Rattle.theory.specs.Tests.{Res, ok, bad}
+use Rattle.theory.specs.Layout.{Row, Node, total, childRows, rows, rowCount}
+use Rattle.theory.proofs.LayoutLaws.{length-rows}
+use Rattle.note.specs.Limits.{rowWidth}
+use Rattle.note.specs.Events.{Container}
+use Rattle.note.specs.Files.{File, configurationOf, eventsOf, readFile}
+use Rattle.note.specs.Rows.{childOf, eventNode, nodesOf, rowsOf, tableAnswer, tableBuffer}
+use Rattle.containers.specs.declared.Count.{Count}
+use Rattle.containers.specs.declared.Count.the-variants.{Good, Bad}
+use Rattle.containers.specs.Counts.{rowsOfEvents, fileRows}
+use Rattle.table.specs.Filling.{stored, FillableFile}
+use Rattle.table.proofs.StoreLaws.{stored-first}
+
+abbrev counted : Count → Type 0
+counted (Good n) = Unit {0}
+counted (Bad c p) = ⊥
+
+events-rows : (es : List Container) → rowCount (map eventNode es) ≡ rowsOfEvents es
+events-rows [] = refl
+events-rows (e ∷ es) = omega (arith, length-map (e .body) childOf, events-rows es)
+
+-- The count that check gives is the number of rows.
+rows-counted : (f : File) → length (rowsOf f) ≡ 2 + length (configurationOf f .body) + rowsOfEvents (eventsOf f)
+unfolding rowsOf nodesOf
+rows-counted f = length-rows 1 0 (nodesOf f) ∙ omega (arith, length-map (configurationOf f .body) childOf, events-rows (eventsOf f))
+
+count-bad : (r : Res File) (c p : ℕ) → Bad c p ≡ fileRows r → r ≡ bad c p
+unfolding fileRows
+count-bad (ok f) c p e = cc
+count-bad (bad c′ p′) c p e = cc
+
+count-good : (r : Res File) (n : ℕ) → Good n ≡ fileRows r → (f : File) × (r ≡ ok f) × (length (rowsOf f) ≡ n)
+unfolding fileRows
+count-good (ok f) n e = let same : 2 + length (configurationOf f .body) + rowsOfEvents (eventsOf f) ≡ n = cc in (f, refl, rows-counted f ∙ same)
+count-good (bad c p) n e = absurd (subst counted e tt)
+
+module _ (bs old : List ℕ) where
+  pub refused : (c p : ℕ) → Bad c p ≡ fileRows (readFile bs)
+      → (record { number = c; count = 0; place = p } ≡ tableAnswer bs (length old)) × (old ≡ tableBuffer bs old)
+  unfolding tableAnswer tableBuffer
+  refused c p e = let r : readFile bs ≡ bad c p = count-bad (readFile bs) c p e in (rw r, rw r)
+
+  filled-with : (f : File) → readFile bs ≡ ok f → (n : ℕ) → length (rowsOf f) ≡ n → n ≤ length old / 6 → (new : List ℕ) → new ≡ stored old 0 (rowsOf f)
+      → (record { number = 0; count = n; place = length bs } ≡ tableAnswer bs (length old)) × (new ≡ tableBuffer bs old)
+  unfolding tableAnswer tableBuffer
+  filled-with f r n s h new g =
+      let t = le-leb (rowWidth * length (rowsOf f)) (length old) (omega (arith, s)) in
+      (rw (r, t, s), g ∙ stored-first old (rowsOf f) (omega (arith, s)) ∙ rw (r, t))
+
+  module _ (n : ℕ) (e : Good n ≡ fileRows (readFile bs)) where
+    pub too-few : length old / 6 < n → (record { number = 12; count = n; place = length bs } ≡ tableAnswer bs (length old)) × (old ≡ tableBuffer bs old)
+    unfolding tableAnswer tableBuffer
+    too-few h =
+        let (f, r, s) = count-good (readFile bs) n e in
+        let t = lt-leb (rowWidth * length (rowsOf f)) (length old) (omega (arith, s)) in
+        (rw (r, t, s), rw (r, t))
+
+    module _ (h : n ≤ length old / 6) where
+      pub fillable : FillableFile bs (length old)
+      fillable = let (f, r, s) = count-good (readFile bs) n e in record { file = f; reads = r; fits = omega (arith, s) }
+
+      pub filled : (new : List ℕ) → ((f : File) → readFile bs ≡ ok f → new ≡ stored old 0 (rowsOf f))
+          → (record { number = 0; count = n; place = length bs } ≡ tableAnswer bs (length old)) × (new ≡ tableBuffer bs old)
+      filled new g = let (f, r, s) = count-good (readFile bs) n e in filled-with f r n s h new (g f r)

@@ -1,0 +1,61 @@
+-- What filling stores: rows from a row number on, and what a part must be for its rows to be filled in.
+use Prim.Native.Nat.{ℕ, _+_, _*_, _≤_}
+use mathlib.Core.Path.{_≡_}
+use mathlib.Core.List.{List, [], _∷_, map}
+use lib.ListN.{length}
+use lib.Seq.{sets}
+use Rattle.theory.specs.Tests.{ok}
+use Rattle.theory.specs.Layout as Layout
+use Rattle.theory.specs.Layout.{childRows, rows}
+use Rattle.note.specs.Limits.{fileLimit, rowWidth}
+use Rattle.note.specs.Records.{Record, Context, kindOf, readRecords}
+use Rattle.note.specs.Events.{Container, readEvents}
+use Rattle.note.specs.Files.{File, readFile}
+use Rattle.note.specs.Rows.{childrenOf, eventNode, rowsOf, flat}
+use Rattle.table.specs.declared.Row.{Row}
+use Rattle.table.specs.declared.Values.{Values}
+
+-- The code's row is the note's.
+unfoldable pub rowOf : Row → Layout.Row
+rowOf r = record { kind = r .kind; start = r .start; whole = r .whole; parent = r .parent; one = r .one; two = r .two }
+
+-- A buffer with rows stored from the index n on.
+unfoldable pub stored : List ℕ → ℕ → List Layout.Row → List ℕ
+stored old n rs = sets old (n * rowWidth) (flat rs)
+
+-- A record's row kind and values, from its kind word and its body.
+unfoldable pub valuesOf : ℕ → List ℕ → Values
+valuesOf k b = record { kind = kindOf k .row; one = kindOf k .one b; two = kindOf k .two b }
+
+-- Records fill the part, in some context, and their rows fit the buffer from the index `first` on.
+pub record Fillable (from : ℕ) (bs : List ℕ) (room first : ℕ) : Type 0 where
+  pub context : Context
+  pub records : List Record
+  pub reads : readRecords context from bs ≡ ok records
+  pub within : from + length bs ≤ fileLimit
+  pub fits : (first + length records) * rowWidth ≤ room
+
+-- Events fill the part, there are no more rows before it than bytes, and their rows fit.
+pub record FillableEvents (from : ℕ) (bs : List ℕ) (room first : ℕ) : Type 0 where
+  pub events : List Container
+  pub reads : readEvents tt from bs ≡ ok events
+  pub within : from + length bs ≤ fileLimit
+  pub low : first ≤ from
+  pub fits : (first + length (rows (first + 1) from (map eventNode events))) * rowWidth ≤ room
+
+-- The file is accepted, and its rows fit.
+pub record FillableFile (bs : List ℕ) (room : ℕ) : Type 0 where
+  pub file : File
+  pub reads : readFile bs ≡ ok file
+  pub fits : length (rowsOf file) * rowWidth ≤ room
+
+-- The buffer `new` is `old` with the rows of the part's records from the index `first` on, and `next` is the index after them.
+abbrev pub Filled : ℕ → List ℕ → List ℕ → ℕ → ℕ → List ℕ → ℕ → Type 0
+Filled from bs old first parent new next =
+    (c : Context) (rs : List Record) → readRecords c from bs ≡ ok rs → (new ≡ stored old first (childRows parent from (childrenOf rs))) × (next ≡ first + length rs)
+
+abbrev pub FilledEvents : ℕ → List ℕ → List ℕ → ℕ → List ℕ → Type 0
+FilledEvents from bs old first new = (es : List Container) → readEvents tt from bs ≡ ok es → new ≡ stored old first (rows (first + 1) from (map eventNode es))
+
+abbrev pub FilledFile : List ℕ → List ℕ → List ℕ → Type 0
+FilledFile bs old new = (f : File) → readFile bs ≡ ok f → new ≡ stored old 0 (rowsOf f)
