@@ -119,8 +119,11 @@ fn run(comparison: &mut Comparison, count: u64) -> Result<u64, String> {
     Ok(files)
 }
 
-/// Files of exactly the most bytes, and near them; each is made when its turn comes.
-const LARGE: [(&str, fn() -> Vec<u8>); 6] = [
+/// Traces around the most samples, files of exactly the most bytes; each is made in its turn.
+const LARGE: [(&str, fn() -> Vec<u8>); 9] = [
+    ("a trace of 32,768 samples", || trace_alone(32_768)),
+    ("a trace of 32,770 samples", || trace_alone(32_770)),
+    ("a trace of 65,536 samples", || trace_alone(65_536)),
     ("traces to the limit", big::full_of_traces),
     ("a history to the limit", big::full_of_history),
     ("smallest events to the limit", full_of_events),
@@ -136,6 +139,11 @@ const LARGE: [(&str, fn() -> Vec<u8>); 6] = [
         bytes
     }),
 ];
+
+// A file of one event with one trace.
+fn trace_alone(n: u32) -> Vec<u8> {
+    aimed::with_record(big::trace_of(n))
+}
 
 // Events of one administrative record each, as many as the limit allows.
 fn full_of_events() -> Vec<u8> {
