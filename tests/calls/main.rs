@@ -16,6 +16,7 @@ mod compare;
 #[path = "../outside/files.rs"]
 mod files;
 mod interface;
+mod large;
 #[allow(dead_code)]
 #[path = "../outside/random.rs"]
 mod random;
@@ -100,7 +101,7 @@ fn run(comparison: &mut Comparison, count: u64) -> Result<u64, String> {
         compared.map_err(|found| report(&named(), &case.bytes, &found))?;
         files += 1;
     }
-    for (name, make) in LARGE {
+    for (name, make) in large::LARGE {
         let bytes = make();
         let compared = comparison.file(&bytes);
         compared.map_err(|found| report(name, &bytes, &found))?;
@@ -117,43 +118,6 @@ fn run(comparison: &mut Comparison, count: u64) -> Result<u64, String> {
         files += 1;
     }
     Ok(files)
-}
-
-/// Traces around the most samples, files of exactly the most bytes; each is made in its turn.
-const LARGE: [(&str, fn() -> Vec<u8>); 9] = [
-    ("a trace of 32,768 samples", || trace_alone(32_768)),
-    ("a trace of 32,770 samples", || trace_alone(32_770)),
-    ("a trace of 65,536 samples", || trace_alone(65_536)),
-    ("traces to the limit", big::full_of_traces),
-    ("a history to the limit", big::full_of_history),
-    ("smallest events to the limit", full_of_events),
-    ("zeros to the limit", || vec![0; MOST_BYTES]),
-    ("P14 and zeros to the limit", || {
-        let mut bytes = aimed::p14();
-        bytes.resize(MOST_BYTES, 0);
-        bytes
-    }),
-    ("smallest events, the last one cut", || {
-        let mut bytes = full_of_events();
-        bytes.pop();
-        bytes
-    }),
-];
-
-// A file of one event with one trace.
-fn trace_alone(n: u32) -> Vec<u8> {
-    aimed::with_record(big::trace_of(n))
-}
-
-// Events of one administrative record each, as many as the limit allows.
-fn full_of_events() -> Vec<u8> {
-    let one = &aimed::p14()[24..56];
-    let event = files::structure(files::EVENT, one);
-    let mut bytes = [files::header(), files::configuration(&[])].concat();
-    while bytes.len() + event.len() <= MOST_BYTES {
-        bytes.extend_from_slice(&event);
-    }
-    bytes
 }
 
 // Files over the limit, by one byte and by more, some of them damaged too: parts of one buffer.

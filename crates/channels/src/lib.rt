@@ -106,7 +106,7 @@ fn lowest(number: u32) -> u8
 }
 
 // How many letters a number other than 0 has.
-fn size(number: u32) -> usize
+fn size(number: u32) -> u32
     ensures { λ r. ⌜ r ≡ sizeOf number ⌝ }
 {
     if number < 256 {

@@ -3,7 +3,6 @@
 use libc::STDIN_FILENO;
 use libc::STDOUT_FILENO;
 use table::table;
-
 ghost use Prim.Native.Nat.{_+_, _*_, _≤_};
 ghost use lib.ListN.{length};
 
@@ -63,7 +62,11 @@ fn main() {
     }
     let mut rows = [0u32; 12_288];
     let answer = table(&file[..n], &mut rows);
-    print_answer(answer.number as u64, answer.count as u64, answer.place as u64);
+    print_answer(
+        answer.number as u64,
+        answer.count as u64,
+        answer.place as u64,
+    );
     if answer.number == 0 {
         print_rows(&rows, answer.count);
     }

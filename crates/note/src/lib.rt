@@ -51,13 +51,13 @@ pub enum RecordAnswer {
     },
     History {
         veto_times: u32,
-        veto_times_at: usize,
+        veto_times_at: u32,
         veto_width: u32,
-        veto_masks_at: usize,
+        veto_masks_at: u32,
         trigger_times: u32,
-        trigger_times_at: usize,
+        trigger_times_at: u32,
         trigger_width: u32,
-        trigger_masks_at: usize,
+        trigger_masks_at: u32,
     },
     Gps {
         year: u32,
@@ -124,7 +124,7 @@ pub enum SettingAnswer {
 /// A channel's name: its ASCII bytes stand first, zeros after them.
 pub struct Name {
     pub bytes: [u8; 4],
-    pub length: usize,
+    pub length: u32,
 }
 
 /// Channel of a code: number 0 with type, detector number and both names, or 10 at place 0 with the rest zero.

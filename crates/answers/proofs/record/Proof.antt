@@ -1,0 +1,44 @@
+-- `answers::record` meets its contract. The step says what was found; its body follows the kind's rule and ends within the file.
+-- The answer is the body's, or the step's refusal.
+use borrow.Author.Needs.{needs}
+use Rattle.note.specs.Answers.{givenRecord}
+use Rattle.note.specs.Calls.{recordGiven, recordAt}
+use Rattle.answers.proofs.FoundLaws.{good-found, body-follows, body-ends, good-given, bad-given}
+use Rattle.answers.proofs.record.Statement.{statement}
+use Rattle.answers.proofs.record.Tie as tie
+use denote.Ref.{now}
+
+record-found-requires : tie.Need-record-found-requires
+record-found-requires c κs = search needs
+
+enum-known-kind : tie.Need-enum-known-kind
+enum-known-kind c = search needs
+
+body-at-requires : tie.Need-body-at-requires
+body-at-requires c κs = good-found (now (c .before .before .before .before .before .args .file)) (c .before .before .before .before .before .args .place) (c .before .kind .given .1) (c .before .before .before .record-found .ensures) .fits
+
+fields-of-requires : tie.Need-fields-of-requires
+fields-of-requires c κs = (body-follows (now (c .before .before .before .before .before .before .args .file)) (c .before .before .before .before .before .before .args .place) (c .before .before .kind .given .1) (c .before .before .before .before .record-found .ensures) (c .body-at .ensures), body-ends (now (c .before .before .before .before .before .before .args .file)) (c .before .before .before .before .before .before .args .place) (c .before .before .kind .given .1) (c .before .before .before .before .record-found .ensures) (c .body-at .ensures))
+
+enum-known-number : tie.Need-enum-known-number
+enum-known-number c = search needs
+
+returns : tie.Need-returns
+unfolding recordAt
+returns c = good-given (now (c .before .before .before .before .before .before .before .args .file)) (c .before .before .before .before .before .before .before .args .place) (c .before .before .before .kind .given .1) (c .before .before .before .before .before .record-found .ensures) (c .before .body-at .ensures) (recordGiven (c .before .before .before .before .before .before .before .args .place)) (c .fields-of .ensures)
+
+returns-2 : tie.Need-returns-2
+unfolding givenRecord recordAt
+returns-2 c = bad-given (now (c .before .before .before .before .before .args .file)) (c .before .before .before .before .before .args .place) (c .before .number .given .1) (c .before .before .before .record-found .ensures) (recordGiven (c .before .before .before .before .before .args .place))
+
+pub record-spec : {M : Type 1} → statement M
+record-spec =
+    tie.close
+    (tie.spec
+    record-found-requires
+    enum-known-kind
+    body-at-requires
+    fields-of-requires
+    enum-known-number
+    returns
+    returns-2)

@@ -1,0 +1,44 @@
+-- `answers::setting` meets its contract. The step says what was found; its body follows the kind's rule.
+-- The answer is the body's setting, or the step's refusal.
+use borrow.Author.Needs.{needs}
+use Rattle.note.specs.Answers.{givenSetting}
+use Rattle.note.specs.Calls.{settingGiven, settingAt}
+use Rattle.answers.proofs.FoundLaws.{good-found, body-follows, good-given, bad-given}
+use Rattle.answers.proofs.setting.Statement.{statement}
+use Rattle.answers.proofs.setting.Tie as tie
+use denote.Ref.{now}
+
+record-found-requires : tie.Need-record-found-requires
+record-found-requires c κs = search needs
+
+enum-known-kind : tie.Need-enum-known-kind
+enum-known-kind c = search needs
+
+body-at-requires : tie.Need-body-at-requires
+body-at-requires c κs = good-found (now (c .before .before .before .before .before .args .file)) (c .before .before .before .before .before .args .place) (c .before .kind .given .1) (c .before .before .before .record-found .ensures) .fits
+
+setting-of-requires : tie.Need-setting-of-requires
+setting-of-requires c κs = body-follows (now (c .before .before .before .before .before .before .args .file)) (c .before .before .before .before .before .before .args .place) (c .before .before .kind .given .1) (c .before .before .before .before .record-found .ensures) (c .body-at .ensures)
+
+enum-known-number : tie.Need-enum-known-number
+enum-known-number c = search needs
+
+returns : tie.Need-returns
+unfolding settingAt
+returns c = good-given (now (c .before .before .before .before .before .before .before .args .file)) (c .before .before .before .before .before .before .before .args .place) (c .before .before .before .kind .given .1) (c .before .before .before .before .before .record-found .ensures) (c .before .body-at .ensures) (settingGiven (c .before .before .before .before .before .before .before .args .place)) (c .setting-of .ensures)
+
+returns-2 : tie.Need-returns-2
+unfolding givenSetting settingAt
+returns-2 c = bad-given (now (c .before .before .before .before .before .args .file)) (c .before .before .before .before .before .args .place) (c .before .number .given .1) (c .before .before .before .record-found .ensures) (settingGiven (c .before .before .before .before .before .args .place))
+
+pub setting-spec : {M : Type 1} → statement M
+setting-spec =
+    tie.close
+    (tie.spec
+    record-found-requires
+    enum-known-kind
+    body-at-requires
+    setting-of-requires
+    enum-known-number
+    returns
+    returns-2)

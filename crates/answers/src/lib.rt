@@ -1,0 +1,354 @@
+// Record and Setting: what stands at a place of a file, with its fields; an entry in working units. Any file and any place are taken.
+use fields::decimal;
+use fields::hundredth;
+use fields::to_signed;
+use note::RecordAnswer;
+use note::SettingAnswer;
+use record::Context;
+use record::Step;
+use record::record_in;
+use rules::section_end;
+use words::word_at;
+ghost use mathlib.Core.Path.{_≡_};
+ghost use mathlib.Core.List.{_∷_};
+ghost use Prim.Native.Nat.{_+_, _≤_};
+ghost use lib.ListN.{length};
+ghost use Rattle.theory.specs.Tests.{ok};
+ghost use Rattle.note.specs.Limits.{fileLimit};
+ghost use Rattle.note.specs.Words.{word, signed};
+ghost use Rattle.note.specs.Answers.{accepted, count, givenRecord, givenSetting};
+ghost use Rattle.note.specs.Phonon.{phononOf, phononKind};
+ghost use Rattle.note.specs.Charge.{chargeOf, chargeKind};
+ghost use Rattle.note.specs.Administrative.{administrativeKind};
+ghost use Rattle.note.specs.Trace.{traceKind};
+ghost use Rattle.note.specs.History.{widthAt, sectionValues, historyRule, historyKind};
+ghost use Rattle.note.specs.Gps.{gpsKind};
+ghost use Rattle.note.specs.Trigger.{triggerKind};
+ghost use Rattle.note.specs.Tlb.{tlbKind};
+ghost use Rattle.note.specs.Records.{recordRule, kindOf};
+ghost use Rattle.note.specs.Calls.{recordFound, recordAt, hundredth, phononSetting, chargeSetting, settingGiven, settingAt};
+ghost use Rattle.record.specs.Steps.{stepOf};
+ghost use Rattle.answers.specs.Bodies.{bodyAt, kindGiven, sixNumbers, sixFrom, sectionNumbers};
+
+// The greatest length of a lent file.
+const FILE_LIMIT: usize = 16_777_216;
+
+// ---- fields of a body: no value of these kinds but a history's is a place, so their answers are those at place 0
+
+// The signed word at a place of the bytes.
+fn signed_at(s: &[u8], at: usize) -> i32
+    requires { ⌜ at + 4 ≤ length (now s) ⌝ }
+    ensures { λ r. ⌜ r ≡ signed (word at (now (s .entry))) ⌝ }
+{
+    to_signed(word_at(s, at))
+}
+
+// Six words back to back, in order.
+struct Six {
+    first: u32,
+    second: u32,
+    third: u32,
+    fourth: u32,
+    fifth: u32,
+    sixth: u32,
+}
+
+// The six words from a place of the bytes on.
+fn six_at(s: &[u8], at: usize) -> Six
+    requires { ⌜ at + 24 ≤ length (now s) ⌝ }
+    ensures { λ r. ⌜ sixNumbers r ≡ sixFrom at (now (s .entry)) ⌝ }
+{
+    Six {
+        first: word_at(s, at),
+        second: word_at(s, at + 4),
+        third: word_at(s, at + 8),
+        fourth: word_at(s, at + 12),
+        fifth: word_at(s, at + 16),
+        sixth: word_at(s, at + 20),
+    }
+}
+
+// A phonon entry's words.
+fn phonon_of(b: &[u8]) -> RecordAnswer
+    requires { ⌜ 44 ≤ length (now b) ⌝ }
+    ensures { λ r. ⌜ givenRecord r ≡ kindGiven phononKind 0 (now (b .entry)) ⌝ }
+{
+    RecordAnswer::Phonon {
+        code: signed_at(b, 0),
+        tower: signed_at(b, 4),
+        gain: signed_at(b, 8),
+        qet_bias: signed_at(b, 12),
+        squid_bias: signed_at(b, 16),
+        lockpoint: signed_at(b, 20),
+        rtf_offset: signed_at(b, 24),
+        variable_gain: signed_at(b, 28),
+        delta_t: signed_at(b, 32),
+        t0: signed_at(b, 36),
+        trace_length: signed_at(b, 40),
+    }
+}
+
+// A charge entry's words.
+fn charge_of(b: &[u8]) -> RecordAnswer
+    requires { ⌜ 32 ≤ length (now b) ⌝ }
+    ensures { λ r. ⌜ givenRecord r ≡ kindGiven chargeKind 0 (now (b .entry)) ⌝ }
+{
+    RecordAnswer::Charge {
+        code: signed_at(b, 0),
+        tower: signed_at(b, 4),
+        gain: signed_at(b, 8),
+        bias: signed_at(b, 12),
+        rtf_offset: signed_at(b, 16),
+        delta_t: signed_at(b, 20),
+        t0: signed_at(b, 24),
+        trace_length: signed_at(b, 28),
+    }
+}
+
+// An administrative record's words.
+fn administrative_of(b: &[u8]) -> RecordAnswer
+    requires { ⌜ 24 ≤ length (now b) ⌝ }
+    ensures { λ r. ⌜ givenRecord r ≡ kindGiven administrativeKind 0 (now (b .entry)) ⌝ }
+{
+    let w = six_at(b, 0);
+    RecordAnswer::Administrative {
+        date: w.first,
+        clock: w.second,
+        number: w.third,
+        time: w.fourth,
+        since: w.fifth,
+        live: w.sixth,
+    }
+}
+
+// A trace's fields without its samples; n is its second count.
+fn trace_of(b: &[u8]) -> RecordAnswer
+    requires { ⌜ 48 ≤ length (now b) ⌝ }
+    ensures { λ r. ⌜ givenRecord r ≡ kindGiven traceKind 0 (now (b .entry)) ⌝ }
+{
+    RecordAnswer::Trace {
+        address: word_at(b, 8),
+        channel: word_at(b, 12),
+        code: word_at(b, 16),
+        t0: signed_at(b, 28),
+        delta_t: word_at(b, 32),
+        samples: word_at(b, 44),
+    }
+}
+
+// A GPS record's numbers. By shifts and nibbles (document 01).
+fn gps_of(b: &[u8]) -> RecordAnswer
+    requires { ⌜ 12 ≤ length (now b) ⌝ }
+    ensures { λ r. ⌜ givenRecord r ≡ kindGiven gpsKind 0 (now (b .entry)) ⌝ }
+{
+    let date = word_at(b, 0);
+    let clock = word_at(b, 4);
+    let tenths = word_at(b, 8);
+    RecordAnswer::Gps {
+        year: decimal(4, date >> 16),
+        day: decimal(4, date),
+        status: clock >> 28,
+        hour: decimal(2, clock >> 16),
+        minute: decimal(2, clock >> 8),
+        second: decimal(2, clock),
+        tenths: decimal(8, tenths),
+    }
+}
+
+// A trigger record's masks.
+fn trigger_of(b: &[u8]) -> RecordAnswer
+    requires { ⌜ 28 ≤ length (now b) ⌝ }
+    ensures { λ r. ⌜ givenRecord r ≡ kindGiven triggerKind 0 (now (b .entry)) ⌝ }
+{
+    let w = six_at(b, 4);
+    RecordAnswer::Trigger {
+        mask1: w.first,
+        mask2: w.second,
+        mask3: w.third,
+        mask4: w.fourth,
+        mask5: w.fifth,
+        mask6: w.sixth,
+    }
+}
+
+// A TLB mask's words.
+fn tlb_of(b: &[u8]) -> RecordAnswer
+    requires { ⌜ 24 ≤ length (now b) ⌝ }
+    ensures { λ r. ⌜ givenRecord r ≡ kindGiven tlbKind 0 (now (b .entry)) ⌝ }
+{
+    let w = six_at(b, 0);
+    RecordAnswer::Tlb {
+        tower1: w.first,
+        tower2: w.second,
+        tower3: w.third,
+        tower4: w.fourth,
+        tower5: w.fifth,
+        tower6: w.sixth,
+    }
+}
+
+// A history's section as the answer gives it: its count of times, where they start, its width, where its masks start.
+struct Section {
+    count: u32,
+    times: u32,
+    width: u32,
+    masks: u32,
+}
+
+// The section whose count stands at place p of a body that stands at `from`.
+fn section_of(from: usize, p: usize, b: &[u8]) -> Section
+    requires { ⌜ (widthAt p (now b) + 4 ≤ length (now b)) × (from + length (now b) ≤ fileLimit) ⌝ }
+    ensures { λ r. ⌜ sectionNumbers r ≡ sectionValues from p (now (b .entry)) ⌝ }
+{
+    let count = word_at(b, p);
+    let width_at = p + 4 + 4 * count as usize;
+    Section {
+        count,
+        times: (from + (p + 4)) as u32,
+        width: word_at(b, width_at),
+        masks: (from + (width_at + 4)) as u32,
+    }
+}
+
+// A history's sections, as places of the file that has the record at `place`.
+fn history_of(place: usize, b: &[u8]) -> RecordAnswer
+    requires { ⌜ (historyRule (now b) ≡ 0) × (place + 8 + length (now b) ≤ fileLimit) ⌝ }
+    ensures { λ r. ⌜ givenRecord r ≡ kindGiven historyKind place (now (b .entry)) ⌝ }
+{
+    let from = place + 8;
+    let veto = section_of(from, 0, b);
+    let trigger = section_of(from, section_end(0, b), b);
+    RecordAnswer::History {
+        veto_times: veto.count,
+        veto_times_at: veto.times,
+        veto_width: veto.width,
+        veto_masks_at: veto.masks,
+        trigger_times: trigger.count,
+        trigger_times_at: trigger.times,
+        trigger_width: trigger.width,
+        trigger_masks_at: trigger.masks,
+    }
+}
+
+// The fields of a body that follows its kind's rule, of a record at `place`. The default isn't reached.
+fn fields_of(kind: u32, place: usize, b: &[u8]) -> RecordAnswer
+    requires { ⌜ (recordRule kind (now b) ≡ 0) × (place + 8 + length (now b) ≤ fileLimit) ⌝ }
+    ensures { λ r. ⌜ givenRecord r ≡ kindGiven (kindOf kind) place (now (b .entry)) ⌝ }
+{
+    match kind {
+        rules::PHONON => phonon_of(b),
+        rules::CHARGE => charge_of(b),
+        rules::ADMINISTRATIVE => administrative_of(b),
+        rules::TRACE => trace_of(b),
+        rules::HISTORY => history_of(place, b),
+        rules::GPS => gps_of(b),
+        rules::TRIGGER => trigger_of(b),
+        rules::TLB => tlb_of(b),
+        _ => RecordAnswer::Refused { number: 5, place },
+    }
+}
+
+// ---- the calls
+
+/// What Record finds at a place: the kind word and the body's length, or Record's refusal. Every call by place begins with it.
+pub fn record_found(file: &[u8], place: usize) -> Step
+    ensures { λ r. ⌜ r ≡ stepOf (recordFound (now (file .entry)) place) ⌝ }
+{
+    if file.len() > FILE_LIMIT {
+        return Step::Bad {
+            number: 1,
+            place: 0,
+        };
+    }
+    if place > file.len() {
+        return Step::Bad { number: 2, place };
+    }
+    record_in(&file[place..], place, Context::Alone)
+}
+
+// The n bytes behind the two words of a record at a place.
+fn body_at(file: &[u8], place: usize, n: usize) -> &[u8]
+    requires { ⌜ place + 8 + n ≤ length (now file) ⌝ }
+    ensures { λ r. ⌜ now r ≡ bodyAt (now (file .entry)) place n ⌝ }
+{
+    &file[place + 8..place + 8 + n]
+}
+
+/// Record: the record or entry at a place with its fields, the whole file its parent and no event's rules; or a refusal.
+/// A case for each kind (document 01).
+pub fn record(file: &[u8], place: usize) -> RecordAnswer
+    ensures { λ r. ⌜ givenRecord r ≡ recordAt (now (file .entry)) place ⌝ }
+{
+    match record_found(file, place) {
+        Step::Good { kind, length } => fields_of(kind, place, body_at(file, place, length)),
+        Step::Bad { number, place: at } => RecordAnswer::Refused { number, place: at },
+    }
+}
+
+// A x100 word in working units. A float (document 01).
+fn hundredth_at(s: &[u8], at: usize) -> f64
+    requires { ⌜ at + 4 ≤ length (now s) ⌝ }
+    ensures { λ r. ⌜ r ≡ hundredth (signed (word at (now (s .entry)))) ⌝ }
+{
+    hundredth(signed_at(s, at))
+}
+
+// A phonon entry's words in working units.
+fn phonon_setting(b: &[u8]) -> SettingAnswer
+    requires { ⌜ 44 ≤ length (now b) ⌝ }
+    ensures { λ r. ⌜ givenSetting r ≡ accepted (count (phononKind .row) ∷ phononSetting (phononOf (now (b .entry)))) ⌝ }
+{
+    SettingAnswer::Phonon {
+        code: signed_at(b, 0),
+        tower: signed_at(b, 4),
+        gain: hundredth_at(b, 8),
+        qet_bias: hundredth_at(b, 12),
+        squid_bias: hundredth_at(b, 16),
+        lockpoint: hundredth_at(b, 20),
+        rtf_offset: signed_at(b, 24),
+        variable_gain: signed_at(b, 28),
+        delta_t: signed_at(b, 32),
+        t0: signed_at(b, 36),
+        trace_length: signed_at(b, 40),
+    }
+}
+
+// A charge entry's words in working units; its bias stays a whole number.
+fn charge_setting(b: &[u8]) -> SettingAnswer
+    requires { ⌜ 32 ≤ length (now b) ⌝ }
+    ensures { λ r. ⌜ givenSetting r ≡ accepted (count (chargeKind .row) ∷ chargeSetting (chargeOf (now (b .entry)))) ⌝ }
+{
+    SettingAnswer::Charge {
+        code: signed_at(b, 0),
+        tower: signed_at(b, 4),
+        gain: hundredth_at(b, 8),
+        bias: signed_at(b, 12),
+        rtf_offset: signed_at(b, 16),
+        delta_t: signed_at(b, 20),
+        t0: signed_at(b, 24),
+        trace_length: signed_at(b, 28),
+    }
+}
+
+// The setting of a body that follows its kind's rule; 5 at the place for another kind.
+fn setting_of(kind: u32, place: usize, b: &[u8]) -> SettingAnswer
+    requires { ⌜ recordRule kind (now b) ≡ 0 ⌝ }
+    ensures { λ r. ⌜ givenSetting r ≡ settingGiven place (ok (record { kind = kind; body = now (b .entry) })) ⌝ }
+{
+    match kind {
+        rules::PHONON => phonon_setting(b),
+        rules::CHARGE => charge_setting(b),
+        _ => SettingAnswer::Refused { number: 5, place },
+    }
+}
+
+/// Setting: the entry at a place in working units; Record's refusals, then 5 there for another kind.
+/// An enum with floats (document 01).
+pub fn setting(file: &[u8], place: usize) -> SettingAnswer
+    ensures { λ r. ⌜ givenSetting r ≡ settingAt (now (file .entry)) place ⌝ }
+{
+    match record_found(file, place) {
+        Step::Good { kind, length } => setting_of(kind, place, body_at(file, place, length)),
+        Step::Bad { number, place: at } => SettingAnswer::Refused { number, place: at },
+    }
+}

@@ -1,0 +1,8 @@
+//! The door: every public call, and nothing else. Each takes any input, has no `requires`, and its contract is an equation with the
+//! note's definitions.
+pub use answers::record;
+pub use answers::setting;
+pub use channels::channel;
+pub use channels::code;
+pub use fields::zip;
+pub use table::table;

@@ -1,0 +1,35 @@
+use Rattle.exports.specs.Lent.{numberOf, wholesIn, wholesAfter}
+-- The answer's case is the definition's, and each lent number follows it.
+use Rattle.note.specs.Answers.{givenCode}
+use borrow.Author.Needs.{needs}
+use Rattle.exports.proofs.dwj_code.Statement.{statement}
+use Rattle.exports.proofs.dwj_code.Tie as tie
+use Rattle.exports.proofs.dwj_code.Reads as reads
+use Rattle.exports.proofs.dwj_code.Lts as lts
+use Rattle.dwejrasq.proofs.code.Reads as code-reads
+
+-- src/lib.rt:63:11
+code-requires : tie.Need-code-requires
+code-requires c κs = search needs
+
+-- src/lib.rt:64:34
+enum-known-found : tie.Need-enum-known-found
+enum-known-found c = search needs
+
+-- src/lib.rt:68:31
+enum-known-number : tie.Need-enum-known-number
+enum-known-number c = search needs
+
+-- src/lib.rt:58:1
+returns : tie.Need-returns
+unfolding numberOf wholesIn wholesAfter givenCode
+returns c = let s = c .before .before .before in (rw (← s .code .ensures, c .before .found .given .1), rw (← s .code .ensures, c .before .found .given .1))
+
+-- src/lib.rt:58:1
+returns-2 : tie.Need-returns-2
+unfolding numberOf wholesIn wholesAfter givenCode
+returns-2 c = let s = c .before .before .before in (rw (← s .code .ensures, c .before .number .given .1), rw (← s .code .ensures, c .before .number .given .1))
+
+pub dwj-code-spec : {M : Type 1} → statement M
+dwj-code-spec =
+    tie.close (tie.spec code-requires enum-known-found enum-known-number returns returns-2)

@@ -1,0 +1,374 @@
+// Every public call for C: numbers and lent buffers alone. include/dwejrasq.h documents each.
+use note::CodeAnswer;
+use note::RecordAnswer;
+use note::SettingAnswer;
+ghost use mathlib.Core.Path.{_≡_};
+ghost use mathlib.Core.Bool.{cond};
+ghost use mathlib.Core.List.{[], _∷_};
+ghost use lib.Dec.{eqb};
+ghost use lib.IntN.{pos};
+ghost use lib.ListN.{length};
+ghost use Rattle.note.specs.Calls.{recordAt, settingAt};
+ghost use Rattle.note.specs.Channels.{channelAnswer, codeAnswer};
+ghost use Rattle.note.specs.Rows.{tableAnswer, tableBuffer};
+ghost use Rattle.note.specs.Tlb.{zipSet};
+ghost use Rattle.exports.specs.Lent.{numberOf, placeAfter, wholesAfter, floatsAfter, bit};
+
+/// Table: the number; the rows, their count and the place lent.
+#[no_mangle]
+pub extern "C" fn dwj_table(file: &[u8], rows: &mut [u32], count: &mut u64, place: &mut u64) -> u32
+    ensures number { λ r. ⌜ r ≡ tableAnswer (now (file .entry)) (length (now (rows .entry))) .number ⌝ }
+    ensures rows { λ _. ⌜ now (rows .exit) ≡ tableBuffer (now (file .entry)) (now (rows .entry)) ⌝ }
+    ensures count { λ _. ⌜ now (count .exit) ≡ tableAnswer (now (file .entry)) (length (now (rows .entry))) .count ⌝ }
+    ensures place { λ _. ⌜ now (place .exit) ≡ tableAnswer (now (file .entry)) (length (now (rows .entry))) .place ⌝ }
+{
+    let answer = dwejrasq::table(file, rows);
+    *count = answer.count as u64;
+    *place = answer.place as u64;
+    answer.number
+}
+
+/// Record: the row kind, then the fields in the order of their words, then zeros; on a refusal the place alone.
+#[no_mangle]
+pub extern "C" fn dwj_record(
+    file: &[u8],
+    place: usize,
+    values: &mut [i64; 12],
+    refusal: &mut u64,
+) -> u32
+    ensures number { λ r. ⌜ r ≡ numberOf (recordAt (now (file .entry)) place) ⌝ }
+    ensures values { λ _. ⌜ now (values .exit) ≡ wholesAfter 12 (now (values .entry)) (recordAt (now (file .entry)) place) ⌝ }
+    ensures refusal { λ _. ⌜ now (refusal .exit) ≡ placeAfter (now (refusal .entry)) (recordAt (now (file .entry)) place) ⌝ }
+{
+    match dwejrasq::record(file, place) {
+        RecordAnswer::Phonon {
+            code,
+            tower,
+            gain,
+            qet_bias,
+            squid_bias,
+            lockpoint,
+            rtf_offset,
+            variable_gain,
+            delta_t,
+            t0,
+            trace_length,
+        } => {
+            *values = [
+                3,
+                code as i64,
+                tower as i64,
+                gain as i64,
+                qet_bias as i64,
+                squid_bias as i64,
+                lockpoint as i64,
+                rtf_offset as i64,
+                variable_gain as i64,
+                delta_t as i64,
+                t0 as i64,
+                trace_length as i64,
+            ];
+            0
+        }
+        RecordAnswer::Charge {
+            code,
+            tower,
+            gain,
+            bias,
+            rtf_offset,
+            delta_t,
+            t0,
+            trace_length,
+        } => {
+            *values = [
+                4,
+                code as i64,
+                tower as i64,
+                gain as i64,
+                bias as i64,
+                rtf_offset as i64,
+                delta_t as i64,
+                t0 as i64,
+                trace_length as i64,
+                0,
+                0,
+                0,
+            ];
+            0
+        }
+        RecordAnswer::Administrative {
+            date,
+            clock,
+            number,
+            time,
+            since,
+            live,
+        } => {
+            *values = [
+                6,
+                date as i64,
+                clock as i64,
+                number as i64,
+                time as i64,
+                since as i64,
+                live as i64,
+                0,
+                0,
+                0,
+                0,
+                0,
+            ];
+            0
+        }
+        RecordAnswer::Trace {
+            address,
+            channel,
+            code,
+            t0,
+            delta_t,
+            samples,
+        } => {
+            *values = [
+                7,
+                address as i64,
+                channel as i64,
+                code as i64,
+                t0 as i64,
+                delta_t as i64,
+                samples as i64,
+                0,
+                0,
+                0,
+                0,
+                0,
+            ];
+            0
+        }
+        RecordAnswer::History {
+            veto_times,
+            veto_times_at,
+            veto_width,
+            veto_masks_at,
+            trigger_times,
+            trigger_times_at,
+            trigger_width,
+            trigger_masks_at,
+        } => {
+            *values = [
+                8,
+                veto_times as i64,
+                veto_times_at as i64,
+                veto_width as i64,
+                veto_masks_at as i64,
+                trigger_times as i64,
+                trigger_times_at as i64,
+                trigger_width as i64,
+                trigger_masks_at as i64,
+                0,
+                0,
+                0,
+            ];
+            0
+        }
+        RecordAnswer::Gps {
+            year,
+            day,
+            status,
+            hour,
+            minute,
+            second,
+            tenths,
+        } => {
+            *values = [
+                9,
+                year as i64,
+                day as i64,
+                status as i64,
+                hour as i64,
+                minute as i64,
+                second as i64,
+                tenths as i64,
+                0,
+                0,
+                0,
+                0,
+            ];
+            0
+        }
+        RecordAnswer::Trigger {
+            mask1,
+            mask2,
+            mask3,
+            mask4,
+            mask5,
+            mask6,
+        } => {
+            *values = [
+                10,
+                mask1 as i64,
+                mask2 as i64,
+                mask3 as i64,
+                mask4 as i64,
+                mask5 as i64,
+                mask6 as i64,
+                0,
+                0,
+                0,
+                0,
+                0,
+            ];
+            0
+        }
+        RecordAnswer::Tlb {
+            tower1,
+            tower2,
+            tower3,
+            tower4,
+            tower5,
+            tower6,
+        } => {
+            *values = [
+                11,
+                tower1 as i64,
+                tower2 as i64,
+                tower3 as i64,
+                tower4 as i64,
+                tower5 as i64,
+                tower6 as i64,
+                0,
+                0,
+                0,
+                0,
+                0,
+            ];
+            0
+        }
+        RecordAnswer::Refused { number, place: at } => {
+            *refusal = at as u64;
+            number
+        }
+    }
+}
+
+/// Setting: the row kind and the whole words, and the words in working units; zeros after each; on a refusal the place alone.
+#[no_mangle]
+pub extern "C" fn dwj_setting(
+    file: &[u8],
+    place: usize,
+    whole: &mut [i64; 8],
+    units: &mut [f64; 4],
+    refusal: &mut u64,
+) -> u32
+    ensures number { λ r. ⌜ r ≡ numberOf (settingAt (now (file .entry)) place) ⌝ }
+    ensures whole { λ _. ⌜ now (whole .exit) ≡ wholesAfter 8 (now (whole .entry)) (settingAt (now (file .entry)) place) ⌝ }
+    ensures units { λ _. ⌜ now (units .exit) ≡ floatsAfter 4 (now (units .entry)) (settingAt (now (file .entry)) place) ⌝ }
+    ensures refusal { λ _. ⌜ now (refusal .exit) ≡ placeAfter (now (refusal .entry)) (settingAt (now (file .entry)) place) ⌝ }
+{
+    match dwejrasq::setting(file, place) {
+        SettingAnswer::Phonon {
+            code,
+            tower,
+            gain,
+            qet_bias,
+            squid_bias,
+            lockpoint,
+            rtf_offset,
+            variable_gain,
+            delta_t,
+            t0,
+            trace_length,
+        } => {
+            *whole = [
+                3,
+                code as i64,
+                tower as i64,
+                rtf_offset as i64,
+                variable_gain as i64,
+                delta_t as i64,
+                t0 as i64,
+                trace_length as i64,
+            ];
+            *units = [gain, qet_bias, squid_bias, lockpoint];
+            0
+        }
+        SettingAnswer::Charge {
+            code,
+            tower,
+            gain,
+            bias,
+            rtf_offset,
+            delta_t,
+            t0,
+            trace_length,
+        } => {
+            *whole = [
+                4,
+                code as i64,
+                tower as i64,
+                bias as i64,
+                rtf_offset as i64,
+                delta_t as i64,
+                t0 as i64,
+                trace_length as i64,
+            ];
+            *units = [gain, 0.0, 0.0, 0.0];
+            0
+        }
+        SettingAnswer::Refused { number, place: at } => {
+            *refusal = at as u64;
+            number
+        }
+    }
+}
+
+/// Channel: type, number, and the lengths of both names, then the names; all untouched under 10.
+#[no_mangle]
+pub extern "C" fn dwj_channel(
+    code: u32,
+    numbers: &mut [u32; 4],
+    analysis: &mut [u8; 4],
+    cold: &mut [u8; 4],
+) -> u32
+    ensures number { λ r. ⌜ r ≡ channelAnswer code .number ⌝ }
+    ensures numbers { λ _. ⌜ now (numbers .exit) ≡ cond (eqb (channelAnswer code .number) 0) (channelAnswer code .kind ∷ channelAnswer code .detector ∷ channelAnswer code .analysis .length ∷ channelAnswer code .cold .length ∷ []) (now (numbers .entry)) ⌝ }
+    ensures analysis { λ _. ⌜ now (analysis .exit) ≡ cond (eqb (channelAnswer code .number) 0) (channelAnswer code .analysis .bytes) (now (analysis .entry)) ⌝ }
+    ensures cold { λ _. ⌜ now (cold .exit) ≡ cond (eqb (channelAnswer code .number) 0) (channelAnswer code .cold .bytes) (now (cold .entry)) ⌝ }
+{
+    let answer = dwejrasq::channel(code);
+    if answer.number == 0 {
+        *numbers = [
+            answer.kind,
+            answer.detector,
+            answer.analysis.length,
+            answer.cold.length,
+        ];
+        let a = answer.analysis.bytes;
+        let c = answer.cold.bytes;
+        *analysis = a;
+        *cold = c;
+    }
+    answer.number
+}
+
+/// Code: the detector code lent; untouched under 10.
+#[no_mangle]
+pub extern "C" fn dwj_code(kind: u32, detector: u32, name: &[u8], code: &mut u32) -> u32
+    ensures number { λ r. ⌜ r ≡ numberOf (codeAnswer kind detector (now (name .entry))) ⌝ }
+    ensures code { λ _. ⌜ pos (now (code .exit)) ∷ [] ≡ wholesAfter 1 (pos (now (code .entry)) ∷ []) (codeAnswer kind detector (now (name .entry))) ⌝ }
+{
+    match dwejrasq::code(kind, detector, name) {
+        CodeAnswer::Code { code: found } => {
+            *code = found;
+            0
+        }
+        CodeAnswer::Refused { number, place: _ } => number,
+    }
+}
+
+/// ZIP: 1 where the bit of a ZIP, from 1 to 24, is set in a TLB word, else 0.
+#[no_mangle]
+pub extern "C" fn dwj_zip(word: u32, zip: u32) -> u32
+    ensures { λ r. ⌜ r ≡ bit (zipSet word zip) ⌝ }
+{
+    if dwejrasq::zip(word, zip) { 1 } else { 0 }
+}
