@@ -1,5 +1,5 @@
-//! examples [DIR]: writes the example files into DIR (examples/ without one) and prints a line about
-//! each: its name, its size, and the first line of its listing by the outside implementation.
+//! examples [DIR]: writes the example files into DIR (examples/ without one), and beside each its
+//! listing by the outside implementation; prints a line about each: name, size, the listing's first line.
 
 #[allow(dead_code)]
 #[path = "outside/aimed.rs"]
@@ -41,6 +41,16 @@ const T0: i32 = -51_200;
 /// The most bytes that the listing program reads.
 const MOST_LISTED: usize = 16_384;
 
+/// Answer, count and place; then each row's number and six values.
+fn listing(answer: &reader::Table) -> String {
+    let mut text = format!("{} {} {}\n", answer.number, answer.count, answer.place);
+    for (i, row) in answer.rows.iter().enumerate() {
+        let values: Vec<String> = row.iter().map(u32::to_string).collect();
+        text += &format!("{} {}\n", i + 1, values.join(" "));
+    }
+    text
+}
+
 fn main() -> io::Result<()> {
     let folder = std::env::args().nth(1);
     let folder = Path::new(folder.as_deref().unwrap_or("examples"));
@@ -55,14 +65,10 @@ fn main() -> io::Result<()> {
     ] {
         assert!(bytes.len() <= MOST_LISTED);
         fs::write(folder.join(name), &bytes)?;
-        let answer = reader::table(&bytes);
-        println!(
-            "{name}: {} bytes, lists as '{} {} {}'",
-            bytes.len(),
-            answer.number,
-            answer.count,
-            answer.place
-        );
+        let listing = listing(&reader::table(&bytes));
+        fs::write(folder.join(name).with_extension("listing"), &listing)?;
+        let first = listing.lines().next().unwrap_or("");
+        println!("{name}: {} bytes, lists as '{first}'", bytes.len());
     }
     Ok(())
 }

@@ -1,0 +1,83 @@
+-- Demand 3, of what the calls give: one byte changed inside a trace's samples leaves Table's answer and buffer, the walker's yields, and
+-- Record's and Setting's answers at each row as they were, and of the samples changes only the one that holds it.
+-- The idea: the edited file is accepted with the same rows, and Table and the walker look at nothing else of it; the rest is the demand
+-- on the definitions, with the rows taken from the buffer.
+use mathlib.Core.Path.{_≡_, sym, ap, _∙_, subst}
+use mathlib.Core.Logic.{_≢_}
+use mathlib.Core.List.{List}
+use Prim.Native.Nat.{ℕ, _+_, _≤_, _<_}
+use lib.ListN.{length, set, length-set}
+use Rattle.theory.specs.Words.{Bytes}
+use Rattle.theory.specs.Tests.{ok}
+use Rattle.theory.specs.Layout.{Row, row}
+use Rattle.note.specs.Files.{File, readFile}
+use Rattle.note.specs.Rows.{rowsOf, tableAnswer, tableBuffer, yieldAt}
+use Rattle.note.specs.Calls.{recordAt, settingAt, sampleAt}
+use Rattle.demands.specs.Edited.{startOf, holder, Edited}
+use Rattle.demands.proofs.EditInFull.{edit-in-full}
+use Rattle.promises.specs.Buffers.{tableCount, tableRows, tableRow}
+use Rattle.promises.specs.EditedCalls.{SampleByte, EditedCalls}
+use Rattle.promises.proofs.TablePromises.{table-has-rows, row-in-table}
+
+-- Bytes of one length whose files have the same rows have the same table and the same yields.
+same-table : (bs cs : List ℕ) (f g : File) → length cs ≡ length bs → readFile bs ≡ ok f → readFile cs ≡ ok g → rowsOf g ≡ rowsOf f
+    → ((capacity : ℕ) → tableAnswer cs capacity ≡ tableAnswer bs capacity) × ((old : List ℕ) → tableBuffer cs old ≡ tableBuffer bs old)
+    × ((k : ℕ) → yieldAt cs k ≡ yieldAt bs k)
+unfolding tableAnswer tableBuffer yieldAt
+same-table bs cs f g n e q same = (λ capacity. rw (e, q, same, n), λ old. rw (e, q, same), λ k. rw (e, q, same))
+
+-- In an accepted file, row j is a trace, and byte i, inside its samples, becomes the byte x.
+module _ (bs : List ℕ) (f : File) (h : Bytes bs) (e : readFile bs ≡ ok f) (j : ℕ) (below : j < length (rowsOf f)) (kind : row (rowsOf f) j .kind ≡ 7)
+    (i x : ℕ) (lo : startOf f j + 56 ≤ i) (hi : i < startOf f j + row (rowsOf f) j .whole) (byte : x < 256) where
+  edited : Edited bs f j i x
+  edited = edit-in-full bs f h e j below kind i x lo hi byte
+
+  kept : ((capacity : ℕ) → tableAnswer (set bs i x) capacity ≡ tableAnswer bs capacity) × ((old : List ℕ) → tableBuffer (set bs i x) old ≡ tableBuffer bs old)
+      × ((k : ℕ) → yieldAt (set bs i x) k ≡ yieldAt bs k)
+  kept = same-table bs (set bs i x) f (edited .file) (length-set bs i x) e (edited .accepted) (edited .same-rows)
+
+  -- "still accepted, same rows": Table answers the same for every capacity and leaves the same in every buffer; the walker yields the same.
+  pub edit-keeps-answer : (capacity : ℕ) → tableAnswer (set bs i x) capacity ≡ tableAnswer bs capacity
+  edit-keeps-answer = kept .0
+
+  pub edit-keeps-buffer : (old : List ℕ) → tableBuffer (set bs i x) old ≡ tableBuffer bs old
+  edit-keeps-buffer = kept .1
+
+  pub edit-keeps-yields : (k : ℕ) → yieldAt (set bs i x) k ≡ yieldAt bs k
+  edit-keeps-yields = kept .2
+
+  -- "every other .. field reads as before": Record answers the same at each row's place.
+  pub edit-keeps-records : (k : ℕ) → k < length (rowsOf f) → recordAt (set bs i x) (startOf f k) ≡ recordAt bs (startOf f k)
+  edit-keeps-records k l = edited .fields-stay k l
+
+-- ---- the same, with the rows taken from the buffer
+
+table-row-is : (bs old : List ℕ) (given : tableAnswer bs (length old) .number ≡ 0) (f : File) → tableRows bs old ≡ rowsOf f
+    → (k : ℕ) → k < tableCount bs old → tableRow bs old k ≡ row (rowsOf f) k
+table-row-is bs old given f same k l = sym (row-in-table bs old given k l) ∙ ap (λ (rs : List Row). row rs k) same
+
+-- Demand 3: in a file for which Table answers 0, a byte from the 57th of a trace's row in the buffer to its last, changed to any byte.
+pub edit-seen-by-calls : (bs old : List ℕ) (j i x : ℕ) → Bytes bs → SampleByte bs old j i x → EditedCalls bs old j i x
+edit-seen-by-calls bs old j i x h s =
+    let (f, e, n, same) = table-has-rows bs old (s .answered) in
+    let is : (k : ℕ) → k < tableCount bs old → tableRow bs old k ≡ row (rowsOf f) k = table-row-is bs old (s .answered) f same in
+    let mine : tableRow bs old j ≡ row (rowsOf f) j = is j (s .counted) in
+    let inside : (k : ℕ) → k < tableCount bs old → k < length (rowsOf f) = λ k l. subst (λ (m : ℕ). k < m) n l in
+    let start : (k : ℕ) → k < tableCount bs old → startOf f k ≡ tableRow bs old k .start = λ k l. ap (λ (r : Row). r .start) (sym (is k l)) in
+    let here : j < length (rowsOf f) = inside j (s .counted) in
+    let trace : row (rowsOf f) j .kind ≡ 7 = subst (λ (r : Row). r .kind ≡ 7) mine (s .trace) in
+    let lo : startOf f j + 56 ≤ i = subst (λ (r : Row). r .start + 56 ≤ i) mine (s .from) in
+    let hi : i < startOf f j + row (rowsOf f) j .whole = subst (λ (r : Row). i < r .start + r .whole) mine (s .below) in
+    let new : Edited bs f j i x = edit-in-full bs f h e j here trace i x lo hi (s .byte) in
+    record {
+      same-answer = edit-keeps-answer bs f h e j here trace i x lo hi (s .byte);
+      same-buffer = edit-keeps-buffer bs f h e j here trace i x lo hi (s .byte);
+      same-yields = edit-keeps-yields bs f h e j here trace i x lo hi (s .byte);
+      same-records = λ k l. subst (λ (p : ℕ). recordAt (set bs i x) p ≡ recordAt bs p) (start k l) (new .fields-stay k (inside k l));
+      same-settings = λ k l. subst (λ (p : ℕ). settingAt (set bs i x) p ≡ settingAt bs p) (start k l) (new .settings-stay k (inside k l));
+      sample-changes = λ d.
+          subst (λ (p : ℕ). sampleAt (set bs i x) p (holder p i) ≢ sampleAt bs p (holder p i)) (start j (s .counted)) (new .sample-changes d);
+      other-samples-stay = λ k m l d.
+          subst (λ (p : ℕ). sampleAt (set bs i x) p m ≡ sampleAt bs p m) (start k l)
+          (new .other-samples-stay k m (inside k l) (λ q. d (q .0, q .1 ∙ ap (λ (p : ℕ). holder p i) (start j (s .counted)))));
+    }

@@ -1,0 +1,217 @@
+-- Demand 3, of what Table gives: the rows that stand in its buffer tile the file, lie inside their parents and are at most an eighth of
+-- the length; the rest of the buffer is unchanged, and on a refusal all of it.
+-- The idea: the rows read back from the buffer are the rows of the file, of which the demands are proved.
+use mathlib.Core.Path.{_≡_, refl, sym, ap, ap₂, _∙_, subst}
+use mathlib.Core.Logic.{_≢_}
+use mathlib.Core.Bool.{Bool, true, false, cond}
+use mathlib.Core.List.{List, [], _∷_, _++_, append-assoc}
+use Prim.Native.Nat.{ℕ, zero, suc, _+_, _*_, _≤_, _<_}
+use native.Mathlib.Nat.{le-of-suc-le-suc, not-suc-le-zero}
+use native.Mathlib.Decide.{ℕ-discrete}
+use native.Mathlib.Omega.{arith}
+use lib.ListN.{length, drop, getD, length-append, length-drop}
+use lib.Seq.{getD-append-add, drop-at, ext-getD}
+use borrow.Author.Tests.{leb-true, le-leb}
+use Rattle.theory.specs.Words.{Bytes}
+use Rattle.theory.specs.Tests.{Res, ok, bad}
+use Rattle.theory.specs.Layout.{Row, noRow, row, Tiles, Owns, Placed}
+use Rattle.theory.proofs.LayoutLaws.{owner, owner-one, parent-before, All, All-at}
+use Rattle.note.specs.Limits.{rowWidth}
+use Rattle.note.specs.Files.{File, readFile}
+use Rattle.note.specs.Rows.{rowsOf, isBox, rowNumbers, flat, fits, tableGiven, tableFilled, tableAnswer, tableBuffer}
+use Rattle.demands.proofs.RowLaws.{rows-inside, rows-tile-file, few-rows-in-file}
+use Rattle.promises.specs.Buffers.{numberAt, rowAt, rowsFrom, tableCount, tableRows, tableRow}
+use Rattle.promises.proofs.RefusalLaws.{refusal-is-numbered}
+
+-- ---- rows read back
+
+length-flat : (rs : List Row) → length (flat rs) ≡ rowWidth * length rs
+unfolding flat
+length-flat [] = refl
+length-flat (r ∷ rs) = omega (arith, length-flat rs)
+
+-- behind one row, the next row is the first
+number-behind : (r : Row) (xs : List ℕ) (j c : ℕ) → numberAt (rowNumbers r ++ xs) (suc j) c ≡ numberAt xs j c
+number-behind r xs j c =
+    let e : rowWidth * suc j + c ≡ length (rowNumbers r) + (rowWidth * j + c) = omega arith in
+    ap (λ (m : ℕ). getD (rowNumbers r ++ xs) m 0) e ∙ getD-append-add (rowNumbers r) xs (rowWidth * j + c) 0
+
+row-behind : (r : Row) (xs : List ℕ) (j : ℕ) → rowAt (rowNumbers r ++ xs) (suc j) ≡ rowAt xs j
+row-behind r xs j = λ i. record {
+  kind = number-behind r xs j 0 i;
+  start = number-behind r xs j 1 i;
+  whole = number-behind r xs j 2 i;
+  parent = number-behind r xs j 3 i;
+  one = number-behind r xs j 4 i;
+  two = number-behind r xs j 5 i;
+}
+
+-- row j of the rows' numbers is row j
+flat-row : (rs : List Row) (rest : List ℕ) (j : ℕ) → j < length rs → rowAt (flat rs ++ rest) j ≡ row rs j
+unfolding flat
+flat-row [] rest j h = absurd (not-suc-le-zero h)
+flat-row (r ∷ rs) rest zero h = refl
+flat-row (r ∷ rs) rest (suc j) h =
+    ap (λ (x : List ℕ). rowAt x (suc j)) (append-assoc (rowNumbers r) (flat rs) rest)
+    ∙ row-behind r (flat rs ++ rest) j
+    ∙ flat-row rs rest j (le-of-suc-le-suc h)
+
+pub length-rowsFrom : (buffer : List ℕ) (j n : ℕ) → length (rowsFrom buffer j n) ≡ n
+unfolding rowsFrom
+length-rowsFrom buffer j zero = refl
+length-rowsFrom buffer j (suc n) = ap suc (length-rowsFrom buffer (suc j) n)
+
+-- Row k of the rows read back from row j on is row j + k of the buffer.
+pub row-from : (buffer : List ℕ) (j n k : ℕ) → k < n → row (rowsFrom buffer j n) k ≡ rowAt buffer (j + k)
+unfolding rowsFrom
+row-from buffer j zero k h = absurd (not-suc-le-zero h)
+row-from buffer j (suc n) zero h = let e : j ≡ j + 0 = omega arith in ap (rowAt buffer) e
+row-from buffer j (suc n) (suc k) h =
+    let e : suc j + k ≡ j + suc k = omega arith in
+    row-from buffer (suc j) n k (le-of-suc-le-suc h) ∙ ap (rowAt buffer) e
+
+read-back : (rs : List Row) (rest : List ℕ) → rowsFrom (flat rs ++ rest) 0 (length rs) ≡ rs
+read-back rs rest =
+    let n : length (rowsFrom (flat rs ++ rest) 0 (length rs)) ≡ length rs = length-rowsFrom (flat rs ++ rest) 0 (length rs) in
+    ext-getD noRow (rowsFrom (flat rs ++ rest) 0 (length rs)) rs n
+    (λ k l.
+    let below : k < length rs = omega (arith, n) in
+    let e : 0 + k ≡ k = omega arith in
+    row-from (flat rs ++ rest) 0 (length rs) k below ∙ ap (rowAt (flat rs ++ rest)) e ∙ flat-row rs rest k below)
+
+-- ---- what the answer says
+
+-- Of any reading of the bytes: Table's number 0 is an accepted file whose rows fit.
+given-zero : (bs : List ℕ) (capacity : ℕ) (r : Res File) → ((c p : ℕ) → r ≡ bad c p → 0 < c) → tableGiven bs capacity r .number ≡ 0
+    → (f : File) × (r ≡ ok f) × (rowWidth * length (rowsOf f) ≤ capacity)
+given-zero bs capacity (bad c p) g e = absurd (let h : 0 < c = g c p refl in omega (arith, e, h))
+given-zero bs capacity (ok f) g e = (f, refl, leb-true (rowWidth * length (rowsOf f)) capacity (passed (fits capacity (rowsOf f)) e))
+  where
+    passed : (t : Bool) → _≡_ {A = ℕ} (cond t 0 12) 0 → t ≡ true
+    passed true q = refl
+    passed false q = absurd (omega arith)
+
+-- 0 is "accepted; place is the file's length": exactly an accepted file whose rows fit in the buffer.
+pub zero-means-accepted : (bs old : List ℕ) → tableAnswer bs (length old) .number ≡ 0
+    → (f : File) × (readFile bs ≡ ok f) × (rowWidth * length (rowsOf f) ≤ length old)
+unfolding tableAnswer
+zero-means-accepted bs old e = given-zero bs (length old) (readFile bs) (refusal-is-numbered bs) e
+
+pub accepted-means-zero : (bs old : List ℕ) (f : File) → readFile bs ≡ ok f → rowWidth * length (rowsOf f) ≤ length old
+    → tableAnswer bs (length old) ≡ record { number = 0; count = length (rowsOf f); place = length bs }
+unfolding tableAnswer
+accepted-means-zero bs old f e room = rw (e, le-leb (rowWidth * length (rowsOf f)) (length old) room)
+
+-- ---- the buffer of a refused file
+
+filled-refused : (bs old : List ℕ) (r : Res File) → tableGiven bs (length old) r .number ≢ 0 → tableFilled old r ≡ old
+filled-refused bs old (bad c p) d = refl
+filled-refused bs old (ok f) d = kept (fits (length old) (rowsOf f)) d
+  where
+    kept : (t : Bool) → _≢_ {A = ℕ} (cond t 0 12) 0 → cond t (flat (rowsOf f) ++ drop (rowWidth * length (rowsOf f)) old) old ≡ old
+    kept true q = absurd (q refl)
+    kept false q = refl
+
+-- A refusal, 12 among them, leaves the whole buffer as it was.
+pub refusal-keeps-buffer : (bs old : List ℕ) → tableAnswer bs (length old) .number ≢ 0 → tableBuffer bs old ≡ old
+unfolding tableAnswer tableBuffer
+refusal-keeps-buffer bs old d = filled-refused bs old (readFile bs) d
+
+-- ---- the buffer of an accepted file
+
+module _ (bs old : List ℕ) (f : File) (e : readFile bs ≡ ok f) (room : rowWidth * length (rowsOf f) ≤ length old) where
+  filled-with : tableBuffer bs old ≡ flat (rowsOf f) ++ drop (rowWidth * length (rowsOf f)) old
+  unfolding tableBuffer
+  filled-with = rw (e, le-leb (rowWidth * length (rowsOf f)) (length old) room)
+
+  counted : tableCount bs old ≡ length (rowsOf f)
+  counted = ap (λ a. a .count) (accepted-means-zero bs old f e room)
+
+  filled-length : length (tableBuffer bs old) ≡ length old
+  filled-length =
+      omega (
+        arith,
+        ap length filled-with,
+        length-append (flat (rowsOf f)) (drop (rowWidth * length (rowsOf f)) old),
+        length-flat (rowsOf f),
+        length-drop (rowWidth * length (rowsOf f)) old,
+      )
+
+  filled-rest : drop (rowWidth * tableCount bs old) (tableBuffer bs old) ≡ drop (rowWidth * tableCount bs old) old
+  filled-rest =
+      ap₂ (λ (n : ℕ) (x : List ℕ). drop (rowWidth * n) x) counted filled-with
+      ∙ drop-at (flat (rowsOf f)) (drop (rowWidth * length (rowsOf f)) old) (rowWidth * length (rowsOf f)) (length-flat (rowsOf f))
+      ∙ ap (λ (n : ℕ). drop (rowWidth * n) old) (sym counted)
+
+  filled-rows : tableRows bs old ≡ rowsOf f
+  filled-rows =
+      ap₂ (λ (x : List ℕ) (n : ℕ). rowsFrom x 0 n) filled-with counted ∙ read-back (rowsOf f) (drop (rowWidth * length (rowsOf f)) old)
+
+-- A buffer keeps its length, whatever the answer.
+pub buffer-keeps-length : (bs old : List ℕ) → length (tableBuffer bs old) ≡ length old
+buffer-keeps-length bs old = elim (ℕ-discrete (tableAnswer bs (length old) .number) 0) [
+  | yes e ↦ let (f, r, room) = zero-means-accepted bs old e in filled-length bs old f r room
+  | no d ↦ ap length (refusal-keeps-buffer bs old d)
+]
+
+-- Table has answered 0.
+module _ (bs old : List ℕ) (zero-given : tableAnswer bs (length old) .number ≡ 0) where
+  -- "The rest of that buffer is unchanged."
+  pub rest-of-buffer-stays : drop (rowWidth * tableCount bs old) (tableBuffer bs old) ≡ drop (rowWidth * tableCount bs old) old
+  rest-of-buffer-stays = let (f, e, room) = zero-means-accepted bs old zero-given in filled-rest bs old f e room
+
+  -- The rows fit in the buffer.
+  pub rows-fit-buffer : rowWidth * tableCount bs old ≤ length old
+  rows-fit-buffer =
+      let (f, e, room) = zero-means-accepted bs old zero-given in
+      subst (λ (n : ℕ). rowWidth * n ≤ length old) (sym (counted bs old f e room)) room
+
+  -- The rows that stand in the buffer are the file's, as many as the count says.
+  pub table-has-rows : (f : File) × (readFile bs ≡ ok f) × (tableCount bs old ≡ length (rowsOf f)) × (tableRows bs old ≡ rowsOf f)
+  table-has-rows = let (f, e, room) = zero-means-accepted bs old zero-given in (f, e, counted bs old f e room, filled-rows bs old f e room)
+
+  -- Row j among them is row j of the buffer.
+  pub row-in-table : (j : ℕ) → j < tableCount bs old → row (tableRows bs old) j ≡ tableRow bs old j
+  row-in-table j l = let e : 0 + j ≡ j = omega arith in row-from (tableBuffer bs old) 0 (tableCount bs old) j l ∙ ap (rowAt (tableBuffer bs old)) e
+
+  -- "Each child inside its one parent": each row that has a parent lies behind that row's own eight bytes, within its whole length.
+  pub table-rows-inside : All (Placed (tableRows bs old)) (tableRows bs old)
+  table-rows-inside =
+      let (f, e, n, same) = table-has-rows in
+      subst (λ (rs : List Row). All (Placed rs) rs) (sym same) (rows-inside f)
+
+  module _ (h : Bytes bs) where
+    -- "In row order the rows' own bytes run from the first byte to the last without gap or overlap."
+    pub table-tiles : Tiles isBox 0 (tableRows bs old) (length bs)
+    table-tiles =
+        let (f, e, n, same) = table-has-rows in
+        subst (λ (rs : List Row). Tiles isBox 0 rs (length bs)) (sym same) (rows-tile-file bs f h e)
+
+    -- "Rows are never more than an eighth of the length."
+    pub table-has-few-rows : 8 * tableCount bs old ≤ length bs
+    table-has-few-rows =
+        let (f, e, n, same) = table-has-rows in
+        subst (λ (n : ℕ). 8 * n ≤ length bs) (sym n) (few-rows-in-file bs f h e)
+
+    -- "Every byte belongs to one row": to a row of the buffer, and to no other.
+    pub byte-has-table-row : (i : ℕ) → i < length bs → (j : ℕ) × (j < tableCount bs old) × Owns isBox (tableRow bs old j) i
+    byte-has-table-row i l =
+        let (j, below, owns) = owner isBox 0 (length bs) (tableRows bs old) i table-tiles (omega arith) l in
+        let counts : j < tableCount bs old = omega (arith, length-rowsFrom (tableBuffer bs old) 0 (tableCount bs old)) in
+        (j, counts, subst (λ (r : Row). Owns isBox r i) (row-in-table j counts) owns)
+
+    pub byte-has-one-table-row : (i j k : ℕ) → j < tableCount bs old → k < tableCount bs old
+        → Owns isBox (tableRow bs old j) i → Owns isBox (tableRow bs old k) i → j ≡ k
+    byte-has-one-table-row i j k lj lk oj ok′ =
+        let n : length (tableRows bs old) ≡ tableCount bs old = length-rowsFrom (tableBuffer bs old) 0 (tableCount bs old) in
+        owner-one isBox 0 (length bs) (tableRows bs old) i table-tiles j k (omega (arith, n)) (omega (arith, n))
+        (subst (λ (r : Row). Owns isBox r i) (sym (row-in-table j lj)) oj)
+        (subst (λ (r : Row). Owns isBox r i) (sym (row-in-table k lk)) ok′)
+
+    -- "A parent before its children": the parent's row number, from 1, is at most the number of rows before the child.
+    pub table-parent-before : (j : ℕ) → j < tableCount bs old → tableRow bs old j .parent ≤ j
+    table-parent-before j l =
+        let n : length (tableRows bs old) ≡ tableCount bs old = length-rowsFrom (tableBuffer bs old) 0 (tableCount bs old) in
+        let below : j < length (tableRows bs old) = omega (arith, n) in
+        subst (λ (r : Row). r .parent ≤ j) (row-in-table j l)
+        (parent-before isBox (length bs) (tableRows bs old) table-tiles j below (All-at (Placed (tableRows bs old)) (tableRows bs old) table-rows-inside j below))

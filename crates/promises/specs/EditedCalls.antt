@@ -1,0 +1,35 @@
+-- Document 01, 'Rows and calls', under demand 3: what the calls give after one byte is changed inside a trace's samples.
+use Prim.Native.Nat.{ℕ, _+_, _≤_, _<_}
+use mathlib.Core.Path.{_≡_}
+use mathlib.Core.Logic.{_≢_}
+use mathlib.Core.List.{List}
+use lib.ListN.{length, getD, set}
+use Rattle.note.specs.Rows.{tableAnswer, tableBuffer, yieldAt}
+use Rattle.note.specs.Calls.{recordAt, settingAt, sampleAt}
+use Rattle.demands.specs.Edited.{holder}
+use Rattle.promises.specs.Buffers.{tableCount, tableRow}
+
+-- Table has answered 0 for the bytes bs and the buffer old, and row j of the buffer is a trace; byte i is inside its samples, which
+-- begin 56 bytes from its first byte, and x is a byte.
+pub record SampleByte (bs old : List ℕ) (j i x : ℕ) : Type 0 where
+  pub answered : tableAnswer bs (length old) .number ≡ 0
+  pub counted : j < tableCount bs old
+  pub trace : tableRow bs old j .kind ≡ 7
+  pub from : tableRow bs old j .start + 56 ≤ i
+  pub below : i < tableRow bs old j .start + tableRow bs old j .whole
+  pub byte : x < 256
+
+-- "One byte changed inside a trace's samples: still accepted, same rows, the sample that holds it changes, every other sample and field
+-- reads as before." Byte i of bs becomes x: Table's answer for every capacity, its buffer and the walker's yields are the same; at the
+-- start of each row in the buffer Record and Setting answer the same; of the samples only the one that holds byte i changes.
+pub record EditedCalls (bs old : List ℕ) (j i x : ℕ) : Type 0 where
+  pub same-answer : (capacity : ℕ) → tableAnswer (set bs i x) capacity ≡ tableAnswer bs capacity
+  pub same-buffer : (other : List ℕ) → tableBuffer (set bs i x) other ≡ tableBuffer bs other
+  pub same-yields : (k : ℕ) → yieldAt (set bs i x) k ≡ yieldAt bs k
+  pub same-records : (k : ℕ) → k < tableCount bs old → recordAt (set bs i x) (tableRow bs old k .start) ≡ recordAt bs (tableRow bs old k .start)
+  pub same-settings : (k : ℕ) → k < tableCount bs old → settingAt (set bs i x) (tableRow bs old k .start) ≡ settingAt bs (tableRow bs old k .start)
+  pub sample-changes : x ≢ getD bs i 0
+      → sampleAt (set bs i x) (tableRow bs old j .start) (holder (tableRow bs old j .start) i)
+      ≢ sampleAt bs (tableRow bs old j .start) (holder (tableRow bs old j .start) i)
+  pub other-samples-stay : (k n : ℕ) → k < tableCount bs old → ((k ≡ j) × (n ≡ holder (tableRow bs old j .start) i) → ⊥)
+      → sampleAt (set bs i x) (tableRow bs old k .start) n ≡ sampleAt bs (tableRow bs old k .start) n

@@ -1,0 +1,82 @@
+/* The reader's calls for C. Every call takes any bytes and any numbers and ends.
+ *
+ * A call's result is 0 where it is accepted, or one of the refusal numbers
+ *
+ *    1  the file is longer than 16,777,216 bytes; place 0
+ *    2  fewer than 8 bytes are left for a structure, or its length passes its parent
+ *    3  the file's first word is not 0x01020304
+ *    4  the format is not 2.0
+ *    5  a kind, an inner kind or an event's 0xA980 is not as allowed here
+ *    6  a length is wrong for the kind or its counts
+ *    7  an event's class, category or type is not admitted
+ *    8  an event of type 7
+ *    9  an event of length 0, a first record that is not administrative, or a kind repeated
+ *   10  a field is outside its rule
+ *   11  a trace's count is odd, below 2 or above 32,768, or its two counts differ
+ *   12  the rows do not fit what was lent
+ *
+ * What a caller must see to, since C cannot check it:
+ *  - each pointer is valid for the length given with it, or for the length named here, and aligned for its type; a length of 0
+ *    still needs a pointer that is not null;
+ *  - no lent buffer overlaps another, or the file;
+ *  - no other thread changes the file or a lent buffer during the call.
+ * No call keeps a pointer, allocates, or writes to the file.
+ */
+#ifndef DWEJRASQ_H
+#define DWEJRASQ_H
+
+#include <stddef.h>
+#include <stdint.h>
+
+#ifdef __cplusplus
+extern "C" {
+#endif
+
+/* Table: checks the whole file and fills its rows, six numbers each:
+ *   kind, start, length in bytes, number of the parent's row from 1 (0 at the top), value one, value two.
+ * rows_length counts numbers, not rows. *count and *place are always written.
+ *   0   *count rows stand first in rows, the rest of it is unchanged, *place is file_length
+ *   12  *count is the rows needed, *place is file_length, rows is unchanged
+ *   else  *count is 0, *place is where the file is refused, rows is unchanged
+ */
+uint32_t dwj_table(const uint8_t *file, size_t file_length, uint32_t *rows, size_t rows_length, uint64_t *count, uint64_t *place);
+
+/* Record: the record or entry at a place of the file, without an event's rules. On 0 values[0] is the row kind, then the fields in
+ * this order, then zeros up to twelve; *refused_at is unchanged. On a refusal values is unchanged and *refused_at is its place.
+ *    3  phonon: code, tower, gain x100, QET bias x100, SQUID bias x100, lockpoint x100, RTF offset, variable gain, delta t, t0,
+ *       trace length
+ *    4  charge: code, tower, gain x100, bias, RTF offset, delta t, t0, trace length
+ *    6  administrative: series LLYYMMDD, series HHMM, event number, event time, time since the last event (ms), live time (ms)
+ *    7  trace: base address, digitizer channel, detector code, t0 (ns), delta t (ns), count of samples
+ *    8  history: count of veto times, where they start, words of a veto mask, where the masks start; the same four for the trigger;
+ *       a start is a place of the file
+ *    9  GPS: year, day, status, hour, minute, second, tenths of a microsecond
+ *   10  trigger: six masks
+ *   11  TLB: six words, by tower
+ * Entry words, and a trace's t0, are signed.
+ */
+uint32_t dwj_record(const uint8_t *file, size_t file_length, size_t place, int64_t values[12], uint64_t *refused_at);
+
+/* Setting: an entry in working units; Record's refusals, then 5 there for another kind. Lent numbers as with Record.
+ *    3  phonon: whole = 3, code, tower, RTF offset, variable gain, delta t, t0, trace length;
+ *       units = gain, QET bias, SQUID bias, lockpoint
+ *    4  charge: whole = 4, code, tower, bias, RTF offset, delta t, t0, trace length; units = gain, 0, 0, 0
+ */
+uint32_t dwj_setting(const uint8_t *file, size_t file_length, size_t place, int64_t whole[8], double units[4], uint64_t *refused_at);
+
+/* Channel: of a detector code. numbers = type, detector number, length of the analysis name, length of the cold name; the names are
+ * ASCII, with zeros up to four bytes and without an end mark. 10 where the code names no listed channel; all unchanged then.
+ */
+uint32_t dwj_channel(uint32_t code, uint32_t numbers[4], uint8_t analysis[4], uint8_t cold[4]);
+
+/* Code: the detector code of a type, a number from 0 to 999 and an analysis name. 10 where there is none; *code is unchanged then. */
+uint32_t dwj_code(uint32_t type, uint32_t number, const uint8_t *name, size_t name_length, uint32_t *code);
+
+/* ZIP: 1 where the bit of a ZIP, from 1 to 24, is set in a TLB word, else 0. */
+uint32_t dwj_zip(uint32_t word, uint32_t zip);
+
+#ifdef __cplusplus
+}
+#endif
+
+#endif
