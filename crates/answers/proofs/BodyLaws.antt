@@ -1,4 +1,4 @@
--- What a body that follows its kind's rule shows to the code that reads its fields: how long it is, and a history's two sections.
+-- What a body that follows its kind's rule shows to the code that reads its fields: how long it is.
 -- The idea: a rule that passes has passed each of its tests, and each kind's first test asks for a length.
 use mathlib.Core.Path.{_≡_}
 use mathlib.Core.Bool.{true, false, cond}
@@ -13,7 +13,7 @@ use Rattle.note.specs.Phonon.{phononRule, phononKind}
 use Rattle.note.specs.Charge.{chargeRule, chargeKind}
 use Rattle.note.specs.Administrative.{administrativeRule, administrativeKind}
 use Rattle.note.specs.Trace.{traceRule, traceKind}
-use Rattle.note.specs.History.{triggerAt, sectionRule, historyTests, historyRule, historyKind}
+use Rattle.note.specs.History.{historyRule, historyKind}
 use Rattle.note.specs.Gps.{gpsRule, gpsKind}
 use Rattle.note.specs.Trigger.{triggerRule, triggerKind}
 use Rattle.note.specs.Tlb.{tlbRule, tlbKind}
@@ -45,12 +45,3 @@ long-enough k b =
     kind-cases (λ w x. x .rule b ≡ 0 → least w ≤ length b) k
     (exactly 44 _ b) (exactly 32 _ b) (exactly 24 _ b) (at-least 48 _ b) (at-least 16 _ b) (exactly 12 _ b) (exactly 28 _ b) (exactly 24 _ b)
     (λ e. absurd (omega arith))
-
-module _ (b : List ℕ) (e : historyRule b ≡ 0) where
-  pub veto-follows : sectionRule false 0 b ≡ 0
-  unfolding historyRule
-  veto-follows = first-at (historyTests b) e 2
-
-  pub trigger-follows : sectionRule true (triggerAt b) b ≡ 0
-  unfolding historyRule
-  trigger-follows = first-at (historyTests b) e 3

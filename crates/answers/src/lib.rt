@@ -30,9 +30,6 @@ ghost use Rattle.note.specs.Calls.{recordFound, recordAt, hundredth, phononSett
 ghost use Rattle.record.specs.Steps.{stepOf};
 ghost use Rattle.answers.specs.Bodies.{bodyAt, kindGiven, sixNumbers, sixFrom, sectionNumbers};
 
-// The greatest length of a lent file.
-const FILE_LIMIT: usize = 16_777_216;
-
 // ---- fields of a body: no value of these kinds but a history's is a place, so their answers are those at place 0
 
 // The signed word at a place of the bytes.
@@ -254,7 +251,7 @@ fn fields_of(kind: u32, place: usize, b: &[u8]) -> RecordAnswer
 pub fn record_found(file: &[u8], place: usize) -> Step
     ensures { λ r. ⌜ r ≡ stepOf (recordFound (now (file .entry)) place) ⌝ }
 {
-    if file.len() > FILE_LIMIT {
+    if file.len() > record::FILE_LIMIT {
         return Step::Bad {
             number: 1,
             place: 0,

@@ -15,9 +15,6 @@ ghost use Rattle.note.specs.Files.{readConfiguration, readFile};
 ghost use Rattle.record.specs.Steps.{contextOf};
 ghost use Rattle.containers.specs.Counts.{recordCount, containerStep, eventRows, fileRows};
 
-/// The greatest length of a lent file or output.
-pub const FILE_LIMIT: usize = 16_777_216;
-
 /// How many there are, or the refusal.
 pub enum Count {
     Good { count: usize },
@@ -171,7 +168,7 @@ pub fn check(file: &[u8]) -> Count
     ensures { λ r. ⌜ r ≡ fileRows (readFile (now (file .entry))) ⌝ }
 {
     let room = file.len();
-    if FILE_LIMIT < room {
+    if record::FILE_LIMIT < room {
         return Count::Bad {
             number: 1,
             place: 0,

@@ -7,6 +7,9 @@ ghost use Rattle.theory.specs.Tests.{among};
 ghost use Rattle.note.specs.Records.{entryKinds, recordKinds, event, none, isKind, isPlaced, isAllowed, behind, readRecord};
 ghost use Rattle.record.specs.Steps.{seenOf, contextOf, stepOf};
 
+/// The greatest length of a lent file.
+pub const FILE_LIMIT: usize = 16_777_216;
+
 /// Which kinds that occur at most once came before in an event.
 pub struct Seen {
     pub administrative: bool,

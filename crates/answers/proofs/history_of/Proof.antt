@@ -3,7 +3,7 @@
 use native.Mathlib.Omega.{arith}
 use borrow.Author.Needs.{needs}
 use Rattle.note.specs.Answers.{givenRecord}
-use Rattle.answers.proofs.BodyLaws.{veto-follows, trigger-follows}
+use Rattle.rules.proofs.RoomLaws.{veto-follows, trigger-follows}
 use Rattle.answers.proofs.history_of.Statement.{statement}
 use Rattle.answers.proofs.history_of.Tie as tie
 use Rattle.rules.proofs.SectionLaws.{room, thin}
