@@ -9,65 +9,52 @@ use Rattle.answers.proofs.section_of.Reads as reads
 use Rattle.answers.proofs.section_of.Lts as lts
 use Rattle.words.proofs.word_at.Reads as word-at-reads
 
--- src/lib.rt:203:9
 word-at-requires : tie.Need-word-at-requires
 unfolding widthAt
 word-at-requires c κs = omega arith
 
--- src/lib.rt:204:20
 add-width-at : tie.Need-add-width-at
 unfolding widthAt
 add-width-at c = omega arith
 
--- src/lib.rt:204:32
 cast-width-at : tie.Need-cast-width-at
 cast-width-at c = search needs
 
--- src/lib.rt:204:28
 mul-width-at : tie.Need-mul-width-at
 mul-width-at c = search needs
 
--- src/lib.rt:204:20
 add-width-at-2 : tie.Need-add-width-at-2
 unfolding widthAt
 add-width-at-2 c = omega arith
 
--- src/lib.rt:207:25
 add-t6 : tie.Need-add-t6
 unfolding widthAt
 add-t6 c = omega arith
 
--- src/lib.rt:207:17
 add-t8 : tie.Need-add-t8
 unfolding widthAt
 add-t8 c = omega arith
 
--- src/lib.rt:207:16
 cast-t9 : tie.Need-cast-t9
 unfolding widthAt
 cast-t9 c = omega arith
 
--- src/lib.rt:208:16
 word-at-requires-2 : tie.Need-word-at-requires-2
 unfolding widthAt
 word-at-requires-2 c κs = omega arith
 
--- src/lib.rt:209:25
 add-t7 : tie.Need-add-t7
 unfolding widthAt
 add-t7 c = omega arith
 
--- src/lib.rt:209:17
 add-t11 : tie.Need-add-t11
 unfolding widthAt
 add-t11 c = omega arith
 
--- src/lib.rt:209:16
 cast-t12 : tie.Need-cast-t12
 unfolding widthAt
 cast-t12 c = omega arith
 
--- src/lib.rt:199:1
 returns : tie.Need-returns
 unfolding widthAt widthOf sectionValues
 returns c = rw (c .word-at2 .ensures, c .before .word-at .ensures)

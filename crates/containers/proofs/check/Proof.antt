@@ -13,99 +13,75 @@ use Rattle.containers.proofs.configuration_in.Reads as configuration-in
 use Rattle.containers.proofs.events_in.Reads as events-in-reads
 use Rattle.words.proofs.word_at.Reads as word-at-reads
 
--- src/lib.rt:136:9
 returns : tie.Need-returns
 returns c = over (now (c .before .before .args .file)) (c .if1 .taken)
 
--- src/lib.rt:139:9
 returns-2 : tie.Need-returns-2
 returns-2 c = short (now (c .before .before .before .args .file)) (c .before .if1 .left) (c .if2 .taken)
 
--- src/lib.rt:141:8
 word-at-requires : tie.Need-word-at-requires
 word-at-requires c κs = search needs
 
--- src/lib.rt:142:9
 returns-3 : tie.Need-returns-3
 returns-3 c = unmarked (now (c .before .before .before .before .before .args .file)) (c .before .before .before .if1 .left) (c .before .before .if2 .left) _ (c .before .word-at .ensures) (c .if3 .taken)
 
--- src/lib.rt:144:8
 word-at-requires-2 : tie.Need-word-at-requires-2
 word-at-requires-2 c κs = search needs
 
--- src/lib.rt:145:9
 returns-4 : tie.Need-returns-4
 returns-4 c = other-format (now (c .before .before .before .before .before .before .before .args .file)) (c .before .before .before .before .before .if1 .left) (c .before .before .before .before .if2 .left) _ (c .before .before .before .word-at .ensures) (c .before .before .if3 .left) _ (c .before .word-at2 .ensures) (c .if4 .taken)
 
--- src/lib.rt:147:28
 sub-configuration-in : tie.Need-sub-configuration-in
 sub-configuration-in c = search needs
 
--- src/lib.rt:147:28
 part-configuration-in-start : tie.Need-part-configuration-in-start
 part-configuration-in-start c = search needs
 
--- src/lib.rt:147:28
 part-configuration-in-end : tie.Need-part-configuration-in-end
 part-configuration-in-end c = search needs
 
--- src/lib.rt:147:11
 configuration-in-requires : tie.Need-configuration-in-requires
 configuration-in-requires c κs = search needs
 
--- src/lib.rt:148:24
 enum-known-number : tie.Need-enum-known-number
 enum-known-number c = search needs
 
--- src/lib.rt:149:34
 enum-known-length : tie.Need-enum-known-length
 enum-known-length c = search needs
 
--- src/lib.rt:150:24
 add-from : tie.Need-add-from
 add-from c = let i = configured (now (c .before .before .before .before .before .before .before .before .before .before .before .before .args .file)) (c .before .before .before .before .before .before .before .before .before .before .if1 .left) (c .before .before .before .before .before .before .before .before .before .if2 .left) _ (c .before .before .before .before .before .before .before .before .word-at .ensures) (c .before .before .before .before .before .before .before .if3 .left) _ (c .before .before .before .before .before .before .word-at2 .ensures) (c .before .before .before .before .before .if4 .left) (Bytes-from (now (c .before .before .before .before .before .before .before .before .before .before .before .before .args .file)) (λ i l. omega (arith, c .before .before .before .before .before .before .before .before .before .before .before .shared-slice-known .given i))) _ _ _ (sym (c .before .length .given .1) ∙ c .before .before .before .configuration-in .ensures) in omega (arith, i .fits)
 
--- src/lib.rt:151:29
 sub-events-in : tie.Need-sub-events-in
 sub-events-in c = configured (now (c .before .before .before .before .before .before .before .before .before .before .before .before .args .file)) (c .before .before .before .before .before .before .before .before .before .before .if1 .left) (c .before .before .before .before .before .before .before .before .before .if2 .left) _ (c .before .before .before .before .before .before .before .before .word-at .ensures) (c .before .before .before .before .before .before .before .if3 .left) _ (c .before .before .before .before .before .before .word-at2 .ensures) (c .before .before .before .before .before .if4 .left) (Bytes-from (now (c .before .before .before .before .before .before .before .before .before .before .before .before .args .file)) (λ i l. omega (arith, c .before .before .before .before .before .before .before .before .before .before .before .shared-slice-known .given i))) _ _ _ (sym (c .before .length .given .1) ∙ c .before .before .before .configuration-in .ensures) .fits
 
--- src/lib.rt:151:29
 part-events-in-start : tie.Need-part-events-in-start
 part-events-in-start c = configured (now (c .before .before .before .before .before .before .before .before .before .before .before .before .args .file)) (c .before .before .before .before .before .before .before .before .before .before .if1 .left) (c .before .before .before .before .before .before .before .before .before .if2 .left) _ (c .before .before .before .before .before .before .before .before .word-at .ensures) (c .before .before .before .before .before .before .before .if3 .left) _ (c .before .before .before .before .before .before .word-at2 .ensures) (c .before .before .before .before .before .if4 .left) (Bytes-from (now (c .before .before .before .before .before .before .before .before .before .before .before .before .args .file)) (λ i l. omega (arith, c .before .before .before .before .before .before .before .before .before .before .before .shared-slice-known .given i))) _ _ _ (sym (c .before .length .given .1) ∙ c .before .before .before .configuration-in .ensures) .fits
 
--- src/lib.rt:151:29
 part-events-in-end : tie.Need-part-events-in-end
 part-events-in-end c = search needs
 
--- src/lib.rt:151:19
 events-in-requires : tie.Need-events-in-requires
 events-in-requires c κs = let i = configured (now (c .before .before .before .before .before .before .before .before .before .before .before .before .before .args .file)) (c .before .before .before .before .before .before .before .before .before .before .before .if1 .left) (c .before .before .before .before .before .before .before .before .before .before .if2 .left) _ (c .before .before .before .before .before .before .before .before .before .word-at .ensures) (c .before .before .before .before .before .before .before .before .if3 .left) _ (c .before .before .before .before .before .before .before .word-at2 .ensures) (c .before .before .before .before .before .before .if4 .left) (Bytes-from (now (c .before .before .before .before .before .before .before .before .before .before .before .before .before .args .file)) (λ i l. omega (arith, c .before .before .before .before .before .before .before .before .before .before .before .before .shared-slice-known .given i))) _ _ _ (sym (c .before .before .length .given .1) ∙ c .before .before .before .before .configuration-in .ensures) in omega (arith, i .fits)
 
--- src/lib.rt:152:30
 enum-known-number-2 : tie.Need-enum-known-number-2
 enum-known-number-2 c = search needs
 
--- src/lib.rt:153:38
 enum-known-rows : tie.Need-enum-known-rows
 enum-known-rows c = search needs
 
--- src/lib.rt:153:69
 add-t26 : tie.Need-add-t26
 add-t26 c = let i = configured (now (c .before .before .before .before .before .before .before .before .before .before .before .before .before .before .before .before .before .args .file)) (c .before .before .before .before .before .before .before .before .before .before .before .before .before .before .before .if1 .left) (c .before .before .before .before .before .before .before .before .before .before .before .before .before .before .if2 .left) _ (c .before .before .before .before .before .before .before .before .before .before .before .before .before .word-at .ensures) (c .before .before .before .before .before .before .before .before .before .before .before .before .if3 .left) _ (c .before .before .before .before .before .before .before .before .before .before .before .word-at2 .ensures) (c .before .before .before .before .before .before .before .before .before .before .if4 .left) (Bytes-from (now (c .before .before .before .before .before .before .before .before .before .before .before .before .before .before .before .before .before .args .file)) (λ i l. omega (arith, c .before .before .before .before .before .before .before .before .before .before .before .before .before .before .before .before .shared-slice-known .given i))) _ _ _ (sym (c .before .before .before .before .before .before .length .given .1) ∙ c .before .before .before .before .before .before .before .before .configuration-in .ensures) in omega (arith, i .fits, i .few-entries)
 
--- src/lib.rt:153:69
 add-t27 : tie.Need-add-t27
 add-t27 c = let i = configured (now (c .before .before .before .before .before .before .before .before .before .before .before .before .before .before .before .before .before .args .file)) (c .before .before .before .before .before .before .before .before .before .before .before .before .before .before .before .if1 .left) (c .before .before .before .before .before .before .before .before .before .before .before .before .before .before .if2 .left) _ (c .before .before .before .before .before .before .before .before .before .before .before .before .before .word-at .ensures) (c .before .before .before .before .before .before .before .before .before .before .before .before .if3 .left) _ (c .before .before .before .before .before .before .before .before .before .before .before .word-at2 .ensures) (c .before .before .before .before .before .before .before .before .before .before .if4 .left) (Bytes-from (now (c .before .before .before .before .before .before .before .before .before .before .before .before .before .before .before .before .before .args .file)) (λ i l. omega (arith, c .before .before .before .before .before .before .before .before .before .before .before .before .before .before .before .before .shared-slice-known .given i))) _ _ _ (sym (c .before .before .before .before .before .before .length .given .1) ∙ c .before .before .before .before .before .before .before .before .configuration-in .ensures) in let f = few-events (now (c .before .before .before .before .before .before .before .before .before .before .before .before .before .before .before .before .before .args .file)) (c .before .before .before .before .before .before .before .before .before .before .before .before .before .before .before .if1 .left) (c .before .before .before .before .before .before .before .before .before .before .before .before .before .before .if2 .left) _ (c .before .before .before .before .before .before .before .before .before .before .before .before .before .word-at .ensures) (c .before .before .before .before .before .before .before .before .before .before .before .before .if3 .left) _ (c .before .before .before .before .before .before .before .before .before .before .before .word-at2 .ensures) (c .before .before .before .before .before .before .before .before .before .before .if4 .left) (Bytes-from (now (c .before .before .before .before .before .before .before .before .before .before .before .before .before .before .before .before .before .args .file)) (λ i l. omega (arith, c .before .before .before .before .before .before .before .before .before .before .before .before .before .before .before .before .shared-slice-known .given i))) _ _ _ (sym (c .before .before .before .before .before .before .length .given .1) ∙ c .before .before .before .before .before .before .before .before .configuration-in .ensures) _ (sym (c .before .rows .given .1) ∙ c .before .before .before .events-in .ensures) in omega (arith, i .fits, i .few-entries, f)
 
--- src/lib.rt:131:1
 returns-5 : tie.Need-returns-5
 returns-5 c = configuration-fault (now (c .before .before .before .before .before .before .before .before .before .before .before .before .args .file)) (c .before .before .before .before .before .before .before .before .before .before .if1 .left) (c .before .before .before .before .before .before .before .before .before .if2 .left) _ (c .before .before .before .before .before .before .before .before .word-at .ensures) (c .before .before .before .before .before .before .before .if3 .left) _ (c .before .before .before .before .before .before .word-at2 .ensures) (c .before .before .before .before .before .if4 .left) _ _ (sym (c .before .number .given .1) ∙ c .before .before .before .configuration-in .ensures)
 
--- src/lib.rt:131:1
 returns-6 : tie.Need-returns-6
 returns-6 c = events-fault (now (c .before .before .before .before .before .before .before .before .before .before .before .before .before .before .before .before .before .args .file)) (c .before .before .before .before .before .before .before .before .before .before .before .before .before .before .before .if1 .left) (c .before .before .before .before .before .before .before .before .before .before .before .before .before .before .if2 .left) _ (c .before .before .before .before .before .before .before .before .before .before .before .before .before .word-at .ensures) (c .before .before .before .before .before .before .before .before .before .before .before .before .if3 .left) _ (c .before .before .before .before .before .before .before .before .before .before .before .word-at2 .ensures) (c .before .before .before .before .before .before .before .before .before .before .if4 .left) (Bytes-from (now (c .before .before .before .before .before .before .before .before .before .before .before .before .before .before .before .before .before .args .file)) (λ i l. omega (arith, c .before .before .before .before .before .before .before .before .before .before .before .before .before .before .before .before .shared-slice-known .given i))) _ _ _ (sym (c .before .before .before .before .before .before .length .given .1) ∙ c .before .before .before .before .before .before .before .before .configuration-in .ensures) _ _ (sym (c .before .number2 .given .1) ∙ c .before .before .before .events-in .ensures)
 
--- src/lib.rt:131:1
 returns-7 : tie.Need-returns-7
 returns-7 c = whole (now (c .before .before .before .before .before .before .before .before .before .before .before .before .before .before .before .before .before .args .file)) (c .before .before .before .before .before .before .before .before .before .before .before .before .before .before .before .if1 .left) (c .before .before .before .before .before .before .before .before .before .before .before .before .before .before .if2 .left) _ (c .before .before .before .before .before .before .before .before .before .before .before .before .before .word-at .ensures) (c .before .before .before .before .before .before .before .before .before .before .before .before .if3 .left) _ (c .before .before .before .before .before .before .before .before .before .before .before .word-at2 .ensures) (c .before .before .before .before .before .before .before .before .before .before .if4 .left) (Bytes-from (now (c .before .before .before .before .before .before .before .before .before .before .before .before .before .before .before .before .before .args .file)) (λ i l. omega (arith, c .before .before .before .before .before .before .before .before .before .before .before .before .before .before .before .before .shared-slice-known .given i))) _ _ _ (sym (c .before .before .before .before .before .before .length .given .1) ∙ c .before .before .before .before .before .before .before .before .configuration-in .ensures) _ (sym (c .before .rows .given .1) ∙ c .before .before .before .events-in .ensures)
 

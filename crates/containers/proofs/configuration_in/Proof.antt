@@ -16,71 +16,55 @@ use Rattle.containers.proofs.configuration_in.Lts as lts
 use Rattle.containers.proofs.records_in.Reads as records-in-reads
 use Rattle.words.proofs.word_at.Reads as word-at-reads
 
--- src/lib.rt:65:9
 returns : tie.Need-returns
 unfolding readConfiguration
 returns c = short configurationHead configurationLate entry (c .before .before .args .at) (now (c .before .before .args .part)) (c .if1 .taken)
 
--- src/lib.rt:67:9
 word-at-requires : tie.Need-word-at-requires
 word-at-requires c κs = search needs
 
--- src/lib.rt:69:9
 returns-2 : tie.Need-returns-2
 unfolding readConfiguration
 returns-2 c = fault configurationHead configurationLate entry (c .before .before .before .before .args .at) (now (c .before .before .before .before .args .part)) (c .before .before .if1 .left) _ (c .before .word-at .ensures) 5 (rw (ne-eqb _ _ (c .if2 .taken))) (λ e. omega arith)
 
--- src/lib.rt:71:18
 word-at-requires-2 : tie.Need-word-at-requires-2
 word-at-requires-2 c κs = search needs
 
--- src/lib.rt:71:18
 cast-length : tie.Need-cast-length
 cast-length c = search needs
 
--- src/lib.rt:73:9
 returns-3 : tie.Need-returns-3
 unfolding readConfiguration
 returns-3 c = long configurationHead configurationLate entry (c .before .before .before .before .before .before .args .at) (now (c .before .before .before .before .before .before .args .part)) (c .before .before .before .before .if1 .left) _ (c .before .before .before .word-at .ensures) 0 (rw (eq-eqb _ _ (c .before .before .if2 .left))) refl _ (c .before .word-at2 .ensures) (c .if3 .taken)
 
--- src/lib.rt:75:31
 add-records-in : tie.Need-add-records-in
 add-records-in c = search needs
 
--- src/lib.rt:75:22
 sub-records-in : tie.Need-sub-records-in
 sub-records-in c = search needs
 
--- src/lib.rt:75:22
 part-records-in-start : tie.Need-part-records-in-start
 part-records-in-start c = search needs
 
--- src/lib.rt:75:22
 part-records-in-end : tie.Need-part-records-in-end
 part-records-in-end c = search needs
 
--- src/lib.rt:75:44
 add-records-in-2 : tie.Need-add-records-in-2
 add-records-in-2 c = search needs
 
--- src/lib.rt:75:11
 records-in-requires : tie.Need-records-in-requires
 records-in-requires c κs = search needs
 
--- src/lib.rt:76:23
 enum-known-count : tie.Need-enum-known-count
 enum-known-count c = search needs
 
--- src/lib.rt:77:22
 enum-known-number : tie.Need-enum-known-number
 enum-known-number c = search needs
 
--- src/lib.rt:59:1
 returns-4 : tie.Need-returns-4
 unfolding readConfiguration contextOf
 returns-4 c = held configurationHead configurationLate entry (c .before .before .before .before .before .before .before .before .before .before .before .args .at) (now (c .before .before .before .before .before .before .before .before .before .before .before .args .part)) (c .before .before .before .before .before .before .before .before .before .if1 .left) _ (c .before .before .before .before .before .before .before .before .word-at .ensures) 0 (rw (eq-eqb _ _ (c .before .before .before .before .before .before .before .if2 .left))) refl _ (c .before .before .before .before .before .before .word-at2 .ensures) (c .before .before .before .before .before .if3 .left) refl (Bytes-from (now (c .before .before .before .before .before .before .before .before .before .before .before .args .part)) (λ i l. omega (arith, c .before .before .before .before .before .before .before .before .before .before .shared-slice-known .given i))) _ (sym (c .before .count .given .1) ∙ c .before .before .before .records-in .ensures)
 
--- src/lib.rt:59:1
 returns-5 : tie.Need-returns-5
 unfolding readConfiguration contextOf
 returns-5 c = contents-fault configurationHead configurationLate entry (c .before .before .before .before .before .before .before .before .before .before .before .args .at) (now (c .before .before .before .before .before .before .before .before .before .before .before .args .part)) (c .before .before .before .before .before .before .before .before .before .if1 .left) _ (c .before .before .before .before .before .before .before .before .word-at .ensures) 0 (rw (eq-eqb _ _ (c .before .before .before .before .before .before .before .if2 .left))) refl _ (c .before .before .before .before .before .before .word-at2 .ensures) (c .before .before .before .before .before .if3 .left) refl _ _ (sym (c .before .number .given .1) ∙ c .before .before .before .records-in .ensures)

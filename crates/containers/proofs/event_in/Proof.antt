@@ -20,84 +20,65 @@ use Rattle.fields.proofs.event_word_rule.Reads as event-word-rule-reads
 use Rattle.record.proofs.fresh.Reads as fresh-reads
 use Rattle.words.proofs.word_at.Reads as word-at-reads
 
--- src/lib.rt:88:9
 returns : tie.Need-returns
 unfolding readEvent
 returns c = short eventHead eventLate (event none) (c .before .before .args .at) (now (c .before .before .args .part)) (c .if1 .taken)
 
--- src/lib.rt:90:9
 word-at-requires : tie.Need-word-at-requires
 word-at-requires c κs = search needs
 
--- src/lib.rt:91:9
 event-word-rule-requires : tie.Need-event-word-rule-requires
 event-word-rule-requires c κs = search needs
 
--- src/lib.rt:93:9
 returns-2 : tie.Need-returns-2
 unfolding readEvent
 returns-2 c = fault eventHead eventLate (event none) (c .before .before .before .before .before .args .at) (now (c .before .before .before .before .before .args .part)) (c .before .before .before .if1 .left) _ (c .before .before .word-at .ensures) _ (c .before .event-word-rule .ensures) (c .if2 .taken)
 
--- src/lib.rt:95:18
 word-at-requires-2 : tie.Need-word-at-requires-2
 word-at-requires-2 c κs = search needs
 
--- src/lib.rt:95:18
 cast-length : tie.Need-cast-length
 cast-length c = search needs
 
--- src/lib.rt:97:9
 returns-3 : tie.Need-returns-3
 unfolding readEvent
 returns-3 c = long eventHead eventLate (event none) (c .before .before .before .before .before .before .before .args .at) (now (c .before .before .before .before .before .before .before .args .part)) (c .before .before .before .before .before .if1 .left) _ (c .before .before .before .before .word-at .ensures) _ (c .before .before .before .event-word-rule .ensures) (c .before .before .if2 .left) _ (c .before .word-at2 .ensures) (c .if3 .taken)
 
--- src/lib.rt:100:9
 returns-4 : tie.Need-returns-4
 unfolding readEvent
 returns-4 c = late-fault eventHead eventLate (event none) (c .before .before .before .before .before .before .before .before .args .at) (now (c .before .before .before .before .before .before .before .before .args .part)) (c .before .before .before .before .before .before .if1 .left) _ (c .before .before .before .before .before .word-at .ensures) _ (c .before .before .before .before .event-word-rule .ensures) (c .before .before .before .if2 .left) _ (c .before .before .word-at2 .ensures) (c .before .if3 .left) 9 (rw (lt-leb _ _ (c .if4 .taken))) (λ e. omega arith)
 
--- src/lib.rt:102:31
 add-records-in : tie.Need-add-records-in
 add-records-in c = search needs
 
--- src/lib.rt:102:22
 sub-records-in : tie.Need-sub-records-in
 sub-records-in c = search needs
 
--- src/lib.rt:102:22
 part-records-in-start : tie.Need-part-records-in-start
 part-records-in-start c = search needs
 
--- src/lib.rt:102:22
 part-records-in-end : tie.Need-part-records-in-end
 part-records-in-end c = search needs
 
--- src/lib.rt:102:44
 add-records-in-2 : tie.Need-add-records-in-2
 add-records-in-2 c = search needs
 
--- src/lib.rt:102:52
 fresh-requires : tie.Need-fresh-requires
 fresh-requires c κs = search needs
 
--- src/lib.rt:102:11
 records-in-requires : tie.Need-records-in-requires
 records-in-requires c κs = search needs
 
--- src/lib.rt:103:23
 enum-known-count : tie.Need-enum-known-count
 enum-known-count c = search needs
 
--- src/lib.rt:104:22
 enum-known-number : tie.Need-enum-known-number
 enum-known-number c = search needs
 
--- src/lib.rt:82:1
 returns-5 : tie.Need-returns-5
 unfolding readEvent
 returns-5 c = held eventHead eventLate (event none) (c .before .before .before .before .before .before .before .before .before .before .before .before .before .before .args .at) (now (c .before .before .before .before .before .before .before .before .before .before .before .before .before .before .args .part)) (c .before .before .before .before .before .before .before .before .before .before .before .before .if1 .left) _ (c .before .before .before .before .before .before .before .before .before .before .before .word-at .ensures) _ (c .before .before .before .before .before .before .before .before .before .before .event-word-rule .ensures) (c .before .before .before .before .before .before .before .before .before .if2 .left) _ (c .before .before .before .before .before .before .before .before .word-at2 .ensures) (c .before .before .before .before .before .before .before .if3 .left) (rw (le-leb _ _ (c .before .before .before .before .before .before .if4 .left))) (Bytes-from (now (c .before .before .before .before .before .before .before .before .before .before .before .before .before .before .args .part)) (λ i l. omega (arith, c .before .before .before .before .before .before .before .before .before .before .before .before .before .shared-slice-known .given i))) _ (sym (c .before .count .given .1) ∙ c .before .before .before .records-in .ensures ∙ ap (λ (x : Context). recordCount (readRecords x (c .before .before .before .before .before .before .before .before .before .before .before .before .before .before .args .at + 8) (take (8 + c .before .before .before .before .before .before .before .before .word-at2 .result - 8) (drop 8 (now (c .before .before .before .before .before .before .before .before .before .before .before .before .before .before .args .part)))))) (c .before .before .before .before .fresh .ensures))
 
--- src/lib.rt:82:1
 returns-6 : tie.Need-returns-6
 unfolding readEvent
 returns-6 c = contents-fault eventHead eventLate (event none) (c .before .before .before .before .before .before .before .before .before .before .before .before .before .before .args .at) (now (c .before .before .before .before .before .before .before .before .before .before .before .before .before .before .args .part)) (c .before .before .before .before .before .before .before .before .before .before .before .before .if1 .left) _ (c .before .before .before .before .before .before .before .before .before .before .before .word-at .ensures) _ (c .before .before .before .before .before .before .before .before .before .before .event-word-rule .ensures) (c .before .before .before .before .before .before .before .before .before .if2 .left) _ (c .before .before .before .before .before .before .before .before .word-at2 .ensures) (c .before .before .before .before .before .before .before .if3 .left) (rw (le-leb _ _ (c .before .before .before .before .before .before .if4 .left))) _ _ (sym (c .before .number .given .1) ∙ c .before .before .before .records-in .ensures ∙ ap (λ (x : Context). recordCount (readRecords x (c .before .before .before .before .before .before .before .before .before .before .before .before .before .before .args .at + 8) (take (8 + c .before .before .before .before .before .before .before .before .word-at2 .result - 8) (drop 8 (now (c .before .before .before .before .before .before .before .before .before .before .before .before .before .before .args .part)))))) (c .before .before .before .before .fresh .ensures))

@@ -18,63 +18,48 @@ Inv-loop part from rest₀ at₀ count₀ rest at count = Rows from part at rest
 abbrev μ-loop : tie.MeasureT-loop
 μ-loop part from rest₀ at₀ count₀ rest at count = length rest
 
--- src/lib.rt:116:5
 loop-holds : tie.Need-loop-holds Inv-loop μ-loop
 loop-holds c = begin (c .before .args .from) (now (c .before .args .part)) (Bytes-from (now (c .before .args .part)) (λ i l. omega (arith, c .shared-slice-known .given i)))
 
--- src/lib.rt:117:15
 event-in-requires : tie.Need-event-in-requires Inv-loop μ-loop
 event-in-requires c κs = omega (arith, place (c .before .loop .inv))
 
--- src/lib.rt:118:28
 enum-known-number : tie.Need-enum-known-number Inv-loop μ-loop
 enum-known-number c = search needs
 
--- src/lib.rt:118:47
 returns : tie.Need-returns Inv-loop μ-loop
 returns c = stops (c .before .before .before .before .before .loop .inv) (c .before .before .before .before .loop-test .taken) _ _ (sym (c .before .number .given .1) ∙ c .before .before .before .event-in .ensures)
 
--- src/lib.rt:119:38
 enum-known-length : tie.Need-enum-known-length Inv-loop μ-loop
 enum-known-length c = search needs
 
--- src/lib.rt:120:28
 add-size : tie.Need-add-size Inv-loop μ-loop
 add-size c = let f = fits (c .before .before .before .before .before .loop .inv) (c .before .before .before .before .loop-test .taken) _ _ _ (sym (c .before .length .given .1) ∙ c .before .before .before .event-in .ensures) in omega (arith, f .0, place (c .before .before .before .before .before .loop .inv))
 
--- src/lib.rt:121:24
 sub-rest : tie.Need-sub-rest Inv-loop μ-loop
 sub-rest c = fits (c .before .before .before .before .before .loop .inv) (c .before .before .before .before .loop-test .taken) _ _ _ (sym (c .before .length .given .1) ∙ c .before .before .before .event-in .ensures) .0
 
--- src/lib.rt:121:24
 part-rest-start : tie.Need-part-rest-start Inv-loop μ-loop
 part-rest-start c = fits (c .before .before .before .before .before .loop .inv) (c .before .before .before .before .loop-test .taken) _ _ _ (sym (c .before .length .given .1) ∙ c .before .before .before .event-in .ensures) .0
 
--- src/lib.rt:121:24
 part-rest-end : tie.Need-part-rest-end Inv-loop μ-loop
 part-rest-end c = search needs
 
--- src/lib.rt:122:22
 add-at : tie.Need-add-at Inv-loop μ-loop
 add-at c = let f = fits (c .before .before .before .before .before .before .loop .inv) (c .before .before .before .before .before .loop-test .taken) _ _ _ (sym (c .before .before .length .given .1) ∙ c .before .before .before .before .event-in .ensures) in omega (arith, f .0, place (c .before .before .before .before .before .before .loop .inv))
 
--- src/lib.rt:123:25
 add-count : tie.Need-add-count Inv-loop μ-loop
 add-count c = omega (arith, low (c .before .before .before .before .before .before .loop .inv), place (c .before .before .before .before .before .before .loop .inv))
 
--- src/lib.rt:123:25
 add-count-2 : tie.Need-add-count-2 Inv-loop μ-loop
 add-count-2 c = let f = fits (c .before .before .before .before .before .before .loop .inv) (c .before .before .before .before .before .loop-test .taken) _ _ _ (sym (c .before .before .length .given .1) ∙ c .before .before .before .before .event-in .ensures) in omega (arith, f .0, f .1, low (c .before .before .before .before .before .before .loop .inv), place (c .before .before .before .before .before .before .loop .inv))
 
--- src/lib.rt:116:5
 loop-less : tie.Need-loop-less Inv-loop μ-loop
 loop-less c = let f = fits (c .before .before .before .before .before .before .loop .inv) (c .before .before .before .before .before .loop-test .taken) _ _ _ (sym (c .before .before .length .given .1) ∙ c .before .before .before .before .event-in .ensures) in omega (arith, f .0)
 
--- src/lib.rt:116:5
 loop-again : tie.Need-loop-again Inv-loop μ-loop
 loop-again c = next (c .before .before .before .before .before .before .loop .inv) (c .before .before .before .before .before .loop-test .taken) _ _ _ (sym (c .before .before .length .given .1) ∙ c .before .before .before .before .event-in .ensures)
 
--- src/lib.rt:109:1
 returns-2 : tie.Need-returns-2 Inv-loop μ-loop
 returns-2 c = done (c .before .loop .inv) (c .loop-test .left)
 

@@ -19,63 +19,48 @@ Inv-loop part from rest₀ at₀ count₀ state₀ rest at count state = Countin
 abbrev μ-loop : tie.MeasureT-loop
 μ-loop part from rest₀ at₀ count₀ state₀ rest at count state = length rest
 
--- src/lib.rt:43:5
 loop-holds : tie.Need-loop-holds Inv-loop μ-loop
 loop-holds c = begin (contextOf (c .before .args .context)) (c .before .args .from) (now (c .before .args .part))
 
--- src/lib.rt:44:15
 record-in-requires : tie.Need-record-in-requires Inv-loop μ-loop
 record-in-requires c κs = search needs
 
--- src/lib.rt:45:25
 enum-known-number : tie.Need-enum-known-number Inv-loop μ-loop
 enum-known-number c = search needs
 
--- src/lib.rt:45:44
 returns : tie.Need-returns Inv-loop μ-loop
 returns c = refused (c .before .before .before .before .before .loop .inv) (c .before .before .before .before .loop-test .taken) _ _ (sym (c .before .number .given .1) ∙ c .before .before .before .record-in .ensures)
 
--- src/lib.rt:46:26
 enum-known-kind : tie.Need-enum-known-kind Inv-loop μ-loop
 enum-known-kind c = search needs
 
--- src/lib.rt:47:28
 add-size : tie.Need-add-size Inv-loop μ-loop
 add-size c = omega (arith, fits (c .before .before .before .before .before .loop .inv) (c .before .before .before .before .loop-test .taken) _ _ (sym (c .before .kind .given .1) ∙ c .before .before .before .record-in .ensures), place (c .before .before .before .before .before .loop .inv))
 
--- src/lib.rt:48:17
 next-context-requires : tie.Need-next-context-requires Inv-loop μ-loop
 next-context-requires c κs = search needs
 
--- src/lib.rt:49:24
 sub-rest : tie.Need-sub-rest Inv-loop μ-loop
 sub-rest c = fits (c .before .before .before .before .before .before .loop .inv) (c .before .before .before .before .before .loop-test .taken) _ _ (sym (c .before .before .kind .given .1) ∙ c .before .before .before .before .record-in .ensures)
 
--- src/lib.rt:49:24
 part-rest-start : tie.Need-part-rest-start Inv-loop μ-loop
 part-rest-start c = fits (c .before .before .before .before .before .before .loop .inv) (c .before .before .before .before .before .loop-test .taken) _ _ (sym (c .before .before .kind .given .1) ∙ c .before .before .before .before .record-in .ensures)
 
--- src/lib.rt:49:24
 part-rest-end : tie.Need-part-rest-end Inv-loop μ-loop
 part-rest-end c = search needs
 
--- src/lib.rt:50:22
 add-at : tie.Need-add-at Inv-loop μ-loop
 add-at c = omega (arith, fits (c .before .before .before .before .before .before .before .loop .inv) (c .before .before .before .before .before .before .loop-test .taken) _ _ (sym (c .before .before .before .kind .given .1) ∙ c .before .before .before .before .before .record-in .ensures), place (c .before .before .before .before .before .before .before .loop .inv))
 
--- src/lib.rt:51:25
 add-count : tie.Need-add-count Inv-loop μ-loop
 add-count c = omega (arith, low (c .before .before .before .before .before .before .before .loop .inv), place (c .before .before .before .before .before .before .before .loop .inv))
 
--- src/lib.rt:43:5
 loop-less : tie.Need-loop-less Inv-loop μ-loop
 loop-less c = omega (arith, fits (c .before .before .before .before .before .before .before .loop .inv) (c .before .before .before .before .before .before .loop-test .taken) _ _ (sym (c .before .before .before .kind .given .1) ∙ c .before .before .before .before .before .record-in .ensures))
 
--- src/lib.rt:43:5
 loop-again : tie.Need-loop-again Inv-loop μ-loop
 loop-again c = next (c .before .before .before .before .before .before .before .loop .inv) (c .before .before .before .before .before .before .loop-test .taken) _ _ (sym (c .before .before .before .kind .given .1) ∙ c .before .before .before .before .before .record-in .ensures) _ (c .before .next-context .ensures)
 
--- src/lib.rt:35:1
 returns-2 : tie.Need-returns-2 Inv-loop μ-loop
 returns-2 c = done (c .before .loop .inv) (c .loop-test .left)
 

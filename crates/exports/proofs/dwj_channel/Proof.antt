@@ -8,16 +8,13 @@ use Rattle.exports.proofs.dwj_channel.Reads as reads
 use Rattle.exports.proofs.dwj_channel.Lts as lts
 use Rattle.dwejrasq.proofs.channel.Reads as channel-reads
 
--- src/lib.rt:41:9
 channel-requires : tie.Need-channel-requires
 channel-requires c κs = search needs
 
--- src/lib.rt:29:1
 returns : tie.Need-returns
 returns c = let s = c .before .before .before .before .before in
     (rw (s .channel .ensures), (rw (← s .channel .ensures, c .before .before .before .if1 .taken), (rw (← s .channel .ensures, c .before .before .before .if1 .taken), rw (← s .channel .ensures, c .before .before .before .if1 .taken))))
 
--- src/lib.rt:29:1
 returns-2 : tie.Need-returns-2
 returns-2 c = let s = c .before .before in (rw (s .channel .ensures), (rw (← s .channel .ensures, ne-eqb _ 0 (c .if1 .left)), (rw (← s .channel .ensures, ne-eqb _ 0 (c .if1 .left)), rw (← s .channel .ensures, ne-eqb _ 0 (c .if1 .left)))))
 

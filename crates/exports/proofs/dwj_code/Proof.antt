@@ -8,24 +8,19 @@ use Rattle.exports.proofs.dwj_code.Reads as reads
 use Rattle.exports.proofs.dwj_code.Lts as lts
 use Rattle.dwejrasq.proofs.code.Reads as code-reads
 
--- src/lib.rt:63:11
 code-requires : tie.Need-code-requires
 code-requires c κs = search needs
 
--- src/lib.rt:64:34
 enum-known-found : tie.Need-enum-known-found
 enum-known-found c = search needs
 
--- src/lib.rt:68:31
 enum-known-number : tie.Need-enum-known-number
 enum-known-number c = search needs
 
--- src/lib.rt:58:1
 returns : tie.Need-returns
 unfolding numberOf wholesIn wholesAfter givenCode
 returns c = let s = c .before .before .before in (rw (← s .code .ensures, c .before .found .given .1), rw (← s .code .ensures, c .before .found .given .1))
 
--- src/lib.rt:58:1
 returns-2 : tie.Need-returns-2
 unfolding numberOf wholesIn wholesAfter givenCode
 returns-2 c = let s = c .before .before .before in (rw (← s .code .ensures, c .before .number .given .1), rw (← s .code .ensures, c .before .number .given .1))

@@ -11,319 +11,242 @@ use Rattle.exports.proofs.dwj_record.Reads as reads
 use Rattle.exports.proofs.dwj_record.Lts as lts
 use Rattle.dwejrasq.proofs.record.Reads as record-reads
 
--- src/lib.rt:43:11
 record-requires : tie.Need-record-requires
 record-requires c κs = search needs
 
--- src/lib.rt:45:13
 enum-known-code : tie.Need-enum-known-code
 enum-known-code c = search needs
 
--- src/lib.rt:59:17
 cast-t67 : tie.Need-cast-t67
 cast-t67 c = widened (ofZ w32 (c .before .code .given .0 .0))
 
--- src/lib.rt:60:17
 cast-t68 : tie.Need-cast-t68
 cast-t68 c = widened (ofZ w32 (c .before .code .given .0 .1 .0))
 
--- src/lib.rt:61:17
 cast-t69 : tie.Need-cast-t69
 cast-t69 c = widened (ofZ w32 (c .before .code .given .0 .1 .1 .0))
 
--- src/lib.rt:62:17
 cast-t70 : tie.Need-cast-t70
 cast-t70 c = widened (ofZ w32 (c .before .code .given .0 .1 .1 .1 .0))
 
--- src/lib.rt:63:17
 cast-t71 : tie.Need-cast-t71
 cast-t71 c = widened (ofZ w32 (c .before .code .given .0 .1 .1 .1 .1 .0))
 
--- src/lib.rt:64:17
 cast-t72 : tie.Need-cast-t72
 cast-t72 c = widened (ofZ w32 (c .before .code .given .0 .1 .1 .1 .1 .1 .0))
 
--- src/lib.rt:65:17
 cast-t73 : tie.Need-cast-t73
 cast-t73 c = widened (ofZ w32 (c .before .code .given .0 .1 .1 .1 .1 .1 .1 .0))
 
--- src/lib.rt:66:17
 cast-t74 : tie.Need-cast-t74
 cast-t74 c = widened (ofZ w32 (c .before .code .given .0 .1 .1 .1 .1 .1 .1 .1 .0))
 
--- src/lib.rt:67:17
 cast-t75 : tie.Need-cast-t75
 cast-t75 c = widened (ofZ w32 (c .before .code .given .0 .1 .1 .1 .1 .1 .1 .1 .1 .0))
 
--- src/lib.rt:68:17
 cast-t76 : tie.Need-cast-t76
 cast-t76 c = widened (ofZ w32 (c .before .code .given .0 .1 .1 .1 .1 .1 .1 .1 .1 .1 .0))
 
--- src/lib.rt:69:17
 cast-t77 : tie.Need-cast-t77
 cast-t77 c = widened (ofZ w32 (c .before .code .given .0 .1 .1 .1 .1 .1 .1 .1 .1 .1 .1 .0))
 
--- src/lib.rt:74:13
 enum-known-code-2 : tie.Need-enum-known-code-2
 enum-known-code-2 c = search needs
 
--- src/lib.rt:85:17
 cast-t78 : tie.Need-cast-t78
 cast-t78 c = widened (ofZ w32 (c .before .code2 .given .0 .0))
 
--- src/lib.rt:86:17
 cast-t79 : tie.Need-cast-t79
 cast-t79 c = widened (ofZ w32 (c .before .code2 .given .0 .1 .0))
 
--- src/lib.rt:87:17
 cast-t80 : tie.Need-cast-t80
 cast-t80 c = widened (ofZ w32 (c .before .code2 .given .0 .1 .1 .0))
 
--- src/lib.rt:88:17
 cast-t81 : tie.Need-cast-t81
 cast-t81 c = widened (ofZ w32 (c .before .code2 .given .0 .1 .1 .1 .0))
 
--- src/lib.rt:89:17
 cast-t82 : tie.Need-cast-t82
 cast-t82 c = widened (ofZ w32 (c .before .code2 .given .0 .1 .1 .1 .1 .0))
 
--- src/lib.rt:90:17
 cast-t83 : tie.Need-cast-t83
 cast-t83 c = widened (ofZ w32 (c .before .code2 .given .0 .1 .1 .1 .1 .1 .0))
 
--- src/lib.rt:91:17
 cast-t84 : tie.Need-cast-t84
 cast-t84 c = widened (ofZ w32 (c .before .code2 .given .0 .1 .1 .1 .1 .1 .1 .0))
 
--- src/lib.rt:92:17
 cast-t85 : tie.Need-cast-t85
 cast-t85 c = widened (ofZ w32 (c .before .code2 .given .0 .1 .1 .1 .1 .1 .1 .1 .0))
 
--- src/lib.rt:100:13
 enum-known-date : tie.Need-enum-known-date
 enum-known-date c = search needs
 
--- src/lib.rt:109:17
 cast-t86 : tie.Need-cast-t86
 cast-t86 c = search needs
 
--- src/lib.rt:110:17
 cast-t87 : tie.Need-cast-t87
 cast-t87 c = search needs
 
--- src/lib.rt:111:17
 cast-t88 : tie.Need-cast-t88
 cast-t88 c = search needs
 
--- src/lib.rt:112:17
 cast-t89 : tie.Need-cast-t89
 cast-t89 c = search needs
 
--- src/lib.rt:113:17
 cast-t90 : tie.Need-cast-t90
 cast-t90 c = search needs
 
--- src/lib.rt:114:17
 cast-t91 : tie.Need-cast-t91
 cast-t91 c = search needs
 
--- src/lib.rt:124:13
 enum-known-address : tie.Need-enum-known-address
 enum-known-address c = search needs
 
--- src/lib.rt:133:17
 cast-t92 : tie.Need-cast-t92
 cast-t92 c = search needs
 
--- src/lib.rt:134:17
 cast-t93 : tie.Need-cast-t93
 cast-t93 c = search needs
 
--- src/lib.rt:135:17
 cast-t94 : tie.Need-cast-t94
 cast-t94 c = search needs
 
--- src/lib.rt:136:17
 cast-t95 : tie.Need-cast-t95
 cast-t95 c = widened (ofZ w32 (c .before .address .given .0 .1 .1 .1 .0))
 
--- src/lib.rt:137:17
 cast-t96 : tie.Need-cast-t96
 cast-t96 c = search needs
 
--- src/lib.rt:138:17
 cast-t97 : tie.Need-cast-t97
 cast-t97 c = search needs
 
--- src/lib.rt:148:13
 enum-known-veto-times : tie.Need-enum-known-veto-times
 enum-known-veto-times c = search needs
 
--- src/lib.rt:159:17
 cast-t98 : tie.Need-cast-t98
 cast-t98 c = search needs
 
--- src/lib.rt:160:17
 cast-t99 : tie.Need-cast-t99
 cast-t99 c = search needs
 
--- src/lib.rt:161:17
 cast-t100 : tie.Need-cast-t100
 cast-t100 c = search needs
 
--- src/lib.rt:162:17
 cast-t101 : tie.Need-cast-t101
 cast-t101 c = search needs
 
--- src/lib.rt:163:17
 cast-t102 : tie.Need-cast-t102
 cast-t102 c = search needs
 
--- src/lib.rt:164:17
 cast-t103 : tie.Need-cast-t103
 cast-t103 c = search needs
 
--- src/lib.rt:165:17
 cast-t104 : tie.Need-cast-t104
 cast-t104 c = search needs
 
--- src/lib.rt:166:17
 cast-t105 : tie.Need-cast-t105
 cast-t105 c = search needs
 
--- src/lib.rt:174:13
 enum-known-year : tie.Need-enum-known-year
 enum-known-year c = search needs
 
--- src/lib.rt:184:17
 cast-t106 : tie.Need-cast-t106
 cast-t106 c = search needs
 
--- src/lib.rt:185:17
 cast-t107 : tie.Need-cast-t107
 cast-t107 c = search needs
 
--- src/lib.rt:186:17
 cast-t108 : tie.Need-cast-t108
 cast-t108 c = search needs
 
--- src/lib.rt:187:17
 cast-t109 : tie.Need-cast-t109
 cast-t109 c = search needs
 
--- src/lib.rt:188:17
 cast-t110 : tie.Need-cast-t110
 cast-t110 c = search needs
 
--- src/lib.rt:189:17
 cast-t111 : tie.Need-cast-t111
 cast-t111 c = search needs
 
--- src/lib.rt:190:17
 cast-t112 : tie.Need-cast-t112
 cast-t112 c = search needs
 
--- src/lib.rt:199:13
 enum-known-mask1 : tie.Need-enum-known-mask1
 enum-known-mask1 c = search needs
 
--- src/lib.rt:208:17
 cast-t113 : tie.Need-cast-t113
 cast-t113 c = search needs
 
--- src/lib.rt:209:17
 cast-t114 : tie.Need-cast-t114
 cast-t114 c = search needs
 
--- src/lib.rt:210:17
 cast-t115 : tie.Need-cast-t115
 cast-t115 c = search needs
 
--- src/lib.rt:211:17
 cast-t116 : tie.Need-cast-t116
 cast-t116 c = search needs
 
--- src/lib.rt:212:17
 cast-t117 : tie.Need-cast-t117
 cast-t117 c = search needs
 
--- src/lib.rt:213:17
 cast-t118 : tie.Need-cast-t118
 cast-t118 c = search needs
 
--- src/lib.rt:223:13
 enum-known-tower1 : tie.Need-enum-known-tower1
 enum-known-tower1 c = search needs
 
--- src/lib.rt:232:17
 cast-t119 : tie.Need-cast-t119
 cast-t119 c = search needs
 
--- src/lib.rt:233:17
 cast-t120 : tie.Need-cast-t120
 cast-t120 c = search needs
 
--- src/lib.rt:234:17
 cast-t121 : tie.Need-cast-t121
 cast-t121 c = search needs
 
--- src/lib.rt:235:17
 cast-t122 : tie.Need-cast-t122
 cast-t122 c = search needs
 
--- src/lib.rt:236:17
 cast-t123 : tie.Need-cast-t123
 cast-t123 c = search needs
 
--- src/lib.rt:237:17
 cast-t124 : tie.Need-cast-t124
 cast-t124 c = search needs
 
--- src/lib.rt:246:33
 enum-known-number : tie.Need-enum-known-number
 enum-known-number c = search needs
 
--- src/lib.rt:32:1
 returns : tie.Need-returns
 unfolding numberOf placeAfter wholesIn wholesAfter givenRecord
 returns c = let t = c .before .known-told .given in let e = c .before .before .before .before .«record» .ensures in let f = c .before .before .code .given .0 in let v = c .before .before .code .given .1 in (rw (← e, v), (rw (← e, v, kept (f .0) (t .0 .1), kept (f .1 .0) (t .1 .0 .1), kept (f .1 .1 .0) (t .1 .1 .0 .1), kept (f .1 .1 .1 .0) (t .1 .1 .1 .0 .1), kept (f .1 .1 .1 .1 .0) (t .1 .1 .1 .1 .0 .1), kept (f .1 .1 .1 .1 .1 .0) (t .1 .1 .1 .1 .1 .0 .1), kept (f .1 .1 .1 .1 .1 .1 .0) (t .1 .1 .1 .1 .1 .1 .0 .1), kept (f .1 .1 .1 .1 .1 .1 .1 .0) (t .1 .1 .1 .1 .1 .1 .1 .0 .1), kept (f .1 .1 .1 .1 .1 .1 .1 .1 .0) (t .1 .1 .1 .1 .1 .1 .1 .1 .0 .1), kept (f .1 .1 .1 .1 .1 .1 .1 .1 .1 .0) (t .1 .1 .1 .1 .1 .1 .1 .1 .1 .0 .1), kept (f .1 .1 .1 .1 .1 .1 .1 .1 .1 .1 .0) (t .1 .1 .1 .1 .1 .1 .1 .1 .1 .1 .0 .1)), rw (← e, v)))
 
--- src/lib.rt:32:1
 returns-2 : tie.Need-returns-2
 unfolding numberOf placeAfter wholesIn wholesAfter givenRecord
 returns-2 c = let t = c .before .known-told2 .given in let e = c .before .before .before .before .«record» .ensures in let f = c .before .before .code2 .given .0 in let v = c .before .before .code2 .given .1 in (rw (← e, v), (rw (← e, v, kept (f .0) (t .0 .1), kept (f .1 .0) (t .1 .0 .1), kept (f .1 .1 .0) (t .1 .1 .0 .1), kept (f .1 .1 .1 .0) (t .1 .1 .1 .0 .1), kept (f .1 .1 .1 .1 .0) (t .1 .1 .1 .1 .0 .1), kept (f .1 .1 .1 .1 .1 .0) (t .1 .1 .1 .1 .1 .0 .1), kept (f .1 .1 .1 .1 .1 .1 .0) (t .1 .1 .1 .1 .1 .1 .0 .1), kept (f .1 .1 .1 .1 .1 .1 .1 .0) (t .1 .1 .1 .1 .1 .1 .1 .0 .1)), rw (← e, v)))
 
--- src/lib.rt:32:1
 returns-3 : tie.Need-returns-3
 unfolding numberOf placeAfter wholesIn wholesAfter givenRecord
 returns-3 c = let t = c .before .known-told3 .given in let e = c .before .before .before .before .«record» .ensures in let f = c .before .before .date .given .0 in let v = c .before .before .date .given .1 in (rw (← e, v), (rw (← e, v, counted (f .0) (t .0 .1), counted (f .1 .0) (t .1 .0 .1), counted (f .1 .1 .0) (t .1 .1 .0 .1), counted (f .1 .1 .1 .0) (t .1 .1 .1 .0 .1), counted (f .1 .1 .1 .1 .0) (t .1 .1 .1 .1 .0 .1), counted (f .1 .1 .1 .1 .1 .0) (t .1 .1 .1 .1 .1 .0 .1)), rw (← e, v)))
 
--- src/lib.rt:32:1
 returns-4 : tie.Need-returns-4
 unfolding numberOf placeAfter wholesIn wholesAfter givenRecord
 returns-4 c = let t = c .before .known-told4 .given in let e = c .before .before .before .before .«record» .ensures in let f = c .before .before .address .given .0 in let v = c .before .before .address .given .1 in (rw (← e, v), (rw (← e, v, counted (f .0) (t .0 .1), counted (f .1 .0) (t .1 .0 .1), counted (f .1 .1 .0) (t .1 .1 .0 .1), kept (f .1 .1 .1 .0) (t .1 .1 .1 .0 .1), counted (f .1 .1 .1 .1 .0) (t .1 .1 .1 .1 .0 .1), counted (f .1 .1 .1 .1 .1 .0) (t .1 .1 .1 .1 .1 .0 .1)), rw (← e, v)))
 
--- src/lib.rt:32:1
 returns-5 : tie.Need-returns-5
 unfolding numberOf placeAfter wholesIn wholesAfter givenRecord
 returns-5 c = let t = c .before .known-told5 .given in let e = c .before .before .before .before .«record» .ensures in let f = c .before .before .veto-times .given .0 in let v = c .before .before .veto-times .given .1 in (rw (← e, v), (rw (← e, v, counted (f .0) (t .0 .1), counted (f .1 .0) (t .1 .0 .1), counted (f .1 .1 .0) (t .1 .1 .0 .1), counted (f .1 .1 .1 .0) (t .1 .1 .1 .0 .1), counted (f .1 .1 .1 .1 .0) (t .1 .1 .1 .1 .0 .1), counted (f .1 .1 .1 .1 .1 .0) (t .1 .1 .1 .1 .1 .0 .1), counted (f .1 .1 .1 .1 .1 .1 .0) (t .1 .1 .1 .1 .1 .1 .0 .1), counted (f .1 .1 .1 .1 .1 .1 .1 .0) (t .1 .1 .1 .1 .1 .1 .1 .0 .1)), rw (← e, v)))
 
--- src/lib.rt:32:1
 returns-6 : tie.Need-returns-6
 unfolding numberOf placeAfter wholesIn wholesAfter givenRecord
 returns-6 c = let t = c .before .known-told6 .given in let e = c .before .before .before .before .«record» .ensures in let f = c .before .before .year .given .0 in let v = c .before .before .year .given .1 in (rw (← e, v), (rw (← e, v, counted (f .0) (t .0 .1), counted (f .1 .0) (t .1 .0 .1), counted (f .1 .1 .0) (t .1 .1 .0 .1), counted (f .1 .1 .1 .0) (t .1 .1 .1 .0 .1), counted (f .1 .1 .1 .1 .0) (t .1 .1 .1 .1 .0 .1), counted (f .1 .1 .1 .1 .1 .0) (t .1 .1 .1 .1 .1 .0 .1), counted (f .1 .1 .1 .1 .1 .1 .0) (t .1 .1 .1 .1 .1 .1 .0 .1)), rw (← e, v)))
 
--- src/lib.rt:32:1
 returns-7 : tie.Need-returns-7
 unfolding numberOf placeAfter wholesIn wholesAfter givenRecord
 returns-7 c = let t = c .before .known-told7 .given in let e = c .before .before .before .before .«record» .ensures in let f = c .before .before .mask1 .given .0 in let v = c .before .before .mask1 .given .1 in (rw (← e, v), (rw (← e, v, counted (f .0) (t .0 .1), counted (f .1 .0) (t .1 .0 .1), counted (f .1 .1 .0) (t .1 .1 .0 .1), counted (f .1 .1 .1 .0) (t .1 .1 .1 .0 .1), counted (f .1 .1 .1 .1 .0) (t .1 .1 .1 .1 .0 .1), counted (f .1 .1 .1 .1 .1 .0) (t .1 .1 .1 .1 .1 .0 .1)), rw (← e, v)))
 
--- src/lib.rt:32:1
 returns-8 : tie.Need-returns-8
 unfolding numberOf placeAfter wholesIn wholesAfter givenRecord
 returns-8 c = let t = c .before .known-told8 .given in let e = c .before .before .before .before .«record» .ensures in let f = c .before .before .tower1 .given .0 in let v = c .before .before .tower1 .given .1 in (rw (← e, v), (rw (← e, v, counted (f .0) (t .0 .1), counted (f .1 .0) (t .1 .0 .1), counted (f .1 .1 .0) (t .1 .1 .0 .1), counted (f .1 .1 .1 .0) (t .1 .1 .1 .0 .1), counted (f .1 .1 .1 .1 .0) (t .1 .1 .1 .1 .0 .1), counted (f .1 .1 .1 .1 .1 .0) (t .1 .1 .1 .1 .1 .0 .1)), rw (← e, v)))
 
--- src/lib.rt:32:1
 returns-9 : tie.Need-returns-9
 unfolding numberOf placeAfter wholesIn wholesAfter givenRecord
 returns-9 c = let e = c .before .before .before .«record» .ensures in let v = c .before .number .given .1 in (rw (← e, v), (rw (← e, v), rw (← e, v)))

@@ -6,15 +6,12 @@ use Rattle.exports.proofs.dwj_table.Reads as reads
 use Rattle.exports.proofs.dwj_table.Lts as lts
 use Rattle.dwejrasq.proofs.table.Reads as table-reads
 
--- src/lib.rt:22:9
 table-requires : tie.Need-table-requires
 table-requires c κs = search needs
 
--- src/lib.rt:15:1
 same-length : tie.Need-same-length
 same-length c = search needs
 
--- src/lib.rt:15:1
 returns : tie.Need-returns
 returns c = let t = c .before .before .table .ensures in (rw (t .0), (t .1, (rw (t .0), rw (t .0))))
 

@@ -6,15 +6,12 @@ use Rattle.exports.proofs.dwj_zip.Reads as reads
 use Rattle.exports.proofs.dwj_zip.Lts as lts
 use Rattle.dwejrasq.proofs.zip.Reads as zip-reads
 
--- src/lib.rt:77:8
 zip-requires : tie.Need-zip-requires
 zip-requires c κs = search needs
 
--- src/lib.rt:73:1
 returns : tie.Need-returns
 returns c = rw (← c .before .zip .ensures, c .if1 .taken)
 
--- src/lib.rt:73:1
 returns-2 : tie.Need-returns-2
 returns-2 c = rw (← c .before .zip .ensures, c .if1 .left)
 

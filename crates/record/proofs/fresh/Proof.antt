@@ -6,7 +6,6 @@ use Rattle.record.proofs.fresh.Tie as tie
 use Rattle.record.proofs.fresh.Reads as reads
 use Rattle.record.proofs.fresh.Lts as lts
 
--- src/lib.rt:32:1
 returns : tie.Need-returns
 unfolding contextOf seenOf
 returns c = refl

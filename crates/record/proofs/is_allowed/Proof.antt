@@ -9,33 +9,26 @@ use Rattle.record.proofs.is_allowed.Reads as reads
 use Rattle.record.proofs.is_allowed.Lts as lts
 use Rattle.record.proofs.is_placed.Reads as is-placed-reads
 
--- src/lib.rt:107:27
 enum-told : tie.Need-enum-told
 enum-told c = search needs
 
--- src/lib.rt:108:24
 enum-known-context : tie.Need-enum-known-context
 enum-known-context c = search needs
 
--- src/lib.rt:108:33
 is-placed-requires : tie.Need-is-placed-requires
 is-placed-requires c κs = search needs
 
--- src/lib.rt:109:27
 enum-told-2 : tie.Need-enum-told-2
 enum-told-2 c = search needs
 
--- src/lib.rt:103:1
 returns : tie.Need-returns
 unfolding isAllowed contextOf
 returns c = rw (c .enum-told .given .1)
 
--- src/lib.rt:103:1
 returns-2 : tie.Need-returns-2
 unfolding isAllowed contextOf
 returns-2 c = rw (c .before .before .context .given .1) (c .is-placed .ensures)
 
--- src/lib.rt:103:1
 returns-3 : tie.Need-returns-3
 unfolding isAllowed contextOf
 returns-3 c = rw (c .enum-told2 .given .1)

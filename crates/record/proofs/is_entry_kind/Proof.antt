@@ -5,15 +5,12 @@ use Rattle.record.proofs.is_entry_kind.Tie as tie
 use Rattle.record.proofs.is_entry_kind.Reads as reads
 use Rattle.record.proofs.is_entry_kind.Lts as lts
 
--- src/lib.rt:38:1
 returns : tie.Need-returns
 returns c = rw (c .match .keys1)
 
--- src/lib.rt:38:1
 returns-2 : tie.Need-returns-2
 returns-2 c = rw (c .match .keys2)
 
--- src/lib.rt:38:1
 returns-3 : tie.Need-returns-3
 returns-3 c = rw (ne-eqb _ _ (c .match .rest .0 .1), ne-eqb _ _ (c .match .rest .1))
 

@@ -10,50 +10,39 @@ use Rattle.record.proofs.is_kind.Lts as lts
 use Rattle.record.proofs.is_entry_kind.Reads as is-entry-kind-reads
 use Rattle.record.proofs.is_record_kind.Reads as is-record-kind-reads
 
--- src/lib.rt:67:27
 enum-told : tie.Need-enum-told
 enum-told c = search needs
 
--- src/lib.rt:67:27
 is-entry-kind-requires : tie.Need-is-entry-kind-requires
 is-entry-kind-requires c κs = search needs
 
--- src/lib.rt:68:30
 enum-told-2 : tie.Need-enum-told-2
 enum-told-2 c = search needs
 
--- src/lib.rt:68:30
 is-record-kind-requires : tie.Need-is-record-kind-requires
 is-record-kind-requires c κs = search needs
 
--- src/lib.rt:70:16
 enum-told-3 : tie.Need-enum-told-3
 enum-told-3 c = search needs
 
--- src/lib.rt:70:16
 is-entry-kind-requires-2 : tie.Need-is-entry-kind-requires-2
 is-entry-kind-requires-2 c κs = search needs
 
--- src/lib.rt:71:17
 returns : tie.Need-returns
 unfolding isKind contextOf
 returns c = rw (c .before .before .enum-told3 .given .1, ← c .before .is-entry-kind2 .ensures, c .if1 .taken)
 
--- src/lib.rt:73:13
 is-record-kind-requires-2 : tie.Need-is-record-kind-requires-2
 is-record-kind-requires-2 c κs = search needs
 
--- src/lib.rt:63:1
 returns-2 : tie.Need-returns-2
 unfolding isKind contextOf
 returns-2 c = rw (c .before .enum-told .given .1) (c .is-entry-kind .ensures)
 
--- src/lib.rt:63:1
 returns-3 : tie.Need-returns-3
 unfolding isKind contextOf
 returns-3 c = rw (c .before .enum-told2 .given .1) (c .is-record-kind .ensures)
 
--- src/lib.rt:63:1
 returns-4 : tie.Need-returns-4
 unfolding isKind contextOf
 returns-4 c = rw (c .before .before .before .enum-told3 .given .1, ← c .before .before .is-entry-kind2 .ensures, c .before .if1 .left) (c .is-record-kind2 .ensures)

@@ -7,37 +7,30 @@ use Rattle.record.proofs.is_placed.Tie as tie
 use Rattle.record.proofs.is_placed.Reads as reads
 use Rattle.record.proofs.is_placed.Lts as lts
 
--- src/lib.rt:83:9
 returns : tie.Need-returns
 unfolding isPlaced seenOf
 returns c = rw (c .before .if1 .taken)
 
--- src/lib.rt:86:9
 returns-2 : tie.Need-returns-2
 unfolding isPlaced seenOf
 returns-2 c = rw (ne-eqb _ _ (c .before .before .if1 .left), not-true (c .before .before .before .args .seen .administrative) (c .if2 .taken))
 
--- src/lib.rt:89:9
 returns-3 : tie.Need-returns-3
 unfolding isPlaced seenOf
 returns-3 c = rw (c .before .if3 .taken, not-false (c .before .before .before .before .before .args .seen .administrative) (c .before .before .if2 .left))
 
--- src/lib.rt:92:9
 returns-4 : tie.Need-returns-4
 unfolding isPlaced seenOf
 returns-4 c = rw (c .before .if4 .taken, not-false (c .before .before .before .before .before .before .args .seen .administrative) (c .before .before .before .if2 .left))
 
--- src/lib.rt:95:9
 returns-5 : tie.Need-returns-5
 unfolding isPlaced seenOf
 returns-5 c = rw (c .before .if5 .taken, not-false (c .before .before .before .before .before .before .before .args .seen .administrative) (c .before .before .before .before .if2 .left))
 
--- src/lib.rt:98:9
 returns-6 : tie.Need-returns-6
 unfolding isPlaced seenOf
 returns-6 c = rw (c .before .if6 .taken, not-false (c .before .before .before .before .before .before .before .before .args .seen .administrative) (c .before .before .before .before .before .if2 .left))
 
--- src/lib.rt:79:1
 returns-7 : tie.Need-returns-7
 unfolding isPlaced seenOf
 returns-7 c = rw (ne-eqb _ _ (c .before .before .before .before .before .before .if1 .left), not-false (c .before .before .before .before .before .before .before .args .seen .administrative) (c .before .before .before .before .if2 .left), ne-eqb _ _ (c .before .before .before .if3 .left), ne-eqb _ _ (c .before .before .if4 .left), ne-eqb _ _ (c .before .if5 .left), ne-eqb _ _ (c .if6 .left))

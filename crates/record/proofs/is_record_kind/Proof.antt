@@ -5,31 +5,24 @@ use Rattle.record.proofs.is_record_kind.Tie as tie
 use Rattle.record.proofs.is_record_kind.Reads as reads
 use Rattle.record.proofs.is_record_kind.Lts as lts
 
--- src/lib.rt:48:1
 returns : tie.Need-returns
 returns c = rw (c .match .keys1)
 
--- src/lib.rt:48:1
 returns-2 : tie.Need-returns-2
 returns-2 c = rw (c .match .keys2)
 
--- src/lib.rt:48:1
 returns-3 : tie.Need-returns-3
 returns-3 c = rw (c .match .keys3)
 
--- src/lib.rt:48:1
 returns-4 : tie.Need-returns-4
 returns-4 c = rw (c .match .keys4)
 
--- src/lib.rt:48:1
 returns-5 : tie.Need-returns-5
 returns-5 c = rw (c .match .keys5)
 
--- src/lib.rt:48:1
 returns-6 : tie.Need-returns-6
 returns-6 c = rw (c .match .keys6)
 
--- src/lib.rt:48:1
 returns-7 : tie.Need-returns-7
 returns-7 c = rw (ne-eqb _ _ (c .match .rest .0 .0 .0 .0 .0 .1), ne-eqb _ _ (c .match .rest .0 .0 .0 .0 .1), ne-eqb _ _ (c .match .rest .0 .0 .0 .1), ne-eqb _ _ (c .match .rest .0 .0 .1), ne-eqb _ _ (c .match .rest .0 .1), ne-eqb _ _ (c .match .rest .1))
 

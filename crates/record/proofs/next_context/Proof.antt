@@ -9,33 +9,26 @@ use Rattle.record.proofs.next_context.Reads as reads
 use Rattle.record.proofs.next_context.Lts as lts
 use Rattle.record.proofs.noted.Reads as noted-reads
 
--- src/lib.rt:134:27
 enum-told : tie.Need-enum-told
 enum-told c = search needs
 
--- src/lib.rt:135:24
 enum-known-context : tie.Need-enum-known-context
 enum-known-context c = search needs
 
--- src/lib.rt:135:48
 noted-requires : tie.Need-noted-requires
 noted-requires c κs = search needs
 
--- src/lib.rt:136:27
 enum-told-2 : tie.Need-enum-told-2
 enum-told-2 c = search needs
 
--- src/lib.rt:130:1
 returns : tie.Need-returns
 unfolding Note.behind contextOf
 returns c = rw (c .enum-told .given .1)
 
--- src/lib.rt:130:1
 returns-2 : tie.Need-returns-2
 unfolding Note.behind contextOf
 returns-2 c = rw (c .before .before .context .given .1) (ap Note.event (c .noted .ensures))
 
--- src/lib.rt:130:1
 returns-3 : tie.Need-returns-3
 unfolding Note.behind contextOf
 returns-3 c = rw (c .enum-told2 .given .1)

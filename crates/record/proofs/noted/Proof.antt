@@ -7,32 +7,26 @@ use Rattle.record.proofs.noted.Tie as tie
 use Rattle.record.proofs.noted.Reads as reads
 use Rattle.record.proofs.noted.Lts as lts
 
--- src/lib.rt:114:1
 returns : tie.Need-returns
 unfolding Note.noted seenOf
 returns c = rw (c .match .keys1)
 
--- src/lib.rt:114:1
 returns-2 : tie.Need-returns-2
 unfolding Note.noted seenOf
 returns-2 c = rw (c .match .keys2)
 
--- src/lib.rt:114:1
 returns-3 : tie.Need-returns-3
 unfolding Note.noted seenOf
 returns-3 c = rw (c .match .keys3)
 
--- src/lib.rt:114:1
 returns-4 : tie.Need-returns-4
 unfolding Note.noted seenOf
 returns-4 c = rw (c .match .keys4)
 
--- src/lib.rt:114:1
 returns-5 : tie.Need-returns-5
 unfolding Note.noted seenOf
 returns-5 c = rw (c .match .keys5)
 
--- src/lib.rt:114:1
 returns-6 : tie.Need-returns-6
 unfolding Note.noted seenOf
 returns-6 c = rw (ne-eqb _ _ (c .match .rest .0 .0 .0 .0 .1), ne-eqb _ _ (c .match .rest .0 .0 .0 .1), ne-eqb _ _ (c .match .rest .0 .0 .1), ne-eqb _ _ (c .match .rest .0 .1), ne-eqb _ _ (c .match .rest .1))

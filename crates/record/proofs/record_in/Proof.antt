@@ -14,67 +14,51 @@ use Rattle.record.proofs.is_kind.Reads as is-kind-reads
 use Rattle.rules.proofs.rule.Reads as rule-reads
 use Rattle.words.proofs.word_at.Reads as word-at-reads
 
--- src/lib.rt:148:9
 returns : tie.Need-returns
 returns c = short (contextOf (c .before .before .args .context)) (c .before .before .args .at) (now (c .before .before .args .part)) (c .if1 .taken)
 
--- src/lib.rt:150:9
 word-at-requires : tie.Need-word-at-requires
 word-at-requires c κs = search needs
 
--- src/lib.rt:151:9
 is-kind-requires : tie.Need-is-kind-requires
 is-kind-requires c κs = search needs
 
--- src/lib.rt:152:9
 returns-2 : tie.Need-returns-2
 returns-2 c = unknown (contextOf (c .before .before .before .before .before .args .context)) (c .before .before .before .before .before .args .at) (now (c .before .before .before .before .before .args .part)) (c .before .before .before .if1 .left) _ (c .before .before .word-at .ensures) (sym (c .before .is-kind .ensures) ∙ not-true _ (c .if2 .taken))
 
--- src/lib.rt:154:18
 word-at-requires-2 : tie.Need-word-at-requires-2
 word-at-requires-2 c κs = search needs
 
--- src/lib.rt:154:18
 cast-length : tie.Need-cast-length
 cast-length c = search needs
 
--- src/lib.rt:156:9
 returns-3 : tie.Need-returns-3
 returns-3 c = long (contextOf (c .before .before .before .before .before .before .before .args .context)) (c .before .before .before .before .before .before .before .args .at) (now (c .before .before .before .before .before .before .before .args .part)) (c .before .before .before .before .before .if1 .left) _ (c .before .before .before .before .word-at .ensures) (sym (c .before .before .before .is-kind .ensures) ∙ not-false _ (c .before .before .if2 .left)) _ (c .before .word-at2 .ensures) (c .if3 .taken)
 
--- src/lib.rt:158:9
 is-allowed-requires : tie.Need-is-allowed-requires
 is-allowed-requires c κs = search needs
 
--- src/lib.rt:159:9
 returns-4 : tie.Need-returns-4
 returns-4 c = misplaced (contextOf (c .before .before .before .before .before .before .before .before .before .args .context)) (c .before .before .before .before .before .before .before .before .before .args .at) (now (c .before .before .before .before .before .before .before .before .before .args .part)) (c .before .before .before .before .before .before .before .if1 .left) _ (c .before .before .before .before .before .before .word-at .ensures) (sym (c .before .before .before .before .before .is-kind .ensures) ∙ not-false _ (c .before .before .before .before .if2 .left)) _ (c .before .before .before .word-at2 .ensures) (c .before .before .if3 .left) (sym (c .before .is-allowed .ensures) ∙ not-true _ (c .if4 .taken))
 
--- src/lib.rt:161:37
 add-rule : tie.Need-add-rule
 add-rule c = search needs
 
--- src/lib.rt:161:28
 sub-rule : tie.Need-sub-rule
 sub-rule c = search needs
 
--- src/lib.rt:161:28
 part-rule-start : tie.Need-part-rule-start
 part-rule-start c = search needs
 
--- src/lib.rt:161:28
 part-rule-end : tie.Need-part-rule-end
 part-rule-end c = search needs
 
--- src/lib.rt:161:9
 rule-requires : tie.Need-rule-requires
 rule-requires c κs = search needs
 
--- src/lib.rt:163:9
 returns-5 : tie.Need-returns-5
 returns-5 c = fault (contextOf (c .before .before .before .before .before .before .before .before .before .before .before .before .args .context)) (c .before .before .before .before .before .before .before .before .before .before .before .before .args .at) (now (c .before .before .before .before .before .before .before .before .before .before .before .before .args .part)) (c .before .before .before .before .before .before .before .before .before .before .if1 .left) _ (c .before .before .before .before .before .before .before .before .before .word-at .ensures) (sym (c .before .before .before .before .before .before .before .before .is-kind .ensures) ∙ not-false _ (c .before .before .before .before .before .before .before .if2 .left)) _ (c .before .before .before .before .before .before .word-at2 .ensures) (c .before .before .before .before .before .if3 .left) (sym (c .before .before .before .before .is-allowed .ensures) ∙ not-false _ (c .before .before .before .if4 .left)) _ (c .before .rule .ensures) (c .if5 .taken)
 
--- src/lib.rt:143:1
 returns-6 : tie.Need-returns-6
 returns-6 c = good (contextOf (c .before .before .before .before .before .before .before .before .before .before .before .before .args .context)) (c .before .before .before .before .before .before .before .before .before .before .before .before .args .at) (now (c .before .before .before .before .before .before .before .before .before .before .before .before .args .part)) (c .before .before .before .before .before .before .before .before .before .before .if1 .left) _ (c .before .before .before .before .before .before .before .before .before .word-at .ensures) (sym (c .before .before .before .before .before .before .before .before .is-kind .ensures) ∙ not-false _ (c .before .before .before .before .before .before .before .if2 .left)) _ (c .before .before .before .before .before .before .word-at2 .ensures) (c .before .before .before .before .before .if3 .left) (sym (c .before .before .before .before .is-allowed .ensures) ∙ not-false _ (c .before .before .before .if4 .left)) _ (c .before .rule .ensures) (c .if5 .left)
 

@@ -10,24 +10,19 @@ use Rattle.rules.proofs.administrative_rule.Lts as lts
 use Rattle.fields.proofs.administrative_fault.Reads as administrative-fault-reads
 use Rattle.words.proofs.word_at.Reads as word-at-reads
 
--- src/lib.rt:39:9
 returns : tie.Need-returns
 unfolding administrativeRule first
 returns c = rw (ne-eqb _ _ (c .if1 .taken))
 
--- src/lib.rt:41:26
 word-at-requires : tie.Need-word-at-requires
 word-at-requires c κs = search needs
 
--- src/lib.rt:41:41
 word-at-requires-2 : tie.Need-word-at-requires-2
 word-at-requires-2 c κs = search needs
 
--- src/lib.rt:41:5
 administrative-fault-requires : tie.Need-administrative-fault-requires
 administrative-fault-requires c κs = search needs
 
--- src/lib.rt:35:1
 returns-2 : tie.Need-returns-2
 unfolding administrativeRule first
 returns-2 c = rw (

@@ -9,20 +9,16 @@ use Rattle.rules.proofs.bookkeeping_rule.Lts as lts
 use Rattle.channels.proofs.is_named.Reads as is-named-reads
 use Rattle.words.proofs.word_at.Reads as word-at-reads
 
--- src/lib.rt:92:8
 word-at-requires : tie.Need-word-at-requires
 word-at-requires c κs = search needs
 
--- src/lib.rt:93:9
 returns : tie.Need-returns
 unfolding bookkeepingRule first
 returns c = rw (← c .before .word-at .ensures, ne-eqb _ _ (c .if1 .taken))
 
--- src/lib.rt:95:8
 word-at-requires-2 : tie.Need-word-at-requires-2
 word-at-requires-2 c κs = search needs
 
--- src/lib.rt:96:9
 returns-2 : tie.Need-returns-2
 unfolding bookkeepingRule first
 returns-2 c = rw (
@@ -32,11 +28,9 @@ returns-2 c = rw (
   ne-eqb _ _ (c .if2 .taken),
 )
 
--- src/lib.rt:98:9
 word-at-requires-3 : tie.Need-word-at-requires-3
 word-at-requires-3 c κs = search needs
 
--- src/lib.rt:100:9
 returns-3 : tie.Need-returns-3
 unfolding bookkeepingRule first
 returns-3 c = rw (
@@ -48,7 +42,6 @@ returns-3 c = rw (
   lt-leb _ _ (c .if3 .taken),
 )
 
--- src/lib.rt:103:9
 returns-4 : tie.Need-returns-4
 unfolding bookkeepingRule first
 returns-4 c = rw (
@@ -61,15 +54,12 @@ returns-4 c = rw (
   lt-leb _ _ (c .if4 .taken),
 )
 
--- src/lib.rt:105:18
 word-at-requires-4 : tie.Need-word-at-requires-4
 word-at-requires-4 c κs = search needs
 
--- src/lib.rt:105:9
 is-named-requires : tie.Need-is-named-requires
 is-named-requires c κs = search needs
 
--- src/lib.rt:106:9
 returns-5 : tie.Need-returns-5
 unfolding bookkeepingRule first
 returns-5 c = rw (
@@ -85,7 +75,6 @@ returns-5 c = rw (
   not-true (c .before .is-named .result) (c .if5 .taken),
 )
 
--- src/lib.rt:88:1
 returns-6 : tie.Need-returns-6
 unfolding bookkeepingRule first
 returns-6 c = rw (

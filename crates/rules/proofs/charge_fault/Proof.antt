@@ -8,16 +8,13 @@ use Rattle.rules.proofs.charge_fault.Reads as reads
 use Rattle.rules.proofs.charge_fault.Lts as lts
 use Rattle.channels.proofs.is_charge.Reads as is-charge-reads
 
--- src/lib.rt:51:9
 is-charge-requires : tie.Need-is-charge-requires
 is-charge-requires c κs = search needs
 
--- src/lib.rt:52:9
 returns : tie.Need-returns
 unfolding chargeFault first
 returns c = rw (← c .before .is-charge .ensures, not-true (c .before .is-charge .result) (c .if1 .taken))
 
--- src/lib.rt:48:1
 returns-2 : tie.Need-returns-2
 unfolding chargeFault first
 returns-2 c = rw (← c .before .is-charge .ensures, not-false (c .before .is-charge .result) (c .if1 .left))

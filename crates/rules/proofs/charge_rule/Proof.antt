@@ -10,20 +10,16 @@ use Rattle.rules.proofs.charge_rule.Lts as lts
 use Rattle.rules.proofs.charge_fault.Reads as charge-fault-reads
 use Rattle.words.proofs.word_at.Reads as word-at-reads
 
--- src/lib.rt:72:9
 returns : tie.Need-returns
 unfolding chargeRule first
 returns c = rw (ne-eqb _ _ (c .if1 .taken))
 
--- src/lib.rt:74:18
 word-at-requires : tie.Need-word-at-requires
 word-at-requires c κs = search needs
 
--- src/lib.rt:74:5
 charge-fault-requires : tie.Need-charge-fault-requires
 charge-fault-requires c κs = search needs
 
--- src/lib.rt:68:1
 returns-2 : tie.Need-returns-2
 unfolding chargeRule first
 returns-2 c = rw (eq-eqb _ _ (c .before .before .if1 .left), ← c .before .word-at .ensures, ← c .charge-fault .ensures) (last (c .charge-fault .result))

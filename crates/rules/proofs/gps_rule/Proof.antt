@@ -18,57 +18,44 @@ use Rattle.fields.proofs.gps_digits_fault.Reads as gps-digits-fault-reads
 use Rattle.fields.proofs.gps_fault.Reads as gps-fault-reads
 use Rattle.words.proofs.word_at.Reads as word-at-reads
 
--- src/lib.rt:150:9
 returns : tie.Need-returns
 unfolding first
 returns c = rw (gps-rule-in-parts, ne-eqb _ _ (c .if1 .taken))
 
--- src/lib.rt:152:9
 word-at-requires : tie.Need-word-at-requires
 word-at-requires c κs = search needs
 
--- src/lib.rt:153:9
 word-at-requires-2 : tie.Need-word-at-requires-2
 word-at-requires-2 c κs = search needs
 
--- src/lib.rt:154:9
 word-at-requires-3 : tie.Need-word-at-requires-3
 word-at-requires-3 c κs = search needs
 
--- src/lib.rt:155:9
 gps-digits-fault-requires : tie.Need-gps-digits-fault-requires
 gps-digits-fault-requires c κs = search needs
 
--- src/lib.rt:157:9
 returns-2 : tie.Need-returns-2
 unfolding first
 returns-2 c = rw (gps-rule-in-parts, eq-eqb _ _ (c .before .before .before .before .before .if1 .left), ← c .before .before .before .before .word-at .ensures, ← c .before .before .before .word-at2 .ensures, ← c .before .before .word-at3 .ensures, ← c .before .gps-digits-fault .ensures, positive (c .before .gps-digits-fault .result) (c .if2 .taken))
 
--- src/lib.rt:160:9
 decimal-requires : tie.Need-decimal-requires
 decimal-requires c κs = search needs
 
--- src/lib.rt:161:9
 decimal-requires-2 : tie.Need-decimal-requires-2
 decimal-requires-2 c κs = search needs
 
--- src/lib.rt:163:9
 decimal-requires-3 : tie.Need-decimal-requires-3
 decimal-requires-3 c κs = search needs
 
--- src/lib.rt:164:9
 decimal-requires-4 : tie.Need-decimal-requires-4
 decimal-requires-4 c κs = search needs
 
--- src/lib.rt:165:9
 decimal-requires-5 : tie.Need-decimal-requires-5
 decimal-requires-5 c κs = search needs
 
--- src/lib.rt:166:9
 decimal-requires-6 : tie.Need-decimal-requires-6
 decimal-requires-6 c κs = search needs
 
--- src/lib.rt:159:5
 gps-fault-requires : tie.Need-gps-fault-requires
 gps-fault-requires c κs = search needs
 
@@ -77,7 +64,6 @@ same-fields : (c : tie.After-gps-fault) → _≡_ {A = Gps} (record { year = c .
 unfolding gpsOf
 same-fields c = rw (← c .before .before .before .before .before .before .before .before .before .before .before .word-at .ensures, ← c .before .before .before .before .before .before .before .before .before .before .word-at2 .ensures, ← c .before .before .before .before .before .before .before .before .before .word-at3 .ensures, ← c .before .before .before .before .before .before .decimal .ensures, ← c .before .before .before .before .before .decimal2 .ensures, ← c .before .before .before .before .decimal3 .ensures, ← c .before .before .before .decimal4 .ensures, ← c .before .before .decimal5 .ensures, ← c .before .decimal6 .ensures)
 
--- src/lib.rt:146:1
 returns-3 : tie.Need-returns-3
 unfolding first
 returns-3 c = rw (gps-rule-in-parts, eq-eqb _ _ (c .before .before .before .before .before .before .before .before .before .before .before .before .if1 .left), ← same-fields c, ← c .before .before .before .before .before .before .before .before .before .before .before .word-at .ensures, ← c .before .before .before .before .before .before .before .before .before .before .word-at2 .ensures, ← c .before .before .before .before .before .before .before .before .before .word-at3 .ensures, ← c .before .before .before .before .before .before .before .before .gps-digits-fault .ensures, c .before .before .before .before .before .before .before .if2 .left, ← c .gps-fault .ensures) (last (c .gps-fault .result))

@@ -16,33 +16,27 @@ use Rattle.rules.proofs.history_rule.Lts as lts
 use Rattle.rules.proofs.section_end.Reads as section-end-reads
 use Rattle.rules.proofs.section_rule.Reads as section-rule-reads
 
--- src/lib.rt:173:9
 returns : tie.Need-returns
 unfolding historyRule first
 returns c = rw (lt-leb _ _ (c .if1 .taken))
 
--- src/lib.rt:176:9
 returns-2 : tie.Need-returns-2
 unfolding historyRule first
 returns-2 c = rw (le-leb _ _ (c .before .if1 .left), ne-eqb _ _ (c .if2 .taken))
 
--- src/lib.rt:178:9
 section-rule-requires : tie.Need-section-rule-requires
 section-rule-requires c κs = search needs
 
--- src/lib.rt:180:9
 returns-3 : tie.Need-returns-3
 unfolding historyRule first
 returns-3 c = rw (le-leb _ _ (c .before .before .before .if1 .left), eq-eqb _ _ (c .before .before .if2 .left), ← c .before .section-rule .ensures, positive (c .before .section-rule .result) (c .if3 .taken))
 
--- src/lib.rt:182:9
 section-end-requires : tie.Need-section-end-requires
 section-end-requires c κs =
     let b = now (c .before .before .before .before .before .args .b) in
     let e : sectionRule _ 0 b ≡ 0 = sym (c .before .section-rule .ensures) ∙ c .if3 .left in
     (room _ 0 b e, thin _ 0 b e, c .before .before .before .before .before .pre)
 
--- src/lib.rt:183:9
 section-rule-requires-2 : tie.Need-section-rule-requires-2
 section-rule-requires-2 c κs =
     let b = now (c .before .before .before .before .before .before .args .b) in
@@ -50,12 +44,10 @@ section-rule-requires-2 c κs =
     let s : after 0 b ≤ 0x7FFFFFFFFFFFFFFF = small _ 0 b e (c .before .before .before .before .before .before .pre) in
     (rw (c .section-end .ensures) s, c .before .before .before .before .before .before .pre)
 
--- src/lib.rt:185:9
 returns-4 : tie.Need-returns-4
 unfolding historyRule first
 returns-4 c = rw (le-leb _ _ (c .before .before .before .before .before .before .if1 .left), eq-eqb _ _ (c .before .before .before .before .before .if2 .left), ← c .before .before .before .before .section-rule .ensures, c .before .before .before .if3 .left, ← c .before .before .section-end .ensures, ← c .before .section-rule2 .ensures, positive (c .before .section-rule2 .result) (c .if4 .taken))
 
--- src/lib.rt:187:15
 section-end-requires-2 : tie.Need-section-end-requires-2
 section-end-requires-2 c κs =
     let b = now (c .before .before .before .before .before .before .before .before .args .b) in
@@ -63,12 +55,10 @@ section-end-requires-2 c κs =
     let e : sectionRule _ m b ≡ 0 = sym (c .before .section-rule2 .ensures) ∙ c .if4 .left in
     (room _ m b e, thin _ m b e, c .before .before .before .before .before .before .before .before .pre)
 
--- src/lib.rt:188:9
 returns-5 : tie.Need-returns-5
 unfolding historyRule first
 returns-5 c = rw (le-leb _ _ (c .before .before .before .before .before .before .before .before .if1 .left), eq-eqb _ _ (c .before .before .before .before .before .before .before .if2 .left), ← c .before .before .before .before .before .before .section-rule .ensures, c .before .before .before .before .before .if3 .left, ← c .before .before .before .before .section-end .ensures, ← c .before .before .before .section-rule2 .ensures, c .before .before .if4 .left, ← c .before .before .before .before .section-end .ensures, ← c .before .section-end2 .ensures, ne-eqb _ _ (c .if5 .taken))
 
--- src/lib.rt:167:1
 returns-6 : tie.Need-returns-6
 unfolding historyRule first
 returns-6 c = rw (le-leb _ _ (c .before .before .before .before .before .before .before .before .if1 .left), eq-eqb _ _ (c .before .before .before .before .before .before .before .if2 .left), ← c .before .before .before .before .before .before .section-rule .ensures, c .before .before .before .before .before .if3 .left, ← c .before .before .before .before .section-end .ensures, ← c .before .before .before .section-rule2 .ensures, c .before .before .if4 .left, ← c .before .before .before .before .section-end .ensures, ← c .before .section-end2 .ensures, eq-eqb _ _ (c .if5 .left))

@@ -8,16 +8,13 @@ use Rattle.rules.proofs.phonon_fault.Reads as reads
 use Rattle.rules.proofs.phonon_fault.Lts as lts
 use Rattle.channels.proofs.is_phonon.Reads as is-phonon-reads
 
--- src/lib.rt:41:9
 is-phonon-requires : tie.Need-is-phonon-requires
 is-phonon-requires c κs = search needs
 
--- src/lib.rt:42:9
 returns : tie.Need-returns
 unfolding phononFault first
 returns c = rw (← c .before .is-phonon .ensures, not-true (c .before .is-phonon .result) (c .if1 .taken))
 
--- src/lib.rt:38:1
 returns-2 : tie.Need-returns-2
 unfolding phononFault first
 returns-2 c = rw (← c .before .is-phonon .ensures, not-false (c .before .is-phonon .result) (c .if1 .left))

@@ -10,20 +10,16 @@ use Rattle.rules.proofs.phonon_rule.Lts as lts
 use Rattle.rules.proofs.phonon_fault.Reads as phonon-fault-reads
 use Rattle.words.proofs.word_at.Reads as word-at-reads
 
--- src/lib.rt:62:9
 returns : tie.Need-returns
 unfolding phononRule first
 returns c = rw (ne-eqb _ _ (c .if1 .taken))
 
--- src/lib.rt:64:18
 word-at-requires : tie.Need-word-at-requires
 word-at-requires c κs = search needs
 
--- src/lib.rt:64:5
 phonon-fault-requires : tie.Need-phonon-fault-requires
 phonon-fault-requires c κs = search needs
 
--- src/lib.rt:58:1
 returns-2 : tie.Need-returns-2
 unfolding phononRule first
 returns-2 c = rw (eq-eqb _ _ (c .before .before .if1 .left), ← c .before .word-at .ensures, ← c .phonon-fault .ensures) (last (c .phonon-fault .result))

@@ -18,79 +18,62 @@ use Rattle.rules.proofs.tlb_rule.Reads as tlb-rule-reads
 use Rattle.rules.proofs.trace_rule.Reads as trace-rule-reads
 use Rattle.rules.proofs.trigger_rule.Reads as trigger-rule-reads
 
--- src/lib.rt:291:24
 phonon-rule-requires : tie.Need-phonon-rule-requires
 phonon-rule-requires c κs = search needs
 
--- src/lib.rt:292:24
 charge-rule-requires : tie.Need-charge-rule-requires
 charge-rule-requires c κs = search needs
 
--- src/lib.rt:293:17
 administrative-rule-requires : tie.Need-administrative-rule-requires
 administrative-rule-requires c κs = search needs
 
--- src/lib.rt:294:17
 trace-rule-requires : tie.Need-trace-rule-requires
 trace-rule-requires c κs = search needs
 
--- src/lib.rt:295:17
 history-rule-requires : tie.Need-history-rule-requires
 history-rule-requires c κs = search needs
 
--- src/lib.rt:296:17
 gps-rule-requires : tie.Need-gps-rule-requires
 gps-rule-requires c κs = search needs
 
--- src/lib.rt:297:17
 trigger-rule-requires : tie.Need-trigger-rule-requires
 trigger-rule-requires c κs = search needs
 
--- src/lib.rt:298:17
 tlb-rule-requires : tie.Need-tlb-rule-requires
 tlb-rule-requires c κs = search needs
 
--- src/lib.rt:286:1
 returns : tie.Need-returns
 unfolding kindOf
 returns c = rw (c .before .match .keys1) (c .phonon-rule .ensures)
 
--- src/lib.rt:286:1
 returns-2 : tie.Need-returns-2
 unfolding kindOf
 returns-2 c = rw (c .before .match .keys2) (c .charge-rule .ensures)
 
--- src/lib.rt:286:1
 returns-3 : tie.Need-returns-3
 unfolding kindOf
 returns-3 c = rw (c .before .match .keys3) (c .administrative-rule .ensures)
 
--- src/lib.rt:286:1
 returns-4 : tie.Need-returns-4
 unfolding kindOf
 returns-4 c = rw (c .before .match .keys4) (c .trace-rule .ensures)
 
--- src/lib.rt:286:1
 returns-5 : tie.Need-returns-5
 unfolding kindOf
 returns-5 c = rw (c .before .match .keys5) (c .history-rule .ensures)
 
--- src/lib.rt:286:1
 returns-6 : tie.Need-returns-6
 unfolding kindOf
 returns-6 c = rw (c .before .match .keys6) (c .gps-rule .ensures)
 
--- src/lib.rt:286:1
 returns-7 : tie.Need-returns-7
 unfolding kindOf
 returns-7 c = rw (c .before .match .keys7) (c .trigger-rule .ensures)
 
--- src/lib.rt:286:1
 returns-8 : tie.Need-returns-8
 unfolding kindOf
 returns-8 c = rw (c .before .match .keys8) (c .tlb-rule .ensures)
 
--- src/lib.rt:286:1
 returns-9 : tie.Need-returns-9
 returns-9 c = sym (ap (λ (k : Kind). k .rule (now (c .before .before .args .b))) (no-kind _ (c .match .rest .0 .0 .0 .0 .0 .0 .0 .1) (c .match .rest .0 .0 .0 .0 .0 .0 .1) (c .match .rest .0 .0 .0 .0 .0 .1) (c .match .rest .0 .0 .0 .0 .1) (c .match .rest .0 .0 .0 .1) (c .match .rest .0 .0 .1) (c .match .rest .0 .1) (c .match .rest .1)))
 

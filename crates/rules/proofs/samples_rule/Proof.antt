@@ -10,24 +10,19 @@ use Rattle.rules.proofs.samples_rule.Lts as lts
 use Rattle.fields.proofs.count_fault.Reads as count-fault-reads
 use Rattle.words.proofs.word_at.Reads as word-at-reads
 
--- src/lib.rt:66:8
 word-at-requires : tie.Need-word-at-requires
 word-at-requires c κs = search needs
 
--- src/lib.rt:67:9
 returns : tie.Need-returns
 unfolding samplesRule first
 returns c = rw (← c .before .word-at .ensures, ne-eqb _ _ (c .if1 .taken))
 
--- src/lib.rt:69:9
 word-at-requires-2 : tie.Need-word-at-requires-2
 word-at-requires-2 c κs = search needs
 
--- src/lib.rt:70:9
 count-fault-requires : tie.Need-count-fault-requires
 count-fault-requires c κs = search needs
 
--- src/lib.rt:72:9
 returns-2 : tie.Need-returns-2
 unfolding samplesRule first
 returns-2 c = rw (
@@ -38,11 +33,9 @@ returns-2 c = rw (
   positive (c .before .count-fault .result) (c .if2 .taken),
 )
 
--- src/lib.rt:74:8
 word-at-requires-3 : tie.Need-word-at-requires-3
 word-at-requires-3 c κs = search needs
 
--- src/lib.rt:75:9
 returns-3 : tie.Need-returns-3
 unfolding samplesRule first
 returns-3 c = rw (
@@ -55,7 +48,6 @@ returns-3 c = rw (
   ne-eqb _ _ (c .if3 .taken),
 )
 
--- src/lib.rt:62:1
 returns-4 : tie.Need-returns-4
 unfolding samplesRule first
 returns-4 c = rw (

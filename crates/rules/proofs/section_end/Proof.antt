@@ -10,65 +10,53 @@ use Rattle.rules.proofs.section_end.Reads as reads
 use Rattle.rules.proofs.section_end.Lts as lts
 use Rattle.words.proofs.word_at.Reads as word-at-reads
 
--- src/lib.rt:161:13
 word-at-requires : tie.Need-word-at-requires
 unfolding widthAt widthOf
 word-at-requires c κs = omega arith
 
--- src/lib.rt:161:13
 cast-n : tie.Need-cast-n
 cast-n c = search needs
 
--- src/lib.rt:162:13
 add-q : tie.Need-add-q
 unfolding widthAt widthOf
 add-q c = omega arith
 
--- src/lib.rt:162:21
 mul-q : tie.Need-mul-q
 mul-q c = search needs
 
--- src/lib.rt:162:13
 add-q-2 : tie.Need-add-q-2
 unfolding widthAt widthOf
 add-q-2 c = omega arith
 
--- src/lib.rt:163:13
 word-at-requires-2 : tie.Need-word-at-requires-2
 unfolding widthAt widthOf
 word-at-requires-2 c κs = omega arith
 
--- src/lib.rt:163:13
 cast-w : tie.Need-cast-w
 cast-w c = search needs
 
--- src/lib.rt:164:5
 add-result : tie.Need-add-result
 unfolding widthAt widthOf
 add-result c = omega arith
 
--- src/lib.rt:164:18
 mul-result : tie.Need-mul-result
 unfolding widthAt widthOf
 mul-result c =
     let p = product (c .before .word-at .result) (c .word-at2 .result) (omega arith) (rw (c .word-at2 .ensures, c .before .word-at .ensures) (c .before .before .before .pre .1)) in
     omega (arith, p)
 
--- src/lib.rt:164:13
 mul-result-2 : tie.Need-mul-result-2
 unfolding widthAt widthOf
 mul-result-2 c =
     let p = product (c .before .word-at .result) (c .word-at2 .result) (omega arith) (rw (c .word-at2 .ensures, c .before .word-at .ensures) (c .before .before .before .pre .1)) in
     omega (arith, p)
 
--- src/lib.rt:164:5
 add-result-2 : tie.Need-add-result-2
 unfolding widthAt widthOf
 add-result-2 c =
     let p = product (c .before .word-at .result) (c .word-at2 .result) (omega arith) (rw (c .word-at2 .ensures, c .before .word-at .ensures) (c .before .before .before .pre .1)) in
     omega (arith, p)
 
--- src/lib.rt:157:1
 returns : tie.Need-returns
 unfolding after widthOf widthAt
 returns c = rw (← c .before .word-at .ensures, ← c .word-at2 .ensures)

@@ -9,45 +9,35 @@ use Rattle.rules.proofs.section_rule.Lts as lts
 use Rattle.fields.proofs.is_width.Reads as is-width-reads
 use Rattle.words.proofs.word_at.Reads as word-at-reads
 
--- src/lib.rt:86:15
 add-if1 : tie.Need-add-if1
 add-if1 c = search needs
 
--- src/lib.rt:87:9
 returns : tie.Need-returns
 unfolding sectionRule widthAt widthOf first
 returns c = rw (lt-leb _ _ (c .if1 .taken))
 
--- src/lib.rt:89:9
 word-at-requires : tie.Need-word-at-requires
 word-at-requires c κs = search needs
 
--- src/lib.rt:91:9
 returns-2 : tie.Need-returns-2
 unfolding sectionRule widthAt widthOf first
 returns-2 c = rw (le-leb _ _ (c .before .before .if1 .left), ← c .before .word-at .ensures, lt-leb _ _ (c .if2 .taken))
 
--- src/lib.rt:93:13
 add-q : tie.Need-add-q
 add-q c = search needs
 
--- src/lib.rt:93:25
 cast-q : tie.Need-cast-q
 cast-q c = search needs
 
--- src/lib.rt:93:21
 mul-q : tie.Need-mul-q
 mul-q c = search needs
 
--- src/lib.rt:93:13
 add-q-2 : tie.Need-add-q-2
 add-q-2 c = search needs
 
--- src/lib.rt:94:15
 add-if3 : tie.Need-add-if3
 add-if3 c = search needs
 
--- src/lib.rt:95:9
 returns-3 : tie.Need-returns-3
 unfolding sectionRule widthAt widthOf first
 returns-3 c = rw (
@@ -57,11 +47,9 @@ returns-3 c = rw (
   lt-leb _ _ (c .if3 .taken),
 )
 
--- src/lib.rt:97:9
 word-at-requires-2 : tie.Need-word-at-requires-2
 word-at-requires-2 c κs = search needs
 
--- src/lib.rt:99:9
 returns-4 : tie.Need-returns-4
 unfolding sectionRule widthAt widthOf first
 returns-4 c = rw (
@@ -73,11 +61,9 @@ returns-4 c = rw (
   lt-leb _ _ (c .if4 .taken),
 )
 
--- src/lib.rt:101:9
 is-width-requires : tie.Need-is-width-requires
 is-width-requires c κs = search needs
 
--- src/lib.rt:102:9
 returns-5 : tie.Need-returns-5
 unfolding sectionRule widthAt widthOf first
 returns-5 c = rw (
@@ -91,7 +77,6 @@ returns-5 c = rw (
   not-true (c .before .is-width .result) (c .if5 .taken),
 )
 
--- src/lib.rt:81:1
 returns-6 : tie.Need-returns-6
 unfolding sectionRule widthAt widthOf first
 returns-6 c = rw (

@@ -8,20 +8,16 @@ use Rattle.rules.proofs.timebase_rule.Reads as reads
 use Rattle.rules.proofs.timebase_rule.Lts as lts
 use Rattle.words.proofs.word_at.Reads as word-at-reads
 
--- src/lib.rt:49:8
 word-at-requires : tie.Need-word-at-requires
 word-at-requires c κs = search needs
 
--- src/lib.rt:50:9
 returns : tie.Need-returns
 unfolding timebaseRule first
 returns c = rw (← c .before .word-at .ensures, ne-eqb _ _ (c .if1 .taken))
 
--- src/lib.rt:52:8
 word-at-requires-2 : tie.Need-word-at-requires-2
 word-at-requires-2 c κs = search needs
 
--- src/lib.rt:53:9
 returns-2 : tie.Need-returns-2
 unfolding timebaseRule first
 returns-2 c = rw (
@@ -31,11 +27,9 @@ returns-2 c = rw (
   ne-eqb _ _ (c .if2 .taken),
 )
 
--- src/lib.rt:55:8
 word-at-requires-3 : tie.Need-word-at-requires-3
 word-at-requires-3 c κs = search needs
 
--- src/lib.rt:56:9
 returns-3 : tie.Need-returns-3
 unfolding timebaseRule first
 returns-3 c = rw (
@@ -47,7 +41,6 @@ returns-3 c = rw (
   lt-leb _ _ (c .if3 .taken),
 )
 
--- src/lib.rt:45:1
 returns-4 : tie.Need-returns-4
 unfolding timebaseRule first
 returns-4 c = rw (

@@ -12,40 +12,31 @@ use Rattle.rules.proofs.tlb_rule.Lts as lts
 use Rattle.fields.proofs.tlb_fault.Reads as tlb-fault-reads
 use Rattle.words.proofs.word_at.Reads as word-at-reads
 
--- src/lib.rt:188:9
 returns : tie.Need-returns
 unfolding tlbRule first
 returns c = rw (ne-eqb _ _ (c .if1 .taken))
 
--- src/lib.rt:190:15
 word-at-requires : tie.Need-word-at-requires
 word-at-requires c κs = search needs
 
--- src/lib.rt:190:30
 word-at-requires-2 : tie.Need-word-at-requires-2
 word-at-requires-2 c κs = search needs
 
--- src/lib.rt:190:45
 word-at-requires-3 : tie.Need-word-at-requires-3
 word-at-requires-3 c κs = search needs
 
--- src/lib.rt:190:60
 word-at-requires-4 : tie.Need-word-at-requires-4
 word-at-requires-4 c κs = search needs
 
--- src/lib.rt:190:76
 word-at-requires-5 : tie.Need-word-at-requires-5
 word-at-requires-5 c κs = search needs
 
--- src/lib.rt:190:92
 word-at-requires-6 : tie.Need-word-at-requires-6
 word-at-requires-6 c κs = search needs
 
--- src/lib.rt:190:5
 tlb-fault-requires : tie.Need-tlb-fault-requires
 tlb-fault-requires c κs = search needs
 
--- src/lib.rt:184:1
 returns-2 : tie.Need-returns-2
 unfolding tlbRule tlbOf first
 returns-2 c = rw (eq-eqb _ _ (c .before .before .before .before .before .before .before .if1 .left), ← c .before .before .before .before .before .before .word-at .ensures, ← c .before .before .before .before .before .word-at2 .ensures, ← c .before .before .before .before .word-at3 .ensures, ← c .before .before .before .word-at4 .ensures, ← c .before .before .word-at5 .ensures, ← c .before .word-at6 .ensures, ← c .tlb-fault .ensures) (last (c .tlb-fault .result))

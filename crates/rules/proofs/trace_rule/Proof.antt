@@ -12,16 +12,13 @@ use Rattle.rules.proofs.samples_rule.Reads as samples-rule-reads
 use Rattle.rules.proofs.timebase_rule.Reads as timebase-rule-reads
 use Rattle.words.proofs.word_at.Reads as word-at-reads
 
--- src/lib.rt:152:9
 returns : tie.Need-returns
 unfolding traceRule first
 returns c = rw (lt-leb _ _ (c .if1 .taken))
 
--- src/lib.rt:154:9
 bookkeeping-rule-requires : tie.Need-bookkeeping-rule-requires
 bookkeeping-rule-requires c κs = search needs
 
--- src/lib.rt:156:9
 returns-2 : tie.Need-returns-2
 unfolding traceRule first
 returns-2 c = rw (
@@ -30,11 +27,9 @@ returns-2 c = rw (
   positive (c .before .bookkeeping-rule .result) (c .if2 .taken),
 )
 
--- src/lib.rt:158:9
 timebase-rule-requires : tie.Need-timebase-rule-requires
 timebase-rule-requires c κs = search needs
 
--- src/lib.rt:160:9
 returns-3 : tie.Need-returns-3
 unfolding traceRule first
 returns-3 c = rw (
@@ -45,11 +40,9 @@ returns-3 c = rw (
   positive (c .before .timebase-rule .result) (c .if3 .taken),
 )
 
--- src/lib.rt:162:9
 samples-rule-requires : tie.Need-samples-rule-requires
 samples-rule-requires c κs = search needs
 
--- src/lib.rt:164:9
 returns-4 : tie.Need-returns-4
 unfolding traceRule first
 returns-4 c = rw (
@@ -62,23 +55,18 @@ returns-4 c = rw (
   positive (c .before .samples-rule .result) (c .if4 .taken),
 )
 
--- src/lib.rt:166:28
 word-at-requires : tie.Need-word-at-requires
 word-at-requires c κs = search needs
 
--- src/lib.rt:166:28
 cast-if5 : tie.Need-cast-if5
 cast-if5 c = search needs
 
--- src/lib.rt:166:24
 mul-if5 : tie.Need-mul-if5
 mul-if5 c = search needs
 
--- src/lib.rt:166:19
 add-if5 : tie.Need-add-if5
 add-if5 c = search needs
 
--- src/lib.rt:167:9
 returns-5 : tie.Need-returns-5
 unfolding traceRule first
 returns-5 c = rw (
@@ -93,7 +81,6 @@ returns-5 c = rw (
   ne-eqb _ _ (c .if5 .taken),
 )
 
--- src/lib.rt:148:1
 returns-6 : tie.Need-returns-6
 unfolding traceRule first
 returns-6 c = rw (

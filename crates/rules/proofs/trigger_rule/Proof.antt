@@ -8,21 +8,17 @@ use Rattle.rules.proofs.trigger_rule.Reads as reads
 use Rattle.rules.proofs.trigger_rule.Lts as lts
 use Rattle.words.proofs.word_at.Reads as word-at-reads
 
--- src/lib.rt:175:9
 returns : tie.Need-returns
 unfolding triggerRule first
 returns c = rw (ne-eqb _ _ (c .if1 .taken))
 
--- src/lib.rt:177:8
 word-at-requires : tie.Need-word-at-requires
 word-at-requires c κs = search needs
 
--- src/lib.rt:178:9
 returns-2 : tie.Need-returns-2
 unfolding triggerRule first
 returns-2 c = rw (eq-eqb _ _ (c .before .before .if1 .left), ← c .before .word-at .ensures, ne-eqb _ _ (c .if2 .taken))
 
--- src/lib.rt:171:1
 returns-3 : tie.Need-returns-3
 unfolding triggerRule first
 returns-3 c = rw (eq-eqb _ _ (c .before .before .if1 .left), ← c .before .word-at .ensures, eq-eqb _ _ (c .if2 .left))

@@ -22,111 +22,84 @@ Inv-loop part from rows₀ first rest₀ at₀ n₀ rows rest at n = FillingEven
 abbrev μ-loop : tie.MeasureT-loop
 μ-loop part from rows₀ first rest₀ at₀ n₀ rows rest at n = length rest
 
--- src/lib.rt:97:5
 loop-holds : tie.Need-loop-holds Inv-loop μ-loop
 loop-holds c = begin (c .before .before .args .from) (now (c .before .before .args .part)) (now (c .before .before .args .rows)) (c .before .before .args .first) (Bytes-from (now (c .before .before .args .part)) (λ i l. omega (arith, c .before .shared-slice-known .given i)))
 
--- src/lib.rt:98:24
 word-at-requires : tie.Need-word-at-requires Inv-loop μ-loop
 word-at-requires c κs = omega (arith, fits (c .before .loop .inv) (c .loop-test .taken) (c .before .before .before .before .pre .events) (c .before .before .before .before .pre .reads))
 
--- src/lib.rt:98:24
 cast-size : tie.Need-cast-size Inv-loop μ-loop
 cast-size c = search needs
 
--- src/lib.rt:98:20
 add-size : tie.Need-add-size Inv-loop μ-loop
 add-size c = omega (arith, fits (c .before .before .loop .inv) (c .before .loop-test .taken) (c .before .before .before .before .before .pre .events) (c .before .before .before .before .before .pre .reads), place (c .before .before .loop .inv), c .before .before .before .before .before .pre .within, c .word-at .ensures)
 
--- src/lib.rt:99:33
 sub-fill-records : tie.Need-sub-fill-records Inv-loop μ-loop
 sub-fill-records c = omega (arith, fits (c .before .before .loop .inv) (c .before .loop-test .taken) (c .before .before .before .before .before .pre .events) (c .before .before .before .before .before .pre .reads), c .word-at .ensures)
 
--- src/lib.rt:99:33
 part-fill-records-start : tie.Need-part-fill-records-start Inv-loop μ-loop
 part-fill-records-start c = omega (arith, fits (c .before .before .loop .inv) (c .before .loop-test .taken) (c .before .before .before .before .before .pre .events) (c .before .before .before .before .before .pre .reads), c .word-at .ensures)
 
--- src/lib.rt:99:33
 part-fill-records-end : tie.Need-part-fill-records-end Inv-loop μ-loop
 part-fill-records-end c = omega (arith, fits (c .before .before .loop .inv) (c .before .loop-test .taken) (c .before .before .before .before .before .pre .events) (c .before .before .before .before .before .pre .reads), c .word-at .ensures)
 
--- src/lib.rt:99:49
 add-fill-records : tie.Need-add-fill-records Inv-loop μ-loop
 add-fill-records c = omega (arith, fits (c .before .before .before .loop .inv) (c .before .before .loop-test .taken) (c .before .before .before .before .before .before .pre .events) (c .before .before .before .before .before .before .pre .reads), place (c .before .before .before .loop .inv), c .before .before .before .before .before .before .pre .within, c .before .word-at .ensures)
 
--- src/lib.rt:99:63
 add-fill-records-2 : tie.Need-add-fill-records-2 Inv-loop μ-loop
 add-fill-records-2 c = omega (arith, fits (c .before .before .before .before .loop .inv) (c .before .before .before .loop-test .taken) (c .before .before .before .before .before .before .before .pre .events) (c .before .before .before .before .before .before .before .pre .reads), place (c .before .before .before .before .loop .inv), c .before .before .before .before .before .before .before .pre .within, low (c .before .before .before .before .loop .inv) (c .before .before .before .before .before .before .before .pre .low))
 
--- src/lib.rt:99:71
 add-fill-records-3 : tie.Need-add-fill-records-3 Inv-loop μ-loop
 add-fill-records-3 c = omega (arith, fits (c .before .before .before .before .loop .inv) (c .before .before .before .loop-test .taken) (c .before .before .before .before .before .before .before .pre .events) (c .before .before .before .before .before .before .before .pre .reads), place (c .before .before .before .before .loop .inv), c .before .before .before .before .before .before .before .pre .within, low (c .before .before .before .before .loop .inv) (c .before .before .before .before .before .before .before .pre .low))
 
--- src/lib.rt:99:70
 cast-fill-records : tie.Need-cast-fill-records Inv-loop μ-loop
 cast-fill-records c = omega (arith, fits (c .before .before .before .before .loop .inv) (c .before .before .before .loop-test .taken) (c .before .before .before .before .before .before .before .pre .events) (c .before .before .before .before .before .before .before .pre .reads), place (c .before .before .before .before .loop .inv), c .before .before .before .before .before .before .before .pre .within, low (c .before .before .before .before .loop .inv) (c .before .before .before .before .before .before .before .pre .low))
 
--- src/lib.rt:99:13
 fill-records-requires : tie.Need-fill-records-requires Inv-loop μ-loop
 fill-records-requires c κs = fillable (c .before .before .before .before .loop .inv) (c .before .before .before .loop-test .taken) (c .before .before .before .before .before .before .before .pre .events) (c .before .before .before .before .before .before .before .pre .reads) (c .before .before .before .before .before .before .before .pre .fits) (c .before .before .before .before .before .before .before .pre .within) _ (c .before .before .word-at .ensures)
 
--- src/lib.rt:103:35
 cast-t12 : tie.Need-cast-t12 Inv-loop μ-loop
 cast-t12 c = omega (arith, fits (c .before .before .before .before .before .before .before .before .loop .inv) (c .before .before .before .before .before .before .before .loop-test .taken) (c .before .before .before .before .before .before .before .before .before .before .before .pre .events) (c .before .before .before .before .before .before .before .before .before .before .before .pre .reads), place (c .before .before .before .before .before .before .before .before .loop .inv), c .before .before .before .before .before .before .before .before .before .before .before .pre .within, c .before .before .before .before .before .before .word-at .ensures)
 
--- src/lib.rt:103:53
 cast-t24 : tie.Need-cast-t24 Inv-loop μ-loop
 cast-t24 c = omega (arith, fits (c .before .before .before .before .before .before .before .before .loop .inv) (c .before .before .before .before .before .before .before .loop-test .taken) (c .before .before .before .before .before .before .before .before .before .before .before .pre .events) (c .before .before .before .before .before .before .before .before .before .before .before .pre .reads), place (c .before .before .before .before .before .before .before .before .loop .inv), c .before .before .before .before .before .before .before .before .before .before .before .pre .within, c .before .before .before .before .before .before .word-at .ensures)
 
--- src/lib.rt:103:82
 word-at-requires-2 : tie.Need-word-at-requires-2 Inv-loop μ-loop
 word-at-requires-2 c κs = omega (arith, fits (c .before .before .before .before .before .before .before .before .loop .inv) (c .before .before .before .before .before .before .before .loop-test .taken) (c .before .before .before .before .before .before .before .before .before .before .before .pre .events) (c .before .before .before .before .before .before .before .before .before .before .before .pre .reads))
 
--- src/lib.rt:103:114
 sub-t10 : tie.Need-sub-t10 Inv-loop μ-loop
 sub-t10 c = let r = next-row (c .before .before .before .before .before .before .before .before .before .loop .inv) (c .before .before .before .before .before .before .before .before .loop-test .taken) (c .before .before .before .before .before .before .before .before .before .before .before .before .pre .events) (c .before .before .before .before .before .before .before .before .before .before .before .before .pre .reads) (c .before .before .before .before .before .before .before .before .before .before .before .before .pre .fits) (c .before .before .before .before .before .before .before .before .before .before .before .before .pre .within) _ (c .before .before .before .before .before .before .before .word-at .ensures) _ _ (c .before .before .before .before .fill-records .ensures) in omega (arith, r .0, r .1, fits (c .before .before .before .before .before .before .before .before .before .loop .inv) (c .before .before .before .before .before .before .before .before .loop-test .taken) (c .before .before .before .before .before .before .before .before .before .before .before .before .pre .events) (c .before .before .before .before .before .before .before .before .before .before .before .before .pre .reads), place (c .before .before .before .before .before .before .before .before .before .loop .inv), c .before .before .before .before .before .before .before .before .before .before .before .before .pre .within, low (c .before .before .before .before .before .before .before .before .before .loop .inv) (c .before .before .before .before .before .before .before .before .before .before .before .before .pre .low))
 
--- src/lib.rt:103:114
 sub-t20 : tie.Need-sub-t20 Inv-loop μ-loop
 sub-t20 c = let r = next-row (c .before .before .before .before .before .before .before .before .before .loop .inv) (c .before .before .before .before .before .before .before .before .loop-test .taken) (c .before .before .before .before .before .before .before .before .before .before .before .before .pre .events) (c .before .before .before .before .before .before .before .before .before .before .before .before .pre .reads) (c .before .before .before .before .before .before .before .before .before .before .before .before .pre .fits) (c .before .before .before .before .before .before .before .before .before .before .before .before .pre .within) _ (c .before .before .before .before .before .before .before .word-at .ensures) _ _ (c .before .before .before .before .fill-records .ensures) in omega (arith, r .0, r .1, fits (c .before .before .before .before .before .before .before .before .before .loop .inv) (c .before .before .before .before .before .before .before .before .loop-test .taken) (c .before .before .before .before .before .before .before .before .before .before .before .before .pre .events) (c .before .before .before .before .before .before .before .before .before .before .before .before .pre .reads), place (c .before .before .before .before .before .before .before .before .before .loop .inv), c .before .before .before .before .before .before .before .before .before .before .before .before .pre .within, low (c .before .before .before .before .before .before .before .before .before .loop .inv) (c .before .before .before .before .before .before .before .before .before .before .before .before .pre .low))
 
--- src/lib.rt:103:113
 cast-t27 : tie.Need-cast-t27 Inv-loop μ-loop
 cast-t27 c = let r = next-row (c .before .before .before .before .before .before .before .before .before .loop .inv) (c .before .before .before .before .before .before .before .before .loop-test .taken) (c .before .before .before .before .before .before .before .before .before .before .before .before .pre .events) (c .before .before .before .before .before .before .before .before .before .before .before .before .pre .reads) (c .before .before .before .before .before .before .before .before .before .before .before .before .pre .fits) (c .before .before .before .before .before .before .before .before .before .before .before .before .pre .within) _ (c .before .before .before .before .before .before .before .word-at .ensures) _ _ (c .before .before .before .before .fill-records .ensures) in omega (arith, r .0, r .1, fits (c .before .before .before .before .before .before .before .before .before .loop .inv) (c .before .before .before .before .before .before .before .before .loop-test .taken) (c .before .before .before .before .before .before .before .before .before .before .before .before .pre .events) (c .before .before .before .before .before .before .before .before .before .before .before .before .pre .reads), place (c .before .before .before .before .before .before .before .before .before .loop .inv), c .before .before .before .before .before .before .before .before .before .before .before .before .pre .within, low (c .before .before .before .before .before .before .before .before .before .loop .inv) (c .before .before .before .before .before .before .before .before .before .before .before .before .pre .low))
 
--- src/lib.rt:100:9
 put-row-requires : tie.Need-put-row-requires Inv-loop μ-loop
 put-row-requires c κs = let r = next-row (c .before .before .before .before .before .before .before .before .before .loop .inv) (c .before .before .before .before .before .before .before .before .loop-test .taken) (c .before .before .before .before .before .before .before .before .before .before .before .before .pre .events) (c .before .before .before .before .before .before .before .before .before .before .before .before .pre .reads) (c .before .before .before .before .before .before .before .before .before .before .before .before .pre .fits) (c .before .before .before .before .before .before .before .before .before .before .before .before .pre .within) _ (c .before .before .before .before .before .before .before .word-at .ensures) _ _ (c .before .before .before .before .fill-records .ensures) in let o = own-fits (c .before .before .before .before .before .before .before .before .before .loop .inv) (c .before .before .before .before .before .before .before .before .loop-test .taken) (c .before .before .before .before .before .before .before .before .before .before .before .before .pre .events) (c .before .before .before .before .before .before .before .before .before .before .before .before .pre .reads) (c .before .before .before .before .before .before .before .before .before .before .before .before .pre .fits) (c .before .before .before .before .before .before .before .before .before .before .before .before .pre .within) in omega (arith, r .2, o)
 
--- src/lib.rt:105:16
 sub-rest : tie.Need-sub-rest Inv-loop μ-loop
 sub-rest c = omega (arith, fits (c .before .before .before .before .before .before .before .before .before .before .before .before .loop .inv) (c .before .before .before .before .before .before .before .before .before .before .before .loop-test .taken) (c .before .before .before .before .before .before .before .before .before .before .before .before .before .before .before .pre .events) (c .before .before .before .before .before .before .before .before .before .before .before .before .before .before .before .pre .reads), c .before .before .before .before .before .before .before .before .before .before .word-at .ensures)
 
--- src/lib.rt:105:16
 part-rest-start : tie.Need-part-rest-start Inv-loop μ-loop
 part-rest-start c = omega (arith, fits (c .before .before .before .before .before .before .before .before .before .before .before .before .loop .inv) (c .before .before .before .before .before .before .before .before .before .before .before .loop-test .taken) (c .before .before .before .before .before .before .before .before .before .before .before .before .before .before .before .pre .events) (c .before .before .before .before .before .before .before .before .before .before .before .before .before .before .before .pre .reads), c .before .before .before .before .before .before .before .before .before .before .word-at .ensures)
 
--- src/lib.rt:105:16
 part-rest-end : tie.Need-part-rest-end Inv-loop μ-loop
 part-rest-end c = omega (arith, fits (c .before .before .before .before .before .before .before .before .before .before .before .before .loop .inv) (c .before .before .before .before .before .before .before .before .before .before .before .loop-test .taken) (c .before .before .before .before .before .before .before .before .before .before .before .before .before .before .before .pre .events) (c .before .before .before .before .before .before .before .before .before .before .before .before .before .before .before .pre .reads), c .before .before .before .before .before .before .before .before .before .before .word-at .ensures)
 
--- src/lib.rt:106:14
 add-at : tie.Need-add-at Inv-loop μ-loop
 add-at c = omega (arith, fits (c .before .before .before .before .before .before .before .before .before .before .before .before .before .loop .inv) (c .before .before .before .before .before .before .before .before .before .before .before .before .loop-test .taken) (c .before .before .before .before .before .before .before .before .before .before .before .before .before .before .before .before .pre .events) (c .before .before .before .before .before .before .before .before .before .before .before .before .before .before .before .before .pre .reads), place (c .before .before .before .before .before .before .before .before .before .before .before .before .before .loop .inv), c .before .before .before .before .before .before .before .before .before .before .before .before .before .before .before .before .pre .within, c .before .before .before .before .before .before .before .before .before .before .before .word-at .ensures)
 
--- src/lib.rt:97:5
 loop-less : tie.Need-loop-less Inv-loop μ-loop
 loop-less c = omega (arith, fits (c .before .before .before .before .before .before .before .before .before .before .before .before .before .loop .inv) (c .before .before .before .before .before .before .before .before .before .before .before .before .loop-test .taken) (c .before .before .before .before .before .before .before .before .before .before .before .before .before .before .before .before .pre .events) (c .before .before .before .before .before .before .before .before .before .before .before .before .before .before .before .before .pre .reads), c .before .before .before .before .before .before .before .before .before .before .before .word-at .ensures)
 
--- src/lib.rt:97:5
 loop-again : tie.Need-loop-again Inv-loop μ-loop
 loop-again c = next-event (c .before .before .before .before .before .before .before .before .before .before .before .before .before .loop .inv) (c .before .before .before .before .before .before .before .before .before .before .before .before .loop-test .taken) (c .before .before .before .before .before .before .before .before .before .before .before .before .before .before .before .before .pre .events) (c .before .before .before .before .before .before .before .before .before .before .before .before .before .before .before .before .pre .reads) (c .before .before .before .before .before .before .before .before .before .before .before .before .before .before .before .before .pre .fits) (c .before .before .before .before .before .before .before .before .before .before .before .before .before .before .before .before .pre .within) _ _ (c .before .before .before .before .word-at2 .ensures) (c .before .before .before .before .before .before .before .before .before .before .before .word-at .ensures) _ _ (c .before .before .before .before .before .before .before .before .fill-records .ensures) _ (c .before .before .before .put-row .ensures)
 
--- src/lib.rt:90:1
 same-length : tie.Need-same-length Inv-loop μ-loop
 same-length c = same-rows (c .before .loop .inv)
 
--- src/lib.rt:90:1
 returns : tie.Need-returns Inv-loop μ-loop
 returns c = λ es e. done (c .before .loop .inv) (c .loop-test .left) es e
 

@@ -23,87 +23,66 @@ Inv-loop part from rows₀ first parent rest₀ at₀ n₀ rows rest at n = (s :
 abbrev μ-loop : tie.MeasureT-loop
 μ-loop part from rows₀ first parent rest₀ at₀ n₀ rows rest at n = length rest
 
--- src/lib.rt:77:5
 loop-holds : tie.Need-loop-holds Inv-loop μ-loop
 loop-holds c = λ s rs e. begin s (c .before .before .args .from) (now (c .before .before .args .part)) (now (c .before .before .args .rows)) (c .before .before .args .first) (c .before .before .args .parent)
 
--- src/lib.rt:78:24
 word-at-requires : tie.Need-word-at-requires Inv-loop μ-loop
 word-at-requires c κs = omega (arith, fits (c .before .loop .inv (c .before .before .before .before .pre .context) (c .before .before .before .before .pre .records) (c .before .before .before .before .pre .reads)) (c .loop-test .taken) (c .before .before .before .before .pre .records) (c .before .before .before .before .pre .reads))
 
--- src/lib.rt:78:24
 cast-size : tie.Need-cast-size Inv-loop μ-loop
 cast-size c = search needs
 
--- src/lib.rt:78:20
 add-size : tie.Need-add-size Inv-loop μ-loop
 add-size c = omega (arith, fits (c .before .before .loop .inv (c .before .before .before .before .before .pre .context) (c .before .before .before .before .before .pre .records) (c .before .before .before .before .before .pre .reads)) (c .before .loop-test .taken) (c .before .before .before .before .before .pre .records) (c .before .before .before .before .before .pre .reads), place (c .before .before .loop .inv (c .before .before .before .before .before .pre .context) (c .before .before .before .before .before .pre .records) (c .before .before .before .before .before .pre .reads)), c .before .before .before .before .before .pre .within, c .word-at .ensures)
 
--- src/lib.rt:79:27
 word-at-requires-2 : tie.Need-word-at-requires-2 Inv-loop μ-loop
 word-at-requires-2 c κs = omega (arith, fits (c .before .before .loop .inv (c .before .before .before .before .before .pre .context) (c .before .before .before .before .before .pre .records) (c .before .before .before .before .before .pre .reads)) (c .before .loop-test .taken) (c .before .before .before .before .before .pre .records) (c .before .before .before .before .before .pre .reads))
 
--- src/lib.rt:79:45
 sub-values-in : tie.Need-sub-values-in Inv-loop μ-loop
 sub-values-in c = omega (arith, fits (c .before .before .before .loop .inv (c .before .before .before .before .before .before .pre .context) (c .before .before .before .before .before .before .pre .records) (c .before .before .before .before .before .before .pre .reads)) (c .before .before .loop-test .taken) (c .before .before .before .before .before .before .pre .records) (c .before .before .before .before .before .before .pre .reads), c .before .word-at .ensures)
 
--- src/lib.rt:79:45
 part-values-in-start : tie.Need-part-values-in-start Inv-loop μ-loop
 part-values-in-start c = omega (arith, fits (c .before .before .before .loop .inv (c .before .before .before .before .before .before .pre .context) (c .before .before .before .before .before .before .pre .records) (c .before .before .before .before .before .before .pre .reads)) (c .before .before .loop-test .taken) (c .before .before .before .before .before .before .pre .records) (c .before .before .before .before .before .before .pre .reads), c .before .word-at .ensures)
 
--- src/lib.rt:79:45
 part-values-in-end : tie.Need-part-values-in-end Inv-loop μ-loop
 part-values-in-end c = omega (arith, fits (c .before .before .before .loop .inv (c .before .before .before .before .before .before .pre .context) (c .before .before .before .before .before .before .pre .records) (c .before .before .before .before .before .before .pre .reads)) (c .before .before .loop-test .taken) (c .before .before .before .before .before .before .pre .records) (c .before .before .before .before .before .before .pre .reads), c .before .word-at .ensures)
 
--- src/lib.rt:79:13
 values-in-requires : tie.Need-values-in-requires Inv-loop μ-loop
 values-in-requires c κs = rw (c .before .word-at2 .ensures, c .before .before .word-at .ensures) (follows (c .before .before .before .before .loop .inv (c .before .before .before .before .before .before .before .pre .context) (c .before .before .before .before .before .before .before .pre .records) (c .before .before .before .before .before .before .before .pre .reads)) (c .before .before .before .loop-test .taken) (c .before .before .before .before .before .before .before .pre .records) (c .before .before .before .before .before .before .before .pre .reads), omega (arith, body-size (c .before .before .before .before .loop .inv (c .before .before .before .before .before .before .before .pre .context) (c .before .before .before .before .before .before .before .pre .records) (c .before .before .before .before .before .before .before .pre .reads)) (c .before .before .before .loop-test .taken) (c .before .before .before .before .before .before .before .pre .records) (c .before .before .before .before .before .before .before .pre .reads), fits (c .before .before .before .before .loop .inv (c .before .before .before .before .before .before .before .pre .context) (c .before .before .before .before .before .before .before .pre .records) (c .before .before .before .before .before .before .before .pre .reads)) (c .before .before .before .loop-test .taken) (c .before .before .before .before .before .before .before .pre .records) (c .before .before .before .before .before .before .before .pre .reads), place (c .before .before .before .before .loop .inv (c .before .before .before .before .before .before .before .pre .context) (c .before .before .before .before .before .before .before .pre .records) (c .before .before .before .before .before .before .before .pre .reads)), c .before .before .before .before .before .before .before .pre .within))
 
--- src/lib.rt:80:53
 cast-t13 : tie.Need-cast-t13 Inv-loop μ-loop
 cast-t13 c = omega (arith, fits (c .before .before .before .before .before .before .loop .inv (c .before .before .before .before .before .before .before .before .before .pre .context) (c .before .before .before .before .before .before .before .before .before .pre .records) (c .before .before .before .before .before .before .before .before .before .pre .reads)) (c .before .before .before .before .before .loop-test .taken) (c .before .before .before .before .before .before .before .before .before .pre .records) (c .before .before .before .before .before .before .before .before .before .pre .reads), place (c .before .before .before .before .before .before .loop .inv (c .before .before .before .before .before .before .before .before .before .pre .context) (c .before .before .before .before .before .before .before .before .before .pre .records) (c .before .before .before .before .before .before .before .before .before .pre .reads)), c .before .before .before .before .before .before .before .before .before .pre .within, c .before .before .before .before .word-at .ensures)
 
--- src/lib.rt:80:71
 cast-t20 : tie.Need-cast-t20 Inv-loop μ-loop
 cast-t20 c = omega (arith, fits (c .before .before .before .before .before .before .loop .inv (c .before .before .before .before .before .before .before .before .before .pre .context) (c .before .before .before .before .before .before .before .before .before .pre .records) (c .before .before .before .before .before .before .before .before .before .pre .reads)) (c .before .before .before .before .before .loop-test .taken) (c .before .before .before .before .before .before .before .before .before .pre .records) (c .before .before .before .before .before .before .before .before .before .pre .reads), place (c .before .before .before .before .before .before .loop .inv (c .before .before .before .before .before .before .before .before .before .pre .context) (c .before .before .before .before .before .before .before .before .before .pre .records) (c .before .before .before .before .before .before .before .before .before .pre .reads)), c .before .before .before .before .before .before .before .before .before .pre .within, c .before .before .before .before .word-at .ensures)
 
--- src/lib.rt:80:9
 put-row-requires : tie.Need-put-row-requires Inv-loop μ-loop
 put-row-requires c κs = row-fits (c .before .before .before .before .before .before .loop .inv (c .before .before .before .before .before .before .before .before .before .pre .context) (c .before .before .before .before .before .before .before .before .before .pre .records) (c .before .before .before .before .before .before .before .before .before .pre .reads)) (c .before .before .before .before .before .loop-test .taken) (c .before .before .before .before .before .before .before .before .before .pre .records) (c .before .before .before .before .before .before .before .before .before .pre .reads) (c .before .before .before .before .before .before .before .before .before .pre .fits)
 
--- src/lib.rt:81:16
 sub-rest : tie.Need-sub-rest Inv-loop μ-loop
 sub-rest c = omega (arith, fits (c .before .before .before .before .before .before .before .before .before .loop .inv (c .before .before .before .before .before .before .before .before .before .before .before .before .pre .context) (c .before .before .before .before .before .before .before .before .before .before .before .before .pre .records) (c .before .before .before .before .before .before .before .before .before .before .before .before .pre .reads)) (c .before .before .before .before .before .before .before .before .loop-test .taken) (c .before .before .before .before .before .before .before .before .before .before .before .before .pre .records) (c .before .before .before .before .before .before .before .before .before .before .before .before .pre .reads), c .before .before .before .before .before .before .before .word-at .ensures)
 
--- src/lib.rt:81:16
 part-rest-start : tie.Need-part-rest-start Inv-loop μ-loop
 part-rest-start c = omega (arith, fits (c .before .before .before .before .before .before .before .before .before .loop .inv (c .before .before .before .before .before .before .before .before .before .before .before .before .pre .context) (c .before .before .before .before .before .before .before .before .before .before .before .before .pre .records) (c .before .before .before .before .before .before .before .before .before .before .before .before .pre .reads)) (c .before .before .before .before .before .before .before .before .loop-test .taken) (c .before .before .before .before .before .before .before .before .before .before .before .before .pre .records) (c .before .before .before .before .before .before .before .before .before .before .before .before .pre .reads), c .before .before .before .before .before .before .before .word-at .ensures)
 
--- src/lib.rt:81:16
 part-rest-end : tie.Need-part-rest-end Inv-loop μ-loop
 part-rest-end c = omega (arith, fits (c .before .before .before .before .before .before .before .before .before .loop .inv (c .before .before .before .before .before .before .before .before .before .before .before .before .pre .context) (c .before .before .before .before .before .before .before .before .before .before .before .before .pre .records) (c .before .before .before .before .before .before .before .before .before .before .before .before .pre .reads)) (c .before .before .before .before .before .before .before .before .loop-test .taken) (c .before .before .before .before .before .before .before .before .before .before .before .before .pre .records) (c .before .before .before .before .before .before .before .before .before .before .before .before .pre .reads), c .before .before .before .before .before .before .before .word-at .ensures)
 
--- src/lib.rt:82:14
 add-at : tie.Need-add-at Inv-loop μ-loop
 add-at c = omega (arith, fits (c .before .before .before .before .before .before .before .before .before .before .loop .inv (c .before .before .before .before .before .before .before .before .before .before .before .before .before .pre .context) (c .before .before .before .before .before .before .before .before .before .before .before .before .before .pre .records) (c .before .before .before .before .before .before .before .before .before .before .before .before .before .pre .reads)) (c .before .before .before .before .before .before .before .before .before .loop-test .taken) (c .before .before .before .before .before .before .before .before .before .before .before .before .before .pre .records) (c .before .before .before .before .before .before .before .before .before .before .before .before .before .pre .reads), place (c .before .before .before .before .before .before .before .before .before .before .loop .inv (c .before .before .before .before .before .before .before .before .before .before .before .before .before .pre .context) (c .before .before .before .before .before .before .before .before .before .before .before .before .before .pre .records) (c .before .before .before .before .before .before .before .before .before .before .before .before .before .pre .reads)), c .before .before .before .before .before .before .before .before .before .before .before .before .before .pre .within, c .before .before .before .before .before .before .before .before .word-at .ensures)
 
--- src/lib.rt:83:13
 add-n : tie.Need-add-n Inv-loop μ-loop
 add-n c = let r = row-fits (c .before .before .before .before .before .before .before .before .before .before .loop .inv (c .before .before .before .before .before .before .before .before .before .before .before .before .before .pre .context) (c .before .before .before .before .before .before .before .before .before .before .before .before .before .pre .records) (c .before .before .before .before .before .before .before .before .before .before .before .before .before .pre .reads)) (c .before .before .before .before .before .before .before .before .before .loop-test .taken) (c .before .before .before .before .before .before .before .before .before .before .before .before .before .pre .records) (c .before .before .before .before .before .before .before .before .before .before .before .before .before .pre .reads) (c .before .before .before .before .before .before .before .before .before .before .before .before .before .pre .fits) in omega (arith, r, same-rows (c .before .before .before .before .before .before .before .before .before .before .loop .inv (c .before .before .before .before .before .before .before .before .before .before .before .before .before .pre .context) (c .before .before .before .before .before .before .before .before .before .before .before .before .before .pre .records) (c .before .before .before .before .before .before .before .before .before .before .before .before .before .pre .reads)), c .before .before .before .before .before .before .before .before .before .before .before .before .before .good)
 
--- src/lib.rt:77:5
 loop-less : tie.Need-loop-less Inv-loop μ-loop
 loop-less c = omega (arith, fits (c .before .before .before .before .before .before .before .before .before .before .loop .inv (c .before .before .before .before .before .before .before .before .before .before .before .before .before .pre .context) (c .before .before .before .before .before .before .before .before .before .before .before .before .before .pre .records) (c .before .before .before .before .before .before .before .before .before .before .before .before .before .pre .reads)) (c .before .before .before .before .before .before .before .before .before .loop-test .taken) (c .before .before .before .before .before .before .before .before .before .before .before .before .before .pre .records) (c .before .before .before .before .before .before .before .before .before .before .before .before .before .pre .reads), c .before .before .before .before .before .before .before .before .word-at .ensures)
 
--- src/lib.rt:77:5
 loop-again : tie.Need-loop-again Inv-loop μ-loop
 loop-again c = λ s rs e. next (c .before .before .before .before .before .before .before .before .before .before .loop .inv s rs e) (c .before .before .before .before .before .before .before .before .before .loop-test .taken) rs e _ _ (c .before .before .before .before .before .before .before .word-at2 .ensures) (c .before .before .before .before .before .before .before .before .word-at .ensures) _ (c .before .before .before .before .before .values-in .ensures) _ (c .before .before .before .put-row .ensures)
 
--- src/lib.rt:70:1
 same-length : tie.Need-same-length Inv-loop μ-loop
 same-length c = same-rows (c .before .loop .inv (c .before .before .before .before .pre .context) (c .before .before .before .before .pre .records) (c .before .before .before .before .pre .reads))
 
--- src/lib.rt:70:1
 returns : tie.Need-returns Inv-loop μ-loop
 returns c = λ s rs e. done (c .before .loop .inv s rs e) (c .loop-test .left) rs e
 

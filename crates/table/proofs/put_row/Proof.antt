@@ -12,83 +12,63 @@ use Rattle.table.proofs.put_row.Tie as tie
 use Rattle.table.proofs.put_row.Reads as reads
 use Rattle.table.proofs.put_row.Lts as lts
 
--- src/lib.rt:28:13
 mul-i : tie.Need-mul-i
 mul-i c = search needs
 
--- src/lib.rt:29:5
 mul-rows : tie.Need-mul-rows
 mul-rows c = search needs
 
--- src/lib.rt:29:5
 slice-write-rows : tie.Need-slice-write-rows
 slice-write-rows c = search needs
 
--- src/lib.rt:30:10
 add-rows : tie.Need-add-rows
 add-rows c = search needs
 
--- src/lib.rt:30:5
 mul-rows-2 : tie.Need-mul-rows-2
 mul-rows-2 c = search needs
 
--- src/lib.rt:30:5
 slice-write-rows-2 : tie.Need-slice-write-rows-2
 slice-write-rows-2 c = simp length-set (omega arith)
 
--- src/lib.rt:31:10
 add-rows-2 : tie.Need-add-rows-2
 add-rows-2 c = search needs
 
--- src/lib.rt:31:5
 mul-rows-3 : tie.Need-mul-rows-3
 mul-rows-3 c = search needs
 
--- src/lib.rt:31:5
 slice-write-rows-3 : tie.Need-slice-write-rows-3
 slice-write-rows-3 c = simp length-set (omega arith)
 
--- src/lib.rt:32:10
 add-rows-3 : tie.Need-add-rows-3
 add-rows-3 c = search needs
 
--- src/lib.rt:32:5
 mul-rows-4 : tie.Need-mul-rows-4
 mul-rows-4 c = search needs
 
--- src/lib.rt:32:5
 slice-write-rows-4 : tie.Need-slice-write-rows-4
 slice-write-rows-4 c = simp length-set (omega arith)
 
--- src/lib.rt:33:10
 add-rows-4 : tie.Need-add-rows-4
 add-rows-4 c = search needs
 
--- src/lib.rt:33:5
 mul-rows-5 : tie.Need-mul-rows-5
 mul-rows-5 c = search needs
 
--- src/lib.rt:33:5
 slice-write-rows-5 : tie.Need-slice-write-rows-5
 slice-write-rows-5 c = simp length-set (omega arith)
 
--- src/lib.rt:34:10
 add-rows-5 : tie.Need-add-rows-5
 add-rows-5 c = search needs
 
--- src/lib.rt:34:5
 mul-rows-6 : tie.Need-mul-rows-6
 mul-rows-6 c = search needs
 
--- src/lib.rt:34:5
 slice-write-rows-6 : tie.Need-slice-write-rows-6
 slice-write-rows-6 c = simp length-set (omega arith)
 
--- src/lib.rt:24:1
 same-length : tie.Need-same-length
 same-length c = search needs
 
--- src/lib.rt:24:1
 returns : tie.Need-returns
 unfolding stored flat rowOf
 returns c =

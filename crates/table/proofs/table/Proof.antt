@@ -10,35 +10,27 @@ use Rattle.table.proofs.table.Lts as lts
 use Rattle.containers.proofs.check.Reads as check-reads
 use Rattle.table.proofs.fill.Reads as fill-reads
 
--- src/lib.rt:130:11
 check-requires : tie.Need-check-requires
 check-requires c κs = search needs
 
--- src/lib.rt:131:22
 enum-known-number : tie.Need-enum-known-number
 enum-known-number c = search needs
 
--- src/lib.rt:132:23
 enum-known-count : tie.Need-enum-known-count
 enum-known-count c = search needs
 
--- src/lib.rt:134:17
 returns : tie.Need-returns
 returns c = too-few (now (c .before .before .before .before .before .before .before .args .file)) (now (c .before .before .before .before .before .before .before .args .rows)) _ (sym (c .before .before .count .given .1) ∙ c .before .before .before .before .check .ensures) (c .if1 .taken)
 
--- src/lib.rt:136:13
 fill-requires : tie.Need-fill-requires
 fill-requires c κs = fillable (now (c .before .before .before .before .before .before .before .before .args .file)) (now (c .before .before .before .before .before .before .before .before .args .rows)) _ (sym (c .before .before .before .count .given .1) ∙ c .before .before .before .before .before .check .ensures) (c .before .if1 .left)
 
--- src/lib.rt:126:1
 returns-2 : tie.Need-returns-2
 returns-2 c = refused (now (c .before .before .before .before .before .before .args .file)) (now (c .before .before .before .before .before .before .args .rows)) _ _ (sym (c .before .number .given .1) ∙ c .before .before .before .check .ensures)
 
--- src/lib.rt:126:1
 same-length : tie.Need-same-length
 same-length c = search needs
 
--- src/lib.rt:126:1
 returns-3 : tie.Need-returns-3
 returns-3 c = filled (now (c .before .before .before .before .before .before .before .before .before .before .before .args .file)) (now (c .before .before .before .before .before .before .before .before .before .before .before .args .rows)) _ (sym (c .before .before .before .before .before .before .count .given .1) ∙ c .before .before .before .before .before .before .before .before .check .ensures) (c .before .before .before .before .if1 .left) _ (c .before .before .fill .ensures)
 

@@ -10,39 +10,30 @@ use Rattle.words.proofs.word_at.Reads as reads
 use Rattle.words.proofs.word_at.Lts as lts
 use Rattle.words.proofs.join.Reads as join-reads
 
--- src/lib.rt:18:10
 shared-slice-read-join : tie.Need-shared-slice-read-join
 shared-slice-read-join c = search needs
 
--- src/lib.rt:18:19
 add-join : tie.Need-add-join
 add-join c = search needs
 
--- src/lib.rt:18:17
 shared-slice-read-join-2 : tie.Need-shared-slice-read-join-2
 shared-slice-read-join-2 c = search needs
 
--- src/lib.rt:18:30
 add-join-2 : tie.Need-add-join-2
 add-join-2 c = search needs
 
--- src/lib.rt:18:28
 shared-slice-read-join-3 : tie.Need-shared-slice-read-join-3
 shared-slice-read-join-3 c = search needs
 
--- src/lib.rt:18:41
 add-join-3 : tie.Need-add-join-3
 add-join-3 c = search needs
 
--- src/lib.rt:18:39
 shared-slice-read-join-4 : tie.Need-shared-slice-read-join-4
 shared-slice-read-join-4 c = search needs
 
--- src/lib.rt:18:5
 join-requires : tie.Need-join-requires
 join-requires c κs = search needs
 
--- src/lib.rt:14:1
 returns : tie.Need-returns
 unfolding wordAt
 returns c =

@@ -4,11 +4,11 @@ use mathlib.Core.Path.{_≡_, refl}
 use lib.ListN.{length}
 use native.Mathlib.Omega.{arith}
 use borrow.Author.Needs.{needs}
-use Rattle.listing.proofs.print_rows.Statement.{statement}
-use Rattle.listing.proofs.print_rows.Tie as tie
-use Rattle.listing.proofs.print_rows.Reads as reads
-use Rattle.listing.proofs.print_rows.Lts as lts
-use Rattle.listing.proofs.print_row.Reads as print-row-reads
+use Rattle.lines.proofs.print_rows.Statement.{statement}
+use Rattle.lines.proofs.print_rows.Tie as tie
+use Rattle.lines.proofs.print_rows.Reads as reads
+use Rattle.lines.proofs.print_rows.Lts as lts
+use Rattle.lines.proofs.print_row.Reads as print-row-reads
 
 abbrev Inv-loop : tie.InvT-loop
 Inv-loop rows count held i₀ i = (i ≤ held) × (held ≡ length rows / 6)
@@ -16,27 +16,21 @@ Inv-loop rows count held i₀ i = (i ≤ held) × (held ≡ length rows / 6)
 abbrev μ-loop : tie.MeasureT-loop
 μ-loop rows count held i₀ i = held - i
 
--- src/main.rt:49:5
 loop-holds : tie.Need-loop-holds Inv-loop μ-loop
 loop-holds c = search needs
 
--- src/main.rt:51:13
 print-row-requires : tie.Need-print-row-requires Inv-loop μ-loop
 print-row-requires c κs = search needs
 
--- src/main.rt:53:13
 add-i : tie.Need-add-i Inv-loop μ-loop
 add-i c = search needs
 
--- src/main.rt:49:5
 loop-less : tie.Need-loop-less Inv-loop μ-loop
 loop-less c = search needs
 
--- src/main.rt:49:5
 loop-again : tie.Need-loop-again Inv-loop μ-loop
 loop-again c = search needs
 
--- src/main.rt:46:1
 returns : tie.Need-returns Inv-loop μ-loop
 returns c = search needs
 

@@ -2,12 +2,12 @@
 use Prim.Native.Nat.{_-_, _≤_}
 use native.Mathlib.Omega.{arith}
 use borrow.Author.Needs.{needs}
-use Rattle.listing.proofs.print_row.Statement.{statement}
-use Rattle.listing.proofs.print_row.Tie as tie
-use Rattle.listing.proofs.print_row.Reads as reads
-use Rattle.listing.proofs.print_row.Lts as lts
-use Rattle.listing.proofs.print.Reads as print-reads
-use Rattle.listing.proofs.wide.Reads as wide-reads
+use Rattle.lines.proofs.print_row.Statement.{statement}
+use Rattle.lines.proofs.print_row.Tie as tie
+use Rattle.lines.proofs.print_row.Reads as reads
+use Rattle.lines.proofs.print_row.Lts as lts
+use Rattle.lines.proofs.print.Reads as print-reads
+use Rattle.lines.proofs.wide.Reads as wide-reads
 
 abbrev Inv-loop : tie.InvT-loop
 Inv-loop rows i j₀ j = j ≤ 6
@@ -15,55 +15,42 @@ Inv-loop rows i j₀ j = j ≤ 6
 abbrev μ-loop : tie.MeasureT-loop
 μ-loop rows i j₀ j = 6 - j
 
--- src/main.rt:37:11
 add-print : tie.Need-add-print Inv-loop μ-loop
 add-print c = search needs
 
--- src/main.rt:37:5
 print-requires : tie.Need-print-requires Inv-loop μ-loop
 print-requires c κs = search needs
 
--- src/main.rt:39:5
 loop-holds : tie.Need-loop-holds Inv-loop μ-loop
 loop-holds c = search needs
 
--- src/main.rt:40:25
 mul-wide : tie.Need-mul-wide Inv-loop μ-loop
 mul-wide c = search needs
 
--- src/main.rt:40:25
 add-wide : tie.Need-add-wide Inv-loop μ-loop
 add-wide c = search needs
 
--- src/main.rt:40:20
 mul-wide-2 : tie.Need-mul-wide-2 Inv-loop μ-loop
 mul-wide-2 c = search needs
 
--- src/main.rt:40:20
 shared-slice-read-wide : tie.Need-shared-slice-read-wide Inv-loop μ-loop
 shared-slice-read-wide c = search needs
 
--- src/main.rt:40:15
 wide-requires : tie.Need-wide-requires Inv-loop μ-loop
 wide-requires c κs = search needs
 
--- src/main.rt:40:9
 print-requires-2 : tie.Need-print-requires-2 Inv-loop μ-loop
 print-requires-2 c κs = search needs
 
--- src/main.rt:41:13
 add-j : tie.Need-add-j Inv-loop μ-loop
 add-j c = search needs
 
--- src/main.rt:39:5
 loop-less : tie.Need-loop-less Inv-loop μ-loop
 loop-less c = search needs
 
--- src/main.rt:39:5
 loop-again : tie.Need-loop-again Inv-loop μ-loop
 loop-again c = search needs
 
--- src/main.rt:34:1
 returns : tie.Need-returns Inv-loop μ-loop
 returns c = search needs
 
