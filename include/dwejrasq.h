@@ -12,7 +12,7 @@
  *    8  an event of type 7
  *    9  an event of length 0, a first record that is not administrative, or a kind repeated
  *   10  a field is outside its rule
- *   11  a trace's count is odd, below 2 or above 32,768, or its two counts differ
+ *   11  a trace's count is odd, below 2 or above 32,768, or its two counts differ; a sample's number is out of range
  *   12  the rows do not fit what was lent
  *
  * What a caller must see to, since C cannot check it:
@@ -63,6 +63,16 @@ uint32_t dwj_record(const uint8_t *file, size_t file_length, size_t place, int64
  *    4  charge: whole = 4, code, tower, bias, RTF offset, delta t, t0, trace length; units = gain, 0, 0, 0
  */
 uint32_t dwj_setting(const uint8_t *file, size_t file_length, size_t place, int64_t whole[8], double units[4], uint64_t *refused_at);
+
+/* Samples: of the trace at a place, the part of the file that holds its samples: *size bytes from *offset on. Both are 0 where Record
+ * finds no trace there.
+ */
+void dwj_samples(const uint8_t *file, size_t file_length, size_t place, uint64_t *offset, uint64_t *size);
+
+/* Sample: of the trace at a place, the sample with a number, from 1. Record's refusals; then, at the place asked, 5 for another kind and
+ * 11 for a number out of range. On a refusal *value is unchanged, on 0 *refused_at is.
+ */
+uint32_t dwj_sample(const uint8_t *file, size_t file_length, size_t place, size_t number, uint32_t *value, uint64_t *refused_at);
 
 /* Channel: of a detector code. numbers = type, detector number, length of the analysis name, length of the cold name; the names are
  * ASCII, with zeros up to four bytes and without an end mark. 10 where the code names no listed channel; all unchanged then.

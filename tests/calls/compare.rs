@@ -10,7 +10,7 @@ use super::answers;
 use super::files::likely_start;
 use super::interface;
 use super::random::Random;
-use super::reader::{table, table_within, Table};
+use super::reader::{self, table, table_within, Table};
 use super::tally::Tally;
 
 /// A call whose two answers differ.
@@ -199,12 +199,14 @@ impl Comparison {
         for row in &expected.rows {
             let place = row[1] as usize;
             self.record(file, place)?;
+            self.samples(file, place)?;
             if row[0] == 3 || row[0] == 4 || self.random.once_in(3) {
                 self.setting(file, place)?;
             }
         }
         for place in self.places(file.copy, &expected) {
             self.record(file, place)?;
+            self.samples(file, place)?;
             if self.random.once_in(2) {
                 self.setting(file, place)?;
             }
@@ -342,6 +344,51 @@ impl Comparison {
         if left.number == 0 {
             self.tally.record.kinds[left.values[MARGIN] as usize] += 1;
         }
+        Ok(())
+    }
+
+    // Samples at a place, and some of them by number: around the first and the last, between, far off.
+    fn samples(&mut self, file: File, place: usize) -> Result<(), Difference> {
+        let pattern = self.random.draw();
+        let expected = reader::samples(file.copy, place as u64);
+        let (mut offset, mut size) = (pattern, !pattern);
+        interface::samples(file.lent, place, &mut offset, &mut size);
+        alike(&expected, &(offset, size), || {
+            format!("dwj_samples at {place}: offset, size")
+        })?;
+        self.tally.samples[usize::from(size == 0)] += 1;
+        let n = size / 2;
+        let numbers = [
+            self.random.below(3),
+            n + self.random.below(3),
+            self.random.below(n + 1),
+            self.random.pick(&FAR_PLACES),
+        ];
+        let some = if size == 0 { 1 } else { numbers.len() };
+        for number in &numbers[..some] {
+            self.sample(file, place, *number as usize)?;
+        }
+        Ok(())
+    }
+
+    // A sample by number: its answer, the value, the place of a refusal.
+    fn sample(&mut self, file: File, place: usize, number: usize) -> Result<(), Difference> {
+        let pattern = self.random.draw();
+        let before = (0, pattern as u32, !pattern);
+        let mut expected = before;
+        match reader::sample(file.copy, place as u64, number as u64) {
+            Ok(value) => expected.1 = u32::from(value),
+            Err((number, at)) => {
+                expected.0 = number;
+                expected.2 = at;
+            }
+        }
+        let mut left = before;
+        left.0 = interface::sample(file.lent, place, number, &mut left.1, &mut left.2);
+        alike(&expected, &left, || {
+            format!("dwj_sample {number} at {place}: number, value, refused_at")
+        })?;
+        self.tally.sample.numbers[left.0 as usize] += 1;
         Ok(())
     }
 

@@ -25,6 +25,21 @@ extern "C" {
         units: *mut f64,
         refused_at: *mut u64,
     ) -> u32;
+    fn dwj_samples(
+        file: *const u8,
+        file_length: usize,
+        place: usize,
+        offset: *mut u64,
+        size: *mut u64,
+    );
+    fn dwj_sample(
+        file: *const u8,
+        file_length: usize,
+        place: usize,
+        number: usize,
+        value: *mut u32,
+        refused_at: *mut u64,
+    ) -> u32;
     fn dwj_channel(code: u32, numbers: *mut u32, analysis: *mut u8, cold: *mut u8) -> u32;
     fn dwj_code(
         detector_type: u32,
@@ -82,6 +97,22 @@ pub fn setting(
             refused_at,
         )
     }
+}
+
+/// Samples: where they start in the file and how many bytes they are.
+pub fn samples(file: &[u8], place: usize, offset: &mut u64, size: &mut u64) {
+    unsafe { dwj_samples(file.as_ptr(), file.len(), place, offset, size) }
+}
+
+/// Sample: 0 with the value, or a refusal's number with its place.
+pub fn sample(
+    file: &[u8],
+    place: usize,
+    number: usize,
+    value: &mut u32,
+    refused_at: &mut u64,
+) -> u32 {
+    unsafe { dwj_sample(file.as_ptr(), file.len(), place, number, value, refused_at) }
 }
 
 /// A code's type, number and lengths of its names, and the names; or 10.

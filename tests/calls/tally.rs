@@ -55,6 +55,8 @@ pub struct Tally {
     pub table: Answers,
     pub record: Answers,
     pub setting: Answers,
+    pub sample: Answers,
+    pub samples: [u64; 2],
     pub channel: [u64; 2],
     pub code: [u64; 2],
     pub zip: [u64; 2],
@@ -63,30 +65,31 @@ pub struct Tally {
 impl Tally {
     /// How many calls were compared.
     pub fn calls(&self) -> u64 {
-        let by_number = [&self.table, &self.record, &self.setting];
+        let by_number = [&self.table, &self.record, &self.setting, &self.sample];
         let large: u64 = by_number.iter().flat_map(|call| call.numbers).sum();
-        let small = [self.channel, self.code, self.zip];
+        let small = [self.samples, self.channel, self.code, self.zip];
         large + small.iter().flatten().sum::<u64>()
     }
 
     /// The counts as lines of text.
     pub fn lines(&self) -> String {
         let mut text = format!(
-            "{:>32}{:>12}{:>12}{:>12}\n",
-            "", "Table", "Record", "Setting"
+            "{:>32}{:>12}{:>12}{:>12}{:>12}\n",
+            "", "Table", "Record", "Setting", "Sample"
         );
+        let by_number = [&self.table, &self.record, &self.setting, &self.sample];
         for (number, name) in NUMBER_NAMES.iter().enumerate() {
-            let times = [&self.table, &self.record, &self.setting].map(|call| call.numbers[number]);
+            let times = by_number.map(|call| call.numbers[number]);
             text.push_str(&line("number", number, name, times));
         }
         for (kind, name) in KIND_NAMES.iter().enumerate().skip(1) {
-            let times = [&self.table, &self.record, &self.setting].map(|call| call.kinds[kind]);
+            let times = by_number.map(|call| call.kinds[kind]);
             text.push_str(&line("kind", kind, name, times));
         }
         let _ = writeln!(
             text,
-            "channels {} given, {} refused; codes {} given, {} refused; ZIPs {} set, {} not",
-            self.channel[0], self.channel[1], self.code[0], self.code[1], self.zip[0], self.zip[1]
+            "samples {} times, none {} times; channels {} given, {} refused; codes {} given, {} refused; ZIPs {} set, {} not",
+            self.samples[0], self.samples[1], self.channel[0], self.channel[1], self.code[0], self.code[1], self.zip[0], self.zip[1]
         );
         text
     }
@@ -98,6 +101,7 @@ impl Tally {
             ("Table", &self.table),
             ("Record", &self.record),
             ("Setting", &self.setting),
+            ("Sample", &self.sample),
         ];
         for (call, answers) in calls {
             for (number, times) in answers.numbers.iter().enumerate() {
@@ -111,7 +115,8 @@ impl Tally {
                 let can = match call {
                     "Table" => true,
                     "Record" => RECORD_KINDS.contains(&kind),
-                    _ => ENTRY_KINDS.contains(&kind),
+                    "Setting" => ENTRY_KINDS.contains(&kind),
+                    _ => false,
                 };
                 if can && *times < LEAST {
                     found.push(format!("{call} gave kind {kind} {times} times"));
@@ -119,6 +124,7 @@ impl Tally {
             }
         }
         for (call, times) in [
+            ("samples", self.samples),
             ("channel", self.channel),
             ("code", self.code),
             ("ZIP", self.zip),
@@ -135,9 +141,9 @@ impl Tally {
 }
 
 // One line of counts, a call to a column.
-fn line(what: &str, number: usize, name: &str, times: [u64; 3]) -> String {
+fn line(what: &str, number: usize, name: &str, times: [u64; 4]) -> String {
     format!(
-        "{what:<7}{number:>2} {name:<22}{:>12}{:>12}{:>12}\n",
-        times[0], times[1], times[2]
+        "{what:<7}{number:>2} {name:<22}{:>12}{:>12}{:>12}{:>12}\n",
+        times[0], times[1], times[2], times[3]
     )
 }

@@ -5,4 +5,6 @@ pub use answers::setting;
 pub use channels::channel;
 pub use channels::code;
 pub use fields::zip;
+pub use samples::sample;
+pub use samples::samples;
 pub use table::table;

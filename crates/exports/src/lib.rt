@@ -1,6 +1,7 @@
 // Every public call for C: numbers and lent buffers alone. include/dwejrasq.h documents each.
 use note::CodeAnswer;
 use note::RecordAnswer;
+use note::SampleAnswer;
 use note::SettingAnswer;
 ghost use mathlib.Core.Path.{_≡_};
 ghost use mathlib.Core.Bool.{cond};
@@ -8,7 +9,7 @@ ghost use mathlib.Core.List.{[], _∷_};
 ghost use lib.Dec.{eqb};
 ghost use lib.IntN.{pos};
 ghost use lib.ListN.{length};
-ghost use Rattle.note.specs.Calls.{recordAt, settingAt};
+ghost use Rattle.note.specs.Calls.{recordAt, settingAt, samplesPart, sampleAt};
 ghost use Rattle.note.specs.Channels.{channelAnswer, codeAnswer};
 ghost use Rattle.note.specs.Rows.{tableAnswer, tableBuffer};
 ghost use Rattle.note.specs.Tlb.{zipSet};
@@ -317,6 +318,49 @@ pub extern "C" fn dwj_setting(
         SettingAnswer::Refused { number, place: at } => {
             *refusal = at as u64;
             number
+        }
+    }
+}
+
+/// Samples: where the samples of the trace at a place stand in the file, and how many bytes they are; both 0 where Record finds none.
+#[no_mangle]
+pub extern "C" fn dwj_samples(file: &[u8], place: usize, offset: &mut u64, size: &mut u64)
+    ensures offset { λ _. ⌜ now (offset .exit) ≡ samplesPart (now (file .entry)) place .0 ⌝ }
+    ensures size { λ _. ⌜ now (size .exit) ≡ samplesPart (now (file .entry)) place .1 ⌝ }
+{
+    let n = dwejrasq::samples(file, place).len();
+    *size = n as u64;
+    if n == 0 {
+        *offset = 0;
+        return;
+    }
+    *offset = (place + 56) as u64;
+}
+
+/// Sample: a sample by number; on a refusal the place alone.
+#[no_mangle]
+pub extern "C" fn dwj_sample(
+    file: &[u8],
+    place: usize,
+    number: usize,
+    value: &mut u32,
+    refusal: &mut u64,
+) -> u32
+    ensures number { λ r. ⌜ r ≡ numberOf (sampleAt (now (file .entry)) place number) ⌝ }
+    ensures value { λ _. ⌜ pos (now (value .exit)) ∷ [] ≡ wholesAfter 1 (pos (now (value .entry)) ∷ []) (sampleAt (now (file .entry)) place number) ⌝ }
+    ensures refusal { λ _. ⌜ now (refusal .exit) ≡ placeAfter (now (refusal .entry)) (sampleAt (now (file .entry)) place number) ⌝ }
+{
+    match dwejrasq::sample(file, place, number) {
+        SampleAnswer::Sample { value: found } => {
+            *value = found as u32;
+            0
+        }
+        SampleAnswer::Refused {
+            number: why,
+            place: at,
+        } => {
+            *refusal = at as u64;
+            why
         }
     }
 }

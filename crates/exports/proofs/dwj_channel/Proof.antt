@@ -1,5 +1,5 @@
-use borrow.Author.Tests.{ne-eqb}
 -- Where the number is 0 the four numbers and the names go over, and otherwise nothing is stored.
+use borrow.Author.Tests.{ne-eqb}
 use mathlib.Core.Bool.{cond}
 use borrow.Author.Needs.{needs}
 use Rattle.exports.proofs.dwj_channel.Statement.{statement}

@@ -1,5 +1,5 @@
-use Rattle.exports.specs.Lent.{numberOf, wholesIn, wholesAfter}
 -- The answer's case is the definition's, and each lent number follows it.
+use Rattle.exports.specs.Lent.{numberOf, wholesIn, wholesAfter}
 use Rattle.note.specs.Answers.{givenCode}
 use borrow.Author.Needs.{needs}
 use Rattle.exports.proofs.dwj_code.Statement.{statement}

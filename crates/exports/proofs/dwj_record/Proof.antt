@@ -1,9 +1,9 @@
+-- The answer's case is the definition's; each field is the same number in 64 bits.
 use mir.Syntax.{w32}
 use mir.Val.{ofZ}
 use Rattle.note.specs.Answers.{givenRecord}
 use Rattle.exports.specs.Lent.{numberOf, placeAfter, wholesIn, wholesAfter}
 use Rattle.exports.proofs.WideLaws.{widened, kept, counted}
--- The answer's case is the definition's; each field is the same number in 64 bits.
 use borrow.Author.Needs.{needs}
 use Rattle.exports.proofs.dwj_record.Statement.{statement}
 use Rattle.exports.proofs.dwj_record.Tie as tie

@@ -1,9 +1,9 @@
+-- The answer's case is the definition's; each whole word is the same number in 64 bits, and each float goes over as it is.
 use mir.Syntax.{w32}
 use mir.Val.{ofZ}
 use Rattle.note.specs.Answers.{givenSetting}
 use Rattle.exports.specs.Lent.{numberOf, placeAfter, wholesIn, wholesAfter, floatsIn, floatsAfter}
 use Rattle.exports.proofs.WideLaws.{widened, kept}
--- The answer's case is the definition's; each whole word is the same number in 64 bits, and each float goes over as it is.
 use borrow.Author.Needs.{needs}
 use Rattle.exports.proofs.dwj_setting.Statement.{statement}
 use Rattle.exports.proofs.dwj_setting.Tie as tie

@@ -1,8 +1,8 @@
+-- At each kind word the definition's kind computes to that kind; in the default it is none.
 use mathlib.Core.Path.{sym, ap}
 use denote.Ref.{now}
 use Rattle.note.specs.Kinds.{Kind}
 use Rattle.note.proofs.KindCases.{no-kind}
--- At each kind word the definition's kind computes to that kind; in the default it is none.
 use Rattle.note.specs.Records.{kindOf}
 use borrow.Author.Needs.{needs}
 use Rattle.rules.proofs.rule.Statement.{statement}

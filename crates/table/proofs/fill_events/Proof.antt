@@ -1,5 +1,5 @@
-use Rattle.table.proofs.EventFillLaws.{low}
 -- The loop's laws answer each need: the event that stands next was read, its records' rows and then its own are stored.
+use Rattle.table.proofs.EventFillLaws.{low}
 use mathlib.Core.Path.{_≡_, sym, ap, _∙_}
 use Prim.Native.Nat.{_+_, _*_, _≤_}
 use native.Mathlib.Omega.{arith}

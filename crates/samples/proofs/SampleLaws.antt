@@ -1,0 +1,123 @@
+-- What a trace that was found shows: how long its samples are, that they fill whole words, and Sample's answer by each test's outcome.
+-- The idea: the rule's last test makes the body 48 + 2n bytes, and n is even.
+use Prim.Native.Nat.{ℕ, zero, suc, _+_, _-_, _*_, _/_, _%_, _≤_, _<_}
+use mathlib.Core.Path.{_≡_, refl, sym, ap, subst, _∙_}
+use mathlib.Core.List.{List, [], _∷_}
+use native.Mathlib.Omega.{arith}
+use lib.ListN.{length, take, drop, length-drop}
+use lib.Seq.{drop-drop, length-take-le}
+use borrow.Author.Tests.{le-leb, lt-leb, ne-eqb}
+use Rattle.theory.specs.Tests.{unless, first}
+use Rattle.theory.proofs.TestLaws.{first-at, equal-passed, most-passed}
+use Rattle.note.specs.Words.{word}
+use Rattle.note.specs.Trace.{traceTests, samplesRule, countFault, traceRule, traceOf, sampleIn}
+use Rattle.note.specs.Records.{recordRule, kindOf}
+use Rattle.note.specs.Answers.{Given, accepted, refused, counts, givenSample}
+use Rattle.note.specs.Calls.{recordFound, samplesPart, samplesAt, sampleAt}
+use Rattle.record.specs.declared.Step.{Step}
+use Rattle.record.specs.declared.Step.the-variants.{Bad}
+use Rattle.record.specs.Steps.{stepOf}
+use Rattle.record.proofs.StepLaws.{step-bad}
+use Rattle.answers.specs.Bodies.{bodyAt}
+use Rattle.answers.proofs.FoundLaws.{Found}
+
+take-none : (n : ℕ) → take {A = ℕ} n [] ≡ []
+take-none zero = refl
+take-none (suc n) = refl
+
+drop-take : (a n : ℕ) (xs : List ℕ) → drop a (take n xs) ≡ take (n - a) (drop a xs)
+drop-take zero n xs = let e : n ≡ n - 0 = omega arith in ap (λ (m : ℕ). take m xs) e
+drop-take (suc a) zero xs = let e : 0 ≡ 0 - suc a = omega arith in ap (λ (m : ℕ). take m (drop (suc a) xs)) e
+drop-take (suc a) (suc n) [] = sym (take-none (suc n - suc a))
+drop-take (suc a) (suc n) (x ∷ xs) = let e : n - a ≡ suc n - suc a = omega arith in drop-take a n xs ∙ ap (λ (m : ℕ). take m (drop a xs)) e
+
+module _ (b : List ℕ) (e : recordRule 0x11 b ≡ 0) where
+  trace-follows : traceRule b ≡ 0
+  unfolding kindOf
+  trace-follows = e
+
+  trace-length : length b ≡ 48 + 2 * word 44 b
+  unfolding traceRule
+  trace-length = equal-passed (length b) (48 + 2 * word 44 b) 5 (first-at (traceTests b) trace-follows 4)
+
+  count-some : 2 ≤ word 44 b
+  unfolding traceRule samplesRule countFault
+  count-some = most-passed 2 (word 44 b) 10 (first-at _ (first-at _ (first-at (traceTests b) trace-follows 3) 1) 1)
+
+  count-even : word 44 b % 2 ≡ 0
+  unfolding traceRule samplesRule countFault
+  count-even = equal-passed (word 44 b % 2) 0 10 (first-at _ (first-at _ (first-at (traceTests b) trace-follows 3) 1) 0)
+
+-- Another kind.
+module _ (bs : List ℕ) (place : ℕ) {k n : ℕ} (g : Found bs place k n) (other : k ≡ 0x11 → ⊥) where
+  pub no-part : samplesPart bs place ≡ (0, 0)
+  unfolding samplesPart
+  no-part = rw (g .found, ne-eqb k 0x11 other)
+
+  pub no-sample : (m : ℕ) → refused 5 place ≡ sampleAt bs place m
+  unfolding sampleAt
+  no-sample m = rw (g .found, ne-eqb k 0x11 other)
+
+-- A trace.
+module _ (bs : List ℕ) (place : ℕ) {k n : ℕ} (g₀ : Found bs place k n) (trace : k ≡ 0x11) where
+  g : Found bs place 0x11 n
+  g = subst (λ (w : ℕ). Found bs place w n) trace g₀
+
+  abbrev count : ℕ
+  count = word 44 (bodyAt bs place n)
+
+  pub size-of-trace : n ≡ 48 + 2 * count
+  size-of-trace = sym (g .size) ∙ trace-length (bodyAt bs place n) (g .follows)
+
+  pub long : 48 ≤ n
+  long = omega (arith, size-of-trace)
+
+  pub some : 0 < n - 48
+  some = omega (arith, size-of-trace, count-some (bodyAt bs place n) (g .follows))
+
+  pub part-found : samplesPart bs place ≡ (place + 56, n - 48)
+  unfolding samplesPart
+  part-found = rw (g .found, g .size)
+
+  pub low : (m : ℕ) → m < 1 → refused 11 place ≡ sampleAt bs place m
+  unfolding sampleAt
+  low m h = rw (g .found, lt-leb 1 m h)
+
+  pub high : (m : ℕ) → 1 ≤ m → (n - 48) / 2 < m → refused 11 place ≡ sampleAt bs place m
+  unfolding sampleAt traceOf
+  high m l h = rw (g .found, le-leb 1 m l, lt-leb m count (omega (arith, size-of-trace, h)))
+
+  -- The samples as the code cuts them, from their first byte to the record's last.
+  abbrev cut : List ℕ
+  cut = take (place + 8 + n - (place + 56)) (drop (place + 56) bs)
+
+  cut-size : place + 8 + n - (place + 56) ≡ n - 48
+  cut-size = omega (arith, long)
+
+  pub cut-long : length cut ≡ n - 48
+  cut-long = rw cut-size (length-take-le (n - 48) (drop (place + 56) bs) (omega (arith, g .fits, long, length-drop (place + 56) bs)))
+
+  pub whole-words : (m : ℕ) → 1 ≤ m → m ≤ (n - 48) / 2 → 4 * ((m - 1) / 2) + 4 ≤ length cut
+  whole-words m l h = rw cut-long (omega (arith, size-of-trace, count-even (bodyAt bs place n) (g .follows), h, l))
+
+  part-bytes : drop 48 (bodyAt bs place n) ≡ take (n - 48) (drop (place + 56) bs)
+  part-bytes =
+      let at : place + 8 + 48 ≡ place + 56 = omega arith in
+      drop-take 48 n (drop (place + 8) bs) ∙ ap (take (n - 48)) (drop-drop 48 (place + 8) bs ∙ ap (λ (p : ℕ). drop p bs) at)
+
+  pub part-given : cut ≡ samplesAt bs place
+  unfolding samplesAt
+  part-given = rw (part-found, cut-size)
+
+  pub sample-given : (m : ℕ) → 1 ≤ m → m ≤ (n - 48) / 2 → {v : ℕ} → v ≡ sampleIn cut m → accepted (counts (v ∷ [])) ≡ sampleAt bs place m
+  unfolding sampleAt traceOf
+  sample-given m l h e = rw (g .found, le-leb 1 m l, le-leb m count (omega (arith, size-of-trace, h)), e, cut-size, part-bytes)
+
+-- No part: another kind, or a refusal.
+pub refused-part : (bs : List ℕ) (place : ℕ) {c p : ℕ} {s : Step} → s ≡ Bad c p → s ≡ stepOf (recordFound bs place) → samplesPart bs place ≡ (0, 0)
+unfolding samplesPart
+refused-part bs place is gives = rw (step-bad (recordFound bs place) _ _ (sym is ∙ gives))
+
+pub empty-part : (bs : List ℕ) (place : ℕ) → samplesPart bs place ≡ (0, 0) → [] ≡ samplesAt bs place
+unfolding samplesAt
+empty-part bs place e = rw e
