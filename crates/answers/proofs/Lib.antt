@@ -1,3 +1,2 @@
 pub mod SignedLaws
-pub mod BodyLaws
 pub mod FoundLaws

@@ -1,2 +1,3 @@
 pub mod SectionLaws
+pub mod LengthLaws
 pub mod RoomLaws

@@ -24,8 +24,9 @@ use Rattle.demands.proofs.RowLaws.{children-total}
 use Rattle.containers.proofs.RecordLoop.{left}
 use Rattle.containers.proofs.EventLoop.{on-event, few}
 use Rattle.record.proofs.StepLaws.{cut}
-use Rattle.table.specs.Filling.{rowOf, stored, Fillable, Filled}
-use Rattle.table.proofs.StoreLaws.{stored-append, stored-nil, length-stored, stored-before}
+use Rattle.rows.specs.Buffers.{rowOf, stored}
+use Rattle.table.specs.Filling.{Fillable, Filled}
+use Rattle.rows.proofs.StoreLaws.{stored-append, stored-nil, length-stored, stored-before}
 
 abbrev nodes : List Container → List Node
 nodes es = map eventNode es

@@ -26,8 +26,9 @@ use Rattle.demands.proofs.Follows.{file-sound}
 use Rattle.demands.proofs.RowLaws.{children-total, container-size, file-length}
 use Rattle.containers.proofs.RecordLoop.{left}
 use Rattle.containers.proofs.EventLoop.{few}
-use Rattle.table.specs.Filling.{rowOf, stored, Fillable, FillableEvents, FillableFile, Filled, FilledEvents}
-use Rattle.table.proofs.StoreLaws.{stored-append, length-stored, stored-before}
+use Rattle.rows.specs.Buffers.{rowOf, stored}
+use Rattle.table.specs.Filling.{Fillable, FillableEvents, FillableFile, Filled, FilledEvents}
+use Rattle.rows.proofs.StoreLaws.{stored-append, length-stored, stored-before}
 
 module _ (bs : List ℕ) (f : File) (h : Bytes bs) (e : readFile bs ≡ ok f) where
   abbrev conf : Container

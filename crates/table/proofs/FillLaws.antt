@@ -1,6 +1,7 @@
 -- Filling the rows of records that were checked: what is known at each turn, and what a turn leads to.
 -- The idea: the whole is known to be read, so what stands next is read too, and its kind and length words say what it is.
 use mathlib.Core.Path.{_≡_, refl, sym, ap, _∙_, subst}
+use mathlib.Core.Bool.{true}
 use mathlib.Core.List.{List, [], _∷_, _++_, map}
 use Prim.Native.Nat.{ℕ, suc, _+_, _-_, _*_, _≤_, _<_}
 use native.Mathlib.Nat.{add-zero}
@@ -13,15 +14,16 @@ use Rattle.theory.proofs.LayoutLaws.{length-childRows}
 use Rattle.theory.proofs.LoopLaws.{At, start, ended, prefix, reads}
 use Rattle.note.specs.Limits.{fileLimit, rowWidth}
 use Rattle.note.specs.Words.{word}
-use Rattle.note.specs.Records.{Record, Context, behind, recordSize, recordRule, kindOf, readRecord, readRecords}
+use Rattle.note.specs.Records.{Record, Context, behind, recordSize, kindOf, readRecord, readRecords}
 use Rattle.note.specs.Rows.{childOf, childrenOf}
 use Rattle.demands.proofs.Bundles.{recordItem, same-record, same-records}
 use Rattle.record.proofs.StepLaws.{Read, read-shows, cut, body-follows, body-length}
 use Rattle.containers.proofs.RecordLoop.{recordAt, on}
-use Rattle.table.specs.declared.Row as Code
-use Rattle.table.specs.declared.Values.{Values}
-use Rattle.table.specs.Filling.{rowOf, stored, valuesOf}
-use Rattle.table.proofs.StoreLaws.{stored-append, stored-nil, length-stored}
+use Rattle.rows.specs.declared.Values.{Values}
+use Rattle.rows.specs.Buffers.{rowOf, stored}
+use Rattle.rows.specs.Values.{hasValues, valuesOf}
+use Rattle.rows.proofs.ValueLaws.{rule-has-values}
+use Rattle.rows.proofs.StoreLaws.{stored-append, stored-nil, length-stored}
 
 children-append : (xs : List Record) (r : Record) → childrenOf (xs ++ r ∷ []) ≡ childrenOf xs ++ (childOf r ∷ [])
 children-append [] r = refl
@@ -78,8 +80,8 @@ module _ {s₀ : Context} {from : ℕ} {bs rows₀ : List ℕ} {first parent : �
     abbrev pub body : List ℕ
     body = take (8 + word 4 rest - 8) (drop 8 rest)
 
-    pub follows : recordRule (word 0 rest) body ≡ 0
-    follows = body-follows (i .state) at rest (word 0 rest) (word 4 rest) shown
+    pub valued : hasValues (word 0 rest) body ≡ true
+    valued = rule-has-values (word 0 rest) body (body-follows (i .state) at rest (word 0 rest) (word 4 rest) shown)
 
     pub body-size : length body ≡ word 4 rest
     body-size = body-length (i .state) at rest (word 0 rest) (word 4 rest) shown

@@ -1,4 +1,3 @@
-pub mod StoreLaws
 pub mod FillLaws
 pub mod EventFillLaws
 pub mod FileFillLaws

@@ -16,8 +16,9 @@ use Rattle.note.specs.Rows.{childOf, eventNode, nodesOf, rowsOf, tableAnswer, t
 use Rattle.containers.specs.declared.Count.{Count}
 use Rattle.containers.specs.declared.Count.the-variants.{Good, Bad}
 use Rattle.containers.specs.Counts.{rowsOfEvents, fileRows}
-use Rattle.table.specs.Filling.{stored, FillableFile}
-use Rattle.table.proofs.StoreLaws.{stored-first}
+use Rattle.rows.specs.Buffers.{stored}
+use Rattle.table.specs.Filling.{FillableFile}
+use Rattle.rows.proofs.StoreLaws.{stored-first}
 
 abbrev counted : Count → Type 0
 counted (Good n) = Unit {0}

@@ -1,31 +1,16 @@
--- What filling stores: rows from a row number on, and what a part must be for its rows to be filled in.
+-- What a part must be for its rows to be filled in, and what filling leaves.
 use Prim.Native.Nat.{ℕ, _+_, _*_, _≤_}
 use mathlib.Core.Path.{_≡_}
-use mathlib.Core.List.{List, [], _∷_, map}
+use mathlib.Core.List.{List, map}
 use lib.ListN.{length}
-use lib.Seq.{sets}
 use Rattle.theory.specs.Tests.{ok}
-use Rattle.theory.specs.Layout as Layout
 use Rattle.theory.specs.Layout.{childRows, rows}
 use Rattle.note.specs.Limits.{fileLimit, rowWidth}
-use Rattle.note.specs.Records.{Record, Context, kindOf, readRecords}
+use Rattle.note.specs.Records.{Record, Context, readRecords}
 use Rattle.note.specs.Events.{Container, readEvents}
 use Rattle.note.specs.Files.{File, readFile}
-use Rattle.note.specs.Rows.{childrenOf, eventNode, rowsOf, flat}
-use Rattle.table.specs.declared.Row.{Row}
-use Rattle.table.specs.declared.Values.{Values}
-
--- The code's row is the note's.
-unfoldable pub rowOf : Row → Layout.Row
-rowOf r = record { kind = r .kind; start = r .start; whole = r .whole; parent = r .parent; one = r .one; two = r .two }
-
--- A buffer with rows stored from the index n on.
-unfoldable pub stored : List ℕ → ℕ → List Layout.Row → List ℕ
-stored old n rs = sets old (n * rowWidth) (flat rs)
-
--- A record's row kind and values, from its kind word and its body.
-unfoldable pub valuesOf : ℕ → List ℕ → Values
-valuesOf k b = record { kind = kindOf k .row; one = kindOf k .one b; two = kindOf k .two b }
+use Rattle.note.specs.Rows.{childrenOf, eventNode, rowsOf}
+use Rattle.rows.specs.Buffers.{stored}
 
 -- Records fill the part, in some context, and their rows fit the buffer from the index `first` on.
 pub record Fillable (from : ℕ) (bs : List ℕ) (room first : ℕ) : Type 0 where

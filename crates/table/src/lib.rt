@@ -2,103 +2,14 @@
 use containers::Count;
 use containers::check;
 use note::TableAnswer;
-use rules::section_end;
+use rows::Row;
+use rows::put_row;
+use rows::values_in;
 use words::word_at;
 ghost use mathlib.Core.Path.{_≡_};
-ghost use mathlib.Core.List.{[], _∷_};
-ghost use Prim.Native.Nat.{_+_, _*_, _≤_, _<_};
 ghost use lib.ListN.{length};
-ghost use Rattle.note.specs.Records.{recordRule};
 ghost use Rattle.note.specs.Rows.{tableAnswer, tableBuffer};
-ghost use Rattle.table.specs.Filling.{rowOf, stored, valuesOf, Fillable, FillableEvents, FillableFile, Filled, FilledEvents, FilledFile};
-
-/// A row.
-pub struct Row {
-    pub kind: u32,
-    pub start: u32,
-    pub whole: u32,
-    pub parent: u32,
-    pub one: u32,
-    pub two: u32,
-}
-
-/// A record's row kind and its row's two values.
-pub struct Values {
-    pub kind: u32,
-    pub one: u32,
-    pub two: u32,
-}
-
-// Stores the row with the index n, from 0.
-fn put_row(rows: &mut [u32], n: usize, row: Row)
-    requires { ⌜ n * 6 + 6 ≤ length (now rows) ⌝ }
-    ensures { λ _. ⌜ now (rows .exit) ≡ stored (now (rows .entry)) n (rowOf row ∷ []) ⌝ }
-{
-    let i = n * 6;
-    rows[i] = row.kind;
-    rows[i + 1] = row.start;
-    rows[i + 2] = row.whole;
-    rows[i + 3] = row.parent;
-    rows[i + 4] = row.one;
-    rows[i + 5] = row.two;
-}
-
-// A row's values, from a body that follows its kind's rule.
-fn values_in(kind: u32, b: &[u8]) -> Values
-    requires { ⌜ (recordRule kind (now b) ≡ 0) × (length (now b) < 0x100000000) ⌝ }
-    ensures { λ r. ⌜ r ≡ valuesOf kind (now (b .entry)) ⌝ }
-{
-    match kind {
-        0x0001_0001 => Values {
-            kind: 3,
-            one: word_at(b, 0),
-            two: word_at(b, 4),
-        },
-        0x0001_0002 => Values {
-            kind: 4,
-            one: word_at(b, 0),
-            two: word_at(b, 4),
-        },
-        0x02 => Values {
-            kind: 6,
-            one: word_at(b, 8),
-            two: word_at(b, 12),
-        },
-        0x11 => Values {
-            kind: 7,
-            one: word_at(b, 16),
-            two: word_at(b, 44),
-        },
-        0x21 => {
-            let middle = section_end(0, b);
-            Values {
-                kind: 8,
-                one: word_at(b, 0),
-                two: word_at(b, middle),
-            }
-        }
-        0x60 => Values {
-            kind: 9,
-            one: word_at(b, 0),
-            two: word_at(b, 4),
-        },
-        0x80 => Values {
-            kind: 10,
-            one: word_at(b, 4),
-            two: word_at(b, 8),
-        },
-        0x81 => Values {
-            kind: 11,
-            one: word_at(b, 0),
-            two: word_at(b, 4),
-        },
-        _ => Values {
-            kind: 0,
-            one: 0,
-            two: 0,
-        },
-    }
-}
+ghost use Rattle.table.specs.Filling.{Fillable, FillableEvents, FillableFile, Filled, FilledEvents, FilledFile};
 
 // Stores the rows of the records that fill a part, from the row with the index `first` on, and answers the next row's index. The part
 // was checked, so a record's kind and length words say what stands there.

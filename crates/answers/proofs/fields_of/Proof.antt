@@ -5,7 +5,7 @@ use native.Mathlib.Omega.{arith}
 use Rattle.note.specs.Kinds.{Kind}
 use Rattle.note.specs.Records.{kindOf}
 use Rattle.note.proofs.KindCases.{no-kind}
-use Rattle.answers.proofs.BodyLaws.{long-enough}
+use Rattle.rules.proofs.LengthLaws.{long-enough}
 use Rattle.answers.proofs.fields_of.Statement.{statement}
 use Rattle.answers.proofs.fields_of.Tie as tie
 use denote.Ref.{now}

@@ -2,7 +2,7 @@
 -- In the default both tests fail.
 use borrow.Author.Tests.{ne-eqb}
 use Rattle.note.specs.Answers.{givenSetting}
-use Rattle.answers.proofs.BodyLaws.{long-enough}
+use Rattle.rules.proofs.LengthLaws.{long-enough}
 use Rattle.answers.proofs.setting_of.Statement.{statement}
 use Rattle.answers.proofs.setting_of.Tie as tie
 use denote.Ref.{now}

@@ -10,8 +10,8 @@ use Rattle.theory.proofs.WordLaws.{Bytes-from}
 use Rattle.theory.proofs.TestLaws.{ok-inj}
 use Rattle.note.specs.Files.{File}
 use Rattle.note.specs.Rows.{rowsOf}
-use Rattle.table.specs.Filling.{rowOf, stored}
-use Rattle.table.proofs.StoreLaws.{length-stored}
+use Rattle.rows.specs.Buffers.{rowOf, stored}
+use Rattle.rows.proofs.StoreLaws.{length-stored}
 use Rattle.table.proofs.FileFillLaws.{version-is, length-is, room, some, fillable, next-is, fillable-events, done}
 use borrow.Author.Needs.{needs}
 use Rattle.table.proofs.fill.Statement.{statement}
@@ -20,7 +20,7 @@ use Rattle.table.proofs.fill.Reads as reads
 use Rattle.table.proofs.fill.Lts as lts
 use Rattle.table.proofs.fill_events.Reads as fill-events-reads
 use Rattle.table.proofs.fill_records.Reads as fill-records-reads
-use Rattle.table.proofs.put_row.Reads as put-row-reads
+use Rattle.rows.proofs.put_row.Reads as put-row-reads
 use Rattle.words.proofs.word_at.Reads as word-at-reads
 
 word-at-requires : tie.Need-word-at-requires

@@ -13,7 +13,7 @@ use Rattle.table.proofs.fill_events.Tie as tie
 use Rattle.table.proofs.fill_events.Reads as reads
 use Rattle.table.proofs.fill_events.Lts as lts
 use Rattle.table.proofs.fill_records.Reads as fill-records-reads
-use Rattle.table.proofs.put_row.Reads as put-row-reads
+use Rattle.rows.proofs.put_row.Reads as put-row-reads
 use Rattle.words.proofs.word_at.Reads as word-at-reads
 
 abbrev Inv-loop : tie.InvT-loop

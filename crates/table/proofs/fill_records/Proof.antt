@@ -8,13 +8,13 @@ use lib.ListN.{length}
 use borrow.Author.Needs.{needs}
 use Rattle.theory.specs.Tests.{ok}
 use Rattle.note.specs.Records.{Context, Record, readRecords}
-use Rattle.table.proofs.FillLaws.{Filling, begin, place, same-rows, done, fits, follows, body-size, row-fits, next}
+use Rattle.table.proofs.FillLaws.{Filling, begin, place, same-rows, done, fits, valued, body-size, row-fits, next}
 use Rattle.table.proofs.fill_records.Statement.{statement}
 use Rattle.table.proofs.fill_records.Tie as tie
 use Rattle.table.proofs.fill_records.Reads as reads
 use Rattle.table.proofs.fill_records.Lts as lts
-use Rattle.table.proofs.put_row.Reads as put-row-reads
-use Rattle.table.proofs.values_in.Reads as values-in-reads
+use Rattle.rows.proofs.put_row.Reads as put-row-reads
+use Rattle.rows.proofs.values_in.Reads as values-in-reads
 use Rattle.words.proofs.word_at.Reads as word-at-reads
 
 abbrev Inv-loop : tie.InvT-loop
@@ -48,7 +48,7 @@ part-values-in-end : tie.Need-part-values-in-end Inv-loop μ-loop
 part-values-in-end c = omega (arith, fits (c .before .before .before .loop .inv (c .before .before .before .before .before .before .pre .context) (c .before .before .before .before .before .before .pre .records) (c .before .before .before .before .before .before .pre .reads)) (c .before .before .loop-test .taken) (c .before .before .before .before .before .before .pre .records) (c .before .before .before .before .before .before .pre .reads), c .before .word-at .ensures)
 
 values-in-requires : tie.Need-values-in-requires Inv-loop μ-loop
-values-in-requires c κs = rw (c .before .word-at2 .ensures, c .before .before .word-at .ensures) (follows (c .before .before .before .before .loop .inv (c .before .before .before .before .before .before .before .pre .context) (c .before .before .before .before .before .before .before .pre .records) (c .before .before .before .before .before .before .before .pre .reads)) (c .before .before .before .loop-test .taken) (c .before .before .before .before .before .before .before .pre .records) (c .before .before .before .before .before .before .before .pre .reads), omega (arith, body-size (c .before .before .before .before .loop .inv (c .before .before .before .before .before .before .before .pre .context) (c .before .before .before .before .before .before .before .pre .records) (c .before .before .before .before .before .before .before .pre .reads)) (c .before .before .before .loop-test .taken) (c .before .before .before .before .before .before .before .pre .records) (c .before .before .before .before .before .before .before .pre .reads), fits (c .before .before .before .before .loop .inv (c .before .before .before .before .before .before .before .pre .context) (c .before .before .before .before .before .before .before .pre .records) (c .before .before .before .before .before .before .before .pre .reads)) (c .before .before .before .loop-test .taken) (c .before .before .before .before .before .before .before .pre .records) (c .before .before .before .before .before .before .before .pre .reads), place (c .before .before .before .before .loop .inv (c .before .before .before .before .before .before .before .pre .context) (c .before .before .before .before .before .before .before .pre .records) (c .before .before .before .before .before .before .before .pre .reads)), c .before .before .before .before .before .before .before .pre .within))
+values-in-requires c κs = rw (c .before .word-at2 .ensures, c .before .before .word-at .ensures) (valued (c .before .before .before .before .loop .inv (c .before .before .before .before .before .before .before .pre .context) (c .before .before .before .before .before .before .before .pre .records) (c .before .before .before .before .before .before .before .pre .reads)) (c .before .before .before .loop-test .taken) (c .before .before .before .before .before .before .before .pre .records) (c .before .before .before .before .before .before .before .pre .reads), omega (arith, body-size (c .before .before .before .before .loop .inv (c .before .before .before .before .before .before .before .pre .context) (c .before .before .before .before .before .before .before .pre .records) (c .before .before .before .before .before .before .before .pre .reads)) (c .before .before .before .loop-test .taken) (c .before .before .before .before .before .before .before .pre .records) (c .before .before .before .before .before .before .before .pre .reads), fits (c .before .before .before .before .loop .inv (c .before .before .before .before .before .before .before .pre .context) (c .before .before .before .before .before .before .before .pre .records) (c .before .before .before .before .before .before .before .pre .reads)) (c .before .before .before .loop-test .taken) (c .before .before .before .before .before .before .before .pre .records) (c .before .before .before .before .before .before .before .pre .reads), place (c .before .before .before .before .loop .inv (c .before .before .before .before .before .before .before .pre .context) (c .before .before .before .before .before .before .before .pre .records) (c .before .before .before .before .before .before .before .pre .reads)), c .before .before .before .before .before .before .before .pre .within))
 
 cast-t13 : tie.Need-cast-t13 Inv-loop μ-loop
 cast-t13 c = omega (arith, fits (c .before .before .before .before .before .before .loop .inv (c .before .before .before .before .before .before .before .before .before .pre .context) (c .before .before .before .before .before .before .before .before .before .pre .records) (c .before .before .before .before .before .before .before .before .before .pre .reads)) (c .before .before .before .before .before .loop-test .taken) (c .before .before .before .before .before .before .before .before .before .pre .records) (c .before .before .before .before .before .before .before .before .before .pre .reads), place (c .before .before .before .before .before .before .loop .inv (c .before .before .before .before .before .before .before .before .before .pre .context) (c .before .before .before .before .before .before .before .before .before .pre .records) (c .before .before .before .before .before .before .before .before .before .pre .reads)), c .before .before .before .before .before .before .before .before .before .pre .within, c .before .before .before .before .word-at .ensures)

@@ -1,16 +1,16 @@
 -- Six stores are one run of six numbers.
 use Prim.Native.Nat.{_*_}
 use denote.Ref.{now}
-use Rattle.table.proofs.StoreLaws.{six-stores}
+use Rattle.rows.proofs.StoreLaws.{six-stores}
 use Rattle.note.specs.Rows.{flat}
-use Rattle.table.specs.Filling.{rowOf, stored}
+use Rattle.rows.specs.Buffers.{rowOf, stored}
 use lib.ListN.{length-set}
 use native.Mathlib.Omega.{arith}
 use borrow.Author.Needs.{needs}
-use Rattle.table.proofs.put_row.Statement.{statement}
-use Rattle.table.proofs.put_row.Tie as tie
-use Rattle.table.proofs.put_row.Reads as reads
-use Rattle.table.proofs.put_row.Lts as lts
+use Rattle.rows.proofs.put_row.Statement.{statement}
+use Rattle.rows.proofs.put_row.Tie as tie
+use Rattle.rows.proofs.put_row.Reads as reads
+use Rattle.rows.proofs.put_row.Lts as lts
 
 mul-i : tie.Need-mul-i
 mul-i c = search needs

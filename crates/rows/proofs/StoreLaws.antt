@@ -10,7 +10,7 @@ use lib.Seq.{sets, sets-eq, length-sets, set-comm}
 use Rattle.theory.specs.Layout.{Row}
 use Rattle.note.specs.Limits.{rowWidth}
 use Rattle.note.specs.Rows.{rowNumbers, flat}
-use Rattle.table.specs.Filling.{stored}
+use Rattle.rows.specs.Buffers.{stored}
 
 sets-append : (l : List ℕ) (i : ℕ) (xs ys : List ℕ) → sets l i (xs ++ ys) ≡ sets (sets l i xs) (i + length xs) ys
 sets-append l i [] ys = ap (λ (k : ℕ). sets l k ys) (sym (add-zero i))

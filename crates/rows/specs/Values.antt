@@ -1,0 +1,32 @@
+-- A record's row kind and values, and where they stand in its body.
+use Prim.Native.Nat.{ℕ, _+_}
+use mathlib.Core.Bool.{Bool, cond, not, _&&_}
+use mathlib.Core.List.{List}
+use lib.Dec.{leb, eqb}
+use lib.ListN.{length}
+use Rattle.note.specs.History.{historyRule}
+use Rattle.note.specs.Records.{kindOf}
+use Rattle.rows.specs.declared.Values.{Values}
+use Rattle.rows.specs.declared.Standing.{Standing}
+
+-- Row kind and values, from the kind word and the body.
+unfoldable pub valuesOf : ℕ → List ℕ → Values
+valuesOf k b = record { kind = kindOf k .row; one = kindOf k .one b; two = kindOf k .two b }
+
+-- Where the values stand in the body of a row kind, a history's second apart: that these are the note's words is proved
+-- (proofs/ValueLaws.antt).
+abbrev pub oneAt : ℕ → ℕ
+oneAt row = cond (eqb row 6) 8 (cond (eqb row 7) 16 (cond (eqb row 10) 4 0))
+
+abbrev pub twoAt : ℕ → ℕ
+twoAt row = cond (eqb row 6) 12 (cond (eqb row 7) 44 (cond (eqb row 10) 8 4))
+
+unfoldable pub standingOf : ℕ → Standing
+standingOf k = record { kind = kindOf k .row; one = oneAt (kindOf k .row); two = twoAt (kindOf k .row) }
+
+-- The kind has a row, and the body holds its values: a history's where its rule lets them, any other's end in the body.
+abbrev pub holds : ℕ → List ℕ → Bool
+holds row b = cond (eqb row 8) (eqb (historyRule b) 0) (not (eqb row 0) && leb (twoAt row + 4) (length b))
+
+unfoldable pub hasValues : ℕ → List ℕ → Bool
+hasValues k b = holds (kindOf k .row) b

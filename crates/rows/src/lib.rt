@@ -1,0 +1,138 @@
+// Rows: a record's row kind and values out of its body, and a row's place in a lent buffer.
+use rules::history_rule;
+use rules::section_end;
+use words::word_at;
+ghost use mathlib.Core.Path.{_≡_};
+ghost use mathlib.Core.Bool.{true};
+ghost use mathlib.Core.List.{[], _∷_};
+ghost use Prim.Native.Nat.{_+_, _*_, _≤_, _<_};
+ghost use lib.ListN.{length};
+ghost use Rattle.rows.specs.Buffers.{rowOf, stored};
+ghost use Rattle.rows.specs.Values.{standingOf, hasValues, valuesOf};
+
+/// A row.
+pub struct Row {
+    pub kind: u32,
+    pub start: u32,
+    pub whole: u32,
+    pub parent: u32,
+    pub one: u32,
+    pub two: u32,
+}
+
+/// A record's row kind and its row's two values.
+pub struct Values {
+    pub kind: u32,
+    pub one: u32,
+    pub two: u32,
+}
+
+/// A kind's row kind, 0 for none, and where its row's values stand in a body, a history's second apart.
+pub struct Standing {
+    pub kind: u32,
+    pub one: usize,
+    pub two: usize,
+}
+
+// Where the values of a kind's row stand.
+fn value_places(kind: u32) -> Standing
+    ensures { λ r. ⌜ r ≡ standingOf kind ⌝ }
+{
+    match kind {
+        0x0001_0001 => Standing {
+            kind: 3,
+            one: 0,
+            two: 4,
+        },
+        0x0001_0002 => Standing {
+            kind: 4,
+            one: 0,
+            two: 4,
+        },
+        0x02 => Standing {
+            kind: 6,
+            one: 8,
+            two: 12,
+        },
+        0x11 => Standing {
+            kind: 7,
+            one: 16,
+            two: 44,
+        },
+        0x21 => Standing {
+            kind: 8,
+            one: 0,
+            two: 4,
+        },
+        0x60 => Standing {
+            kind: 9,
+            one: 0,
+            two: 4,
+        },
+        0x80 => Standing {
+            kind: 10,
+            one: 4,
+            two: 8,
+        },
+        0x81 => Standing {
+            kind: 11,
+            one: 0,
+            two: 4,
+        },
+        _ => Standing {
+            kind: 0,
+            one: 0,
+            two: 4,
+        },
+    }
+}
+
+/// Whether a kind's row has values, and a body holds the words that they are.
+pub fn has_values(kind: u32, b: &[u8]) -> bool
+    requires { ⌜ length (now b) < 0x100000000 ⌝ }
+    ensures { λ r. ⌜ r ≡ hasValues kind (now (b .entry)) ⌝ }
+{
+    let s = value_places(kind);
+    if s.kind == 8 {
+        return history_rule(b) == 0;
+    }
+    if s.kind == 0 {
+        return false;
+    }
+    s.two + 4 <= b.len()
+}
+
+/// A row's values, from a body that holds them.
+pub fn values_in(kind: u32, b: &[u8]) -> Values
+    requires { ⌜ (hasValues kind (now b) ≡ true) × (length (now b) < 0x100000000) ⌝ }
+    ensures { λ r. ⌜ r ≡ valuesOf kind (now (b .entry)) ⌝ }
+{
+    let s = value_places(kind);
+    if s.kind == 8 {
+        let middle = section_end(0, b);
+        return Values {
+            kind: s.kind,
+            one: word_at(b, 0),
+            two: word_at(b, middle),
+        };
+    }
+    Values {
+        kind: s.kind,
+        one: word_at(b, s.one),
+        two: word_at(b, s.two),
+    }
+}
+
+/// Stores the row with the index n, from 0.
+pub fn put_row(rows: &mut [u32], n: usize, row: Row)
+    requires { ⌜ n * 6 + 6 ≤ length (now rows) ⌝ }
+    ensures { λ _. ⌜ now (rows .exit) ≡ stored (now (rows .entry)) n (rowOf row ∷ []) ⌝ }
+{
+    let i = n * 6;
+    rows[i] = row.kind;
+    rows[i + 1] = row.start;
+    rows[i + 2] = row.whole;
+    rows[i + 3] = row.parent;
+    rows[i + 4] = row.one;
+    rows[i + 5] = row.two;
+}
