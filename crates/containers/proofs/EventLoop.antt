@@ -8,12 +8,13 @@ use lib.ListN.{length, take, drop, length-append}
 use Rattle.theory.specs.Words.{Bytes}
 use Rattle.theory.specs.Tests.{Res, ok, bad}
 use Rattle.theory.proofs.WordLaws.{Bytes-drop}
-use Rattle.theory.proofs.StructureLaws.{length-structure}
+use Rattle.theory.proofs.StructureLaws.{length-structure, opens, length-is, inside}
 use Rattle.theory.proofs.LoopLaws.{At, start, ended, stopped, more}
 use Rattle.note.specs.Words.{order, word}
 use Rattle.note.specs.Records.{Record, Context, event, none, recordBytes, recordsBytes, readRecord, readRecords}
 use Rattle.note.specs.Events.{Container, containerSize, eventHead, eventLate, readEvent, readEvents}
-use Rattle.demands.proofs.Bundles.{eventItem, same-event, same-events}
+use Rattle.demands.proofs.Bundles.{records, eventItem, same-records, same-event, same-events}
+use Rattle.record.proofs.StepLaws.{cut}
 use Rattle.containers.specs.declared.Count.the-variants as Count
 use Rattle.containers.specs.declared.Holding.{Holding}
 use Rattle.containers.specs.declared.Holding.the-variants.{Good, Bad}
@@ -36,6 +37,25 @@ pub holding-bad : (r : Res Container) (c p : ℕ) → Bad c p ≡ containerStep 
 unfolding containerStep
 holding-bad (ok e) c p q = cc
 holding-bad (bad c′ p′) c p q = cc
+
+-- What an event that was read shows of its bytes: its first word, its contents' length, its records as code cuts them out.
+pub record Shown (at : ℕ) (rest : List ℕ) (e : Container) : Type 0 where
+  pub read : eventItem .read tt at rest ≡ ok e
+  pub kind-is : e .kind ≡ word 0 rest
+  pub size : length (recordsBytes (e .body)) ≡ word 4 rest
+  pub fits : 8 + word 4 rest ≤ length rest
+  pub contents : readRecords (event none) (at + 8) (take (8 + word 4 rest - 8) (drop 8 rest)) ≡ ok (e .body)
+
+pub event-shows : (at : ℕ) (rest : List ℕ) (e : Container) → Bytes rest → eventItem .read tt at rest ≡ ok e → Shown at rest e
+event-shows at rest e h r =
+    let o = opens order eventHead eventLate (inside (λ s. event none) records .read) tt at rest e r in
+    record {
+      read = r;
+      kind-is = o .kind-is;
+      size = length-is order eventHead eventLate (inside (λ s. event none) records) tt at rest e h r;
+      fits = o .fits;
+      contents = ap (readRecords (event none) (at + 8)) (cut (word 4 rest) rest) ∙ same-records (event none) (at + 8) (take (word 4 rest) (drop 8 rest)) ∙ o .body-is;
+    }
 
 -- Records are no more than their bytes.
 pub few : (xs : List Record) → length xs ≤ length (recordsBytes xs)

@@ -11,18 +11,17 @@ use Rattle.theory.specs.Tests.{Res, ok, bad}
 use Rattle.theory.specs.Layout.{Row, Child, Node, box, total, extents, childRows, rows, rowCount}
 use Rattle.theory.proofs.WordLaws.{Bytes-drop}
 use Rattle.theory.proofs.TestLaws.{ok-inj}
-use Rattle.theory.proofs.StructureLaws.{opens, length-is, inside}
 use Rattle.theory.proofs.LayoutLaws.{rows-append, length-rows, rowCount-append, extents-append}
 use Rattle.theory.proofs.LoopLaws.{At, start, ended, prefix, reads}
 use Rattle.note.specs.Limits.{fileLimit, rowWidth}
-use Rattle.note.specs.Words.{order, word}
+use Rattle.note.specs.Words.{word}
 use Rattle.note.specs.Records.{Record, event, none, recordsBytes, readRecords}
-use Rattle.note.specs.Events.{Container, eventHead, eventLate, readEvents}
+use Rattle.note.specs.Events.{Container, readEvents}
 use Rattle.note.specs.Rows.{childOf, childrenOf, eventNode}
-use Rattle.demands.proofs.Bundles.{records, eventItem, same-records, same-events}
+use Rattle.demands.proofs.Bundles.{eventItem, same-events}
 use Rattle.demands.proofs.RowLaws.{children-total}
 use Rattle.containers.proofs.RecordLoop.{left}
-use Rattle.containers.proofs.EventLoop.{on-event, few}
+use Rattle.containers.proofs.EventLoop.{Shown, event-shows, on-event, few}
 use Rattle.record.proofs.StepLaws.{cut}
 use Rattle.rows.specs.Buffers.{rowOf, stored}
 use Rattle.table.specs.Filling.{Fillable, Filled}
@@ -71,42 +70,28 @@ module _ {from : ℕ} {bs rows₀ : List ℕ} {first : ℕ} {now rest : List ℕ
 
   module _ (l : 0 < length rest) (es : List Container) (w : readEvents tt from bs ≡ ok es) where
     -- the event that stands next, and what it shows of its bytes
-    pub record Next : Type 0 where
-      pub event′ : Container
-      pub read : eventItem .read tt at rest ≡ ok event′
-      pub kind-is : event′ .kind ≡ word 0 rest
-      pub size : length (recordsBytes (event′ .body)) ≡ word 4 rest
-      pub fits : 8 + word 4 rest ≤ length rest
-      pub contents : readRecords (event none) (at + 8) (take (8 + word 4 rest - 8) (drop 8 rest)) ≡ ok (event′ .body)
+    pub this : Container
+    this = reads eventItem (i .is) l es (sym (same-events tt from bs) ∙ w) .0
 
-    pub coming : Next
-    coming =
-        let (e, r) = reads eventItem (i .is) l es (sym (same-events tt from bs) ∙ w) in
-        let o = opens order eventHead eventLate (inside (λ s. event none) records .read) tt at rest e r in
-        record {
-          event′ = e;
-          read = r;
-          kind-is = o .kind-is;
-          size = length-is order eventHead eventLate (inside (λ s. event none) records) tt at rest e (i .bytes) r;
-          fits = o .fits;
-          contents = ap (readRecords (event none) (at + 8)) (cut (word 4 rest) rest) ∙ same-records (event none) (at + 8) (take (word 4 rest) (drop 8 rest)) ∙ o .body-is;
-        }
+    coming : Shown at rest this
+    unfolding this
+    coming = event-shows at rest this (i .bytes) (reads eventItem (i .is) l es (sym (same-events tt from bs) ∙ w) .1)
 
     pub fits : 8 + word 4 rest ≤ length rest
     fits = coming .fits
 
-    moved : (x : Next) → At eventItem tt from bs tt (at + (8 + word 4 rest)) (take (length rest - (8 + word 4 rest)) (drop (8 + word 4 rest) rest)) (i .es ++ x .event′ ∷ [])
-    moved x = on-event (i .is) l (x .event′) (x .read) (word 4 rest) (x .size) (x .fits)
+    moved : (x : Shown at rest this) → At eventItem tt from bs tt (at + (8 + word 4 rest)) (take (length rest - (8 + word 4 rest)) (drop (8 + word 4 rest) rest)) (i .es ++ this ∷ [])
+    moved x = on-event (i .is) l this (x .read) (word 4 rest) (x .size) (x .fits)
 
     -- the rows of this event fit
-    rows-fit : (x : Next) → (first + length (rows (first + 1) from (nodes es))) * rowWidth ≤ length rows₀ → (n + 1 + length (x .event′ .body)) * rowWidth ≤ length now
+    rows-fit : (x : Shown at rest this) → (first + length (rows (first + 1) from (nodes es))) * rowWidth ≤ length rows₀ → (n + 1 + length (this .body)) * rowWidth ≤ length now
     rows-fit x h =
         let (zs, q) = prefix eventItem (moved x) es (sym (same-events tt from bs) ∙ w) in
-        let all : nodes es ≡ nodes (i .es ++ x .event′ ∷ []) ++ nodes zs = ap nodes q ∙ map-append (i .es ++ x .event′ ∷ []) zs in
-        let count : rowCount (nodes es) ≡ rowCount (nodes (i .es)) + suc (length (childrenOf (x .event′ .body))) + rowCount (nodes zs) =
-        ap rowCount all ∙ rowCount-append (nodes (i .es ++ x .event′ ∷ [])) (nodes zs)
-        ∙ ap (λ (m : ℕ). m + rowCount (nodes zs)) (ap rowCount (nodes-append (i .es) (x .event′)) ∙ rowCount-append (nodes (i .es)) (eventNode (x .event′) ∷ []) ∙ omega arith) in
-        omega (arith, count, h, i .row, same-rows, length-rows (first + 1) from (nodes es), length-map (x .event′ .body) childOf)
+        let all : nodes es ≡ nodes (i .es ++ this ∷ []) ++ nodes zs = ap nodes q ∙ map-append (i .es ++ this ∷ []) zs in
+        let count : rowCount (nodes es) ≡ rowCount (nodes (i .es)) + suc (length (childrenOf (this .body))) + rowCount (nodes zs) =
+        ap rowCount all ∙ rowCount-append (nodes (i .es ++ this ∷ [])) (nodes zs)
+        ∙ ap (λ (m : ℕ). m + rowCount (nodes zs)) (ap rowCount (nodes-append (i .es) this) ∙ rowCount-append (nodes (i .es)) (eventNode this ∷ []) ∙ omega arith) in
+        omega (arith, count, h, i .row, same-rows, length-rows (first + 1) from (nodes es), length-map (this .body) childOf)
       where
         map-append : (xs ys : List Container) → nodes (xs ++ ys) ≡ nodes xs ++ nodes ys
         map-append [] ys = refl
@@ -119,17 +104,17 @@ module _ {from : ℕ} {bs rows₀ : List ℕ} {first : ℕ} {now rest : List ℕ
       -- its records can be filled, from the row behind its own on
       pub fillable : (m : ℕ) → m ≡ word 4 rest → Fillable (at + 8) (take (8 + m - 8) (drop 8 rest)) (length now) (n + 1)
       fillable m em =
-          let x : Next = coming in
+          let x : Shown at rest this = coming in
           let size : length (take (8 + word 4 rest - 8) (drop 8 rest)) ≡ word 4 rest = ap length (cut (word 4 rest) rest) ∙ length-take-le (word 4 rest) (drop 8 rest) (omega (arith, length-drop 8 rest, x .fits)) in
           subst (λ (y : ℕ). Fillable (at + 8) (take (8 + y - 8) (drop 8 rest)) (length now) (n + 1)) (sym em)
-          (record { context = event none; records = x .event′ .body; reads = x .contents; within = omega (arith, size, place, x .fits); fits = rows-fit x h })
+          (record { context = event none; records = this .body; reads = x .contents; within = omega (arith, size, place, x .fits); fits = rows-fit x h })
 
       pub next-row : (m : ℕ) → m ≡ word 4 rest → (filled : List ℕ) (next : ℕ) → Filled (at + 8) (take (8 + m - 8) (drop 8 rest)) now (n + 1) (n + 1) filled next
-          → (next ≡ n + 1 + length (coming .event′ .body)) × (length (coming .event′ .body) ≤ word 4 rest) × (length filled ≡ length now)
+          → (next ≡ n + 1 + length (this .body)) × (length (this .body) ≤ word 4 rest) × (length filled ≡ length now)
       next-row m em filled next g =
-          let x : Next = coming in
-          let (held, is) = g (event none) (x .event′ .body) (subst (λ (y : ℕ). readRecords (event none) (at + 8) (take (8 + y - 8) (drop 8 rest)) ≡ ok (x .event′ .body)) (sym em) (x .contents)) in
-          (is, omega (arith, few (x .event′ .body), x .size), ap length held ∙ length-stored now (n + 1) (childRows (n + 1) (at + 8) (childrenOf (x .event′ .body))))
+          let x : Shown at rest this = coming in
+          let (held, is) = g (event none) (this .body) (subst (λ (y : ℕ). readRecords (event none) (at + 8) (take (8 + y - 8) (drop 8 rest)) ≡ ok (this .body)) (sym em) (x .contents)) in
+          (is, omega (arith, few (this .body), x .size), ap length held ∙ length-stored now (n + 1) (childRows (n + 1) (at + 8) (childrenOf (this .body))))
 
       pub next-event : (k m : ℕ) → k ≡ word 0 rest → m ≡ word 4 rest → (filled : List ℕ) (next : ℕ)
           → Filled (at + 8) (take (8 + m - 8) (drop 8 rest)) now (n + 1) (n + 1) filled next
@@ -137,8 +122,8 @@ module _ {from : ℕ} {bs rows₀ : List ℕ} {first : ℕ} {now rest : List ℕ
           → FillingEvents from bs rows₀ first now′ (take (length rest - (8 + m)) (drop (8 + m) rest)) (at + (8 + m)) next
       unfolding rowOf rows
       next-event k m ek em filled next g now′ ew =
-          let x : Next = coming in
-          let e : Container = x .event′ in
+          let x : Shown at rest this = coming in
+          let e : Container = this in
           let ch : List Child = childrenOf (e .body) in
           let (held, is) = g (event none) (e .body) (subst (λ (y : ℕ). readRecords (event none) (at + 8) (take (8 + y - 8) (drop 8 rest)) ≡ ok (e .body)) (sym em) (x .contents)) in
           let m-is : 8 + m ≡ 8 + total ch = omega (arith, em, x .size, children-total (e .body)) in

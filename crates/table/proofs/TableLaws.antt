@@ -13,16 +13,12 @@ use Rattle.note.specs.Limits.{rowWidth}
 use Rattle.note.specs.Events.{Container}
 use Rattle.note.specs.Files.{File, configurationOf, eventsOf, readFile}
 use Rattle.note.specs.Rows.{childOf, eventNode, nodesOf, rowsOf, tableAnswer, tableBuffer}
-use Rattle.containers.specs.declared.Count.{Count}
 use Rattle.containers.specs.declared.Count.the-variants.{Good, Bad}
 use Rattle.containers.specs.Counts.{rowsOfEvents, fileRows}
+use Rattle.containers.proofs.FileParts.{file-good, file-bad}
 use Rattle.rows.specs.Buffers.{stored}
-use Rattle.table.specs.Filling.{FillableFile}
 use Rattle.rows.proofs.StoreLaws.{stored-first}
-
-abbrev counted : Count → Type 0
-counted (Good n) = Unit {0}
-counted (Bad c p) = ⊥
+use Rattle.table.specs.Filling.{FillableFile}
 
 events-rows : (es : List Container) → rowCount (map eventNode es) ≡ rowsOfEvents es
 events-rows [] = refl
@@ -33,21 +29,15 @@ rows-counted : (f : File) → length (rowsOf f) ≡ 2 + length (configurationOf 
 unfolding rowsOf nodesOf
 rows-counted f = length-rows 1 0 (nodesOf f) ∙ omega (arith, length-map (configurationOf f .body) childOf, events-rows (eventsOf f))
 
-count-bad : (r : Res File) (c p : ℕ) → Bad c p ≡ fileRows r → r ≡ bad c p
-unfolding fileRows
-count-bad (ok f) c p e = cc
-count-bad (bad c′ p′) c p e = cc
-
-count-good : (r : Res File) (n : ℕ) → Good n ≡ fileRows r → (f : File) × (r ≡ ok f) × (length (rowsOf f) ≡ n)
-unfolding fileRows
-count-good (ok f) n e = let same : 2 + length (configurationOf f .body) + rowsOfEvents (eventsOf f) ≡ n = cc in (f, refl, rows-counted f ∙ same)
-count-good (bad c p) n e = absurd (subst counted e tt)
+-- What check's answer says of the file and its rows.
+rows-good : (r : Res File) (n : ℕ) → Good n ≡ fileRows r → (f : File) × (r ≡ ok f) × (length (rowsOf f) ≡ n)
+rows-good r n e = let (f, q, same) = file-good r n e in (f, q, rows-counted f ∙ same)
 
 module _ (bs old : List ℕ) where
   pub refused : (c p : ℕ) → Bad c p ≡ fileRows (readFile bs)
       → (record { number = c; count = 0; place = p } ≡ tableAnswer bs (length old)) × (old ≡ tableBuffer bs old)
   unfolding tableAnswer tableBuffer
-  refused c p e = let r : readFile bs ≡ bad c p = count-bad (readFile bs) c p e in (rw r, rw r)
+  refused c p e = let r : readFile bs ≡ bad c p = file-bad (readFile bs) c p e in (rw r, rw r)
 
   filled-with : (f : File) → readFile bs ≡ ok f → (n : ℕ) → length (rowsOf f) ≡ n → n ≤ length old / 6 → (new : List ℕ) → new ≡ stored old 0 (rowsOf f)
       → (record { number = 0; count = n; place = length bs } ≡ tableAnswer bs (length old)) × (new ≡ tableBuffer bs old)
@@ -60,14 +50,14 @@ module _ (bs old : List ℕ) where
     pub too-few : length old / 6 < n → (record { number = 12; count = n; place = length bs } ≡ tableAnswer bs (length old)) × (old ≡ tableBuffer bs old)
     unfolding tableAnswer tableBuffer
     too-few h =
-        let (f, r, s) = count-good (readFile bs) n e in
+        let (f, r, s) = rows-good (readFile bs) n e in
         let t = lt-leb (rowWidth * length (rowsOf f)) (length old) (omega (arith, s)) in
         (rw (r, t, s), rw (r, t))
 
     module _ (h : n ≤ length old / 6) where
       pub fillable : FillableFile bs (length old)
-      fillable = let (f, r, s) = count-good (readFile bs) n e in record { file = f; reads = r; fits = omega (arith, s) }
+      fillable = let (f, r, s) = rows-good (readFile bs) n e in record { file = f; reads = r; fits = omega (arith, s) }
 
       pub filled : (new : List ℕ) → ((f : File) → readFile bs ≡ ok f → new ≡ stored old 0 (rowsOf f))
           → (record { number = 0; count = n; place = length bs } ≡ tableAnswer bs (length old)) × (new ≡ tableBuffer bs old)
-      filled new g = let (f, r, s) = count-good (readFile bs) n e in filled-with f r n s h new (g f r)
+      filled new g = let (f, r, s) = rows-good (readFile bs) n e in filled-with f r n s h new (g f r)

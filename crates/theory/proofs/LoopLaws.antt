@@ -6,9 +6,11 @@ use Prim.Native.Nat.{ℕ, zero, suc, _+_, _-_, _≤_, _<_}
 use native.Mathlib.Nat.{not-suc-le-zero}
 use native.Mathlib.Omega.{arith}
 use lib.ListN.{length, drop, length-drop}
+use Rattle.theory.specs.Words.{Bytes}
 use Rattle.theory.specs.Tests.{Res, ok, bad, bind}
+use Rattle.theory.proofs.WordLaws.{Bytes-drop}
 use Rattle.theory.proofs.TestLaws.{ok-inj, bad-ok}
-use Rattle.theory.proofs.Items.{Item, seqs, seq-open, turn}
+use Rattle.theory.proofs.Items.{Item, seqs, seq-open, seq-fuel, turn}
 
 -- what was read before, put in front
 unfoldable pub behind : {A : Type 0} → List A → Res (List A) → Res (List A)
@@ -100,3 +102,28 @@ module _ {S A : Type 0} (F : Item S A) where
       where
         go : (r : Res (List A)) → behind xs r ≡ ok ys → (zs : List A) × (ys ≡ xs ++ zs)
         go r q = behind-ok xs r ys q
+
+  -- A list that is known to be read as items: its first item was read, and what lies behind it is read as the others.
+  pub record Ahead (s : S) (at : ℕ) (bs : List ℕ) (ys : List A) : Type 0 where
+    pub item : A
+    pub others : List A
+    pub splits : ys ≡ item ∷ others
+    pub reads-item : F .read s at bs ≡ ok item
+    pub reads-others : whole (F .step s item) (at + F .size item) (drop (F .size item) bs) ≡ ok others
+
+  pub ahead : (s : S) (at : ℕ) (bs : List ℕ) (ys : List A) → Bytes bs → 0 < length bs → whole s at bs ≡ ok ys → Ahead s at bs ys
+  unfolding behind
+  ahead s at bs ys h l w =
+      let (a, ea) = reads (start s at bs) l ys w in
+      let size : 0 < F .size a = F .some s a (F .sound s at bs a h ea .1) in
+      let (k, f, q) = turned (start s at bs) l in
+      let rest : List ℕ = drop (F .size a) bs in
+      let n : length rest ≡ length bs - F .size a = length-drop (F .size a) bs in
+      go a ea (seqs F k (F .step s a) (at + F .size a) rest)
+      (seq-fuel F (length rest) k (F .step s a) (at + F .size a) rest (omega arith) (omega (arith, n, f, size)) (Bytes-drop (F .size a) bs h))
+      (ap (λ (r : Res A). behind [] (bind r (turn F k s at bs))) (sym ea) ∙ q ∙ w)
+    where
+      go : (a : A) → F .read s at bs ≡ ok a → (r : Res (List A)) → whole (F .step s a) (at + F .size a) (drop (F .size a) bs) ≡ r
+          → behind [] (bind r (λ zs. ok (a ∷ zs))) ≡ ok ys → Ahead s at bs ys
+      go a ea (ok zs) er e = record { item = a; others = zs; splits = sym (ok-inj e); reads-item = ea; reads-others = er }
+      go a ea (bad c p) er e = absurd (bad-ok e)

@@ -12,7 +12,8 @@ use Rattle.note.specs.Files.{File}
 use Rattle.note.specs.Rows.{rowsOf}
 use Rattle.rows.specs.Buffers.{rowOf, stored}
 use Rattle.rows.proofs.StoreLaws.{length-stored}
-use Rattle.table.proofs.FileFillLaws.{version-is, length-is, room, some, fillable, next-is, fillable-events, done}
+use Rattle.containers.proofs.FileParts.{version-is, length-is, room}
+use Rattle.table.proofs.FileFillLaws.{some, fillable, next-is, fillable-events, done}
 use borrow.Author.Needs.{needs}
 use Rattle.table.proofs.fill.Statement.{statement}
 use Rattle.table.proofs.fill.Tie as tie
