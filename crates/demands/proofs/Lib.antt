@@ -9,3 +9,4 @@ pub mod SpotLaws
 pub mod EditLaws
 pub mod EditInFull
 pub mod RewriteLaws
+pub mod RefusalLaws

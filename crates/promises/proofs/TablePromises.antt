@@ -21,7 +21,7 @@ use Rattle.note.specs.Files.{File, readFile}
 use Rattle.note.specs.Rows.{rowsOf, isBox, rowNumbers, flat, fits, tableGiven, tableFilled, tableAnswer, tableBuffer}
 use Rattle.demands.proofs.RowLaws.{rows-inside, rows-tile-file, few-rows-in-file}
 use Rattle.promises.specs.Buffers.{numberAt, rowAt, rowsFrom, tableCount, tableRows, tableRow}
-use Rattle.promises.proofs.RefusalLaws.{refusal-is-numbered}
+use Rattle.demands.proofs.RefusalLaws.{refusal-is-numbered}
 
 -- ---- rows read back
 

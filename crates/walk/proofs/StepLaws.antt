@@ -1,0 +1,202 @@
+-- One law for each way through a step, and the count of structures turn by turn.
+-- The idea: each premise is a test that the code has taken, so the definition computes to the answer.
+use mathlib.Core.Path.{_≡_, refl, sym, ap, _∙_}
+use mathlib.Core.Bool.{Bool, true, false, cond, _&&_, and-eq-true-iff}
+use mathlib.Core.List.{List}
+use Prim.Native.Nat.{ℕ, zero, suc, _+_, _-_, _≤_, _<_}
+use native.Mathlib.Omega.{arith}
+use lib.Dec.{leb, ltb, eqb}
+use lib.ListN.{length, take, drop, length-drop}
+use lib.Seq.{length-take-le}
+use borrow.Author.Tests.{le-leb, lt-leb, lt-ltb, le-ltb, eq-eqb, ne-eqb, leb-true}
+use Rattle.theory.specs.Tests.{Res, ok, bad}
+use Rattle.note.specs.Limits.{fileLimit}
+use Rattle.note.specs.Words.{word}
+use Rattle.note.specs.Files.{File, readFile}
+use Rattle.note.specs.declared.WalkerYield.{WalkerYield}
+use Rattle.note.specs.declared.WalkerYield.the-variants.{Row, End, Refused}
+use Rattle.containers.proofs.RecordLoop.{left}
+use Rattle.containers.proofs.FileParts.{file-good, file-bad}
+use Rattle.containers.specs.declared.Count.the-variants.{Good, Bad}
+use Rattle.containers.specs.Counts.{fileRows}
+use Rattle.rows.specs.Values.{hasValues, valuesOf}
+use Rattle.rows.specs.declared.Values.{Values}
+use Rattle.walk.specs.declared.Spot.{Spot}
+use Rattle.walk.specs.Steps.{stands, countFrom, countIn, containerRow, stayed, ended, refusedAt, moved, headerStep, bodyIn, recordRow, recordStep, containerStep, usable, stepOf, startOf}
+
+-- ---- what stands at the front
+
+pub too-short : (bs : List ℕ) → length bs < 8 → stands bs ≡ false
+unfolding stands
+too-short bs h = rw (lt-leb 8 (length bs) h)
+
+pub long-enough : (bs : List ℕ) → 8 ≤ length bs → stands bs ≡ leb (8 + word 4 bs) (length bs)
+unfolding stands
+long-enough bs h = rw (le-leb 8 (length bs) h)
+
+pub standing : (bs : List ℕ) → stands bs ≡ true → (8 ≤ length bs) × (8 + word 4 bs ≤ length bs)
+unfolding stands
+standing bs e =
+    let (l, m) = and-eq-true-iff (leb 8 (length bs)) (leb (8 + word 4 bs) (length bs)) .0 e in
+    (leb-true 8 (length bs) l, leb-true (8 + word 4 bs) (length bs) m)
+
+-- ---- counting
+
+-- So many structures were counted, and the rest counts on.
+pub record Counting (bs rest : List ℕ) (count : ℕ) : Type 0 where
+  pub fuel : ℕ
+  pub enough : length rest ≤ fuel
+  pub same : count + countFrom fuel rest ≡ countIn bs
+  pub low : count + length rest ≤ length bs
+
+pub begin : (bs : List ℕ) → Counting bs bs 0
+unfolding countIn
+begin bs = record { fuel = length bs; enough = omega arith; same = omega arith; low = omega arith }
+
+module _ {bs rest : List ℕ} {count : ℕ} (i : Counting bs rest count) where
+  pub counted : stands rest ≡ false → count ≡ countIn bs
+  unfolding countFrom
+  counted e = go (i .fuel) (i .same)
+    where
+      go : (f : ℕ) → count + countFrom f rest ≡ countIn bs → count ≡ countIn bs
+      go zero q = omega (arith, q)
+      go (suc f) q = let z : countFrom (suc f) rest ≡ 0 = rw e in omega (arith, q, z)
+
+  pub counts-on : (n : ℕ) → n ≡ word 4 rest → 8 ≤ length rest → 8 + n ≤ length rest → Counting bs (take (length rest - (8 + n)) (drop (8 + n) rest)) (count + 1)
+  unfolding countFrom
+  counts-on n en l h = go (i .fuel) (i .enough) (i .same)
+    where
+      go : (f : ℕ) → length rest ≤ f → count + countFrom f rest ≡ countIn bs → Counting bs (take (length rest - (8 + n)) (drop (8 + n) rest)) (count + 1)
+      go zero m q = absurd (omega arith)
+      go (suc f) m q =
+          let next : List ℕ = take (length rest - (8 + n)) (drop (8 + n) rest) in
+          let same : next ≡ drop (8 + n) rest = sym (left (8 + n) rest) in
+          let size : length next ≡ length rest - (8 + n) = ap length same ∙ length-drop (8 + n) rest in
+          let here : stands rest ≡ true = long-enough rest l ∙ le-leb (8 + word 4 rest) (length rest) (omega (arith, en)) in
+          let step : countFrom (suc f) rest ≡ suc (countFrom f next) = rw (here, same, en) in
+          record { fuel = f; enough = omega (arith, size); same = omega (arith, q, step); low = omega (arith, size, i .low) }
+
+-- No more are counted than there are bytes.
+pub few-counted : (bs : List ℕ) → countIn bs ≤ length bs
+unfolding countIn countFrom
+few-counted bs = go (length bs) bs
+  where
+    more : (b : Bool) (f n : ℕ) → n ≤ f → cond b (suc n) 0 ≤ suc f
+    more true f n h = omega arith
+    more false f n h = omega arith
+
+    go : (f : ℕ) (bs : List ℕ) → countFrom f bs ≤ f
+    go zero bs = omega arith
+    go (suc f) bs = more (stands bs) f (countFrom f (drop (8 + word 4 bs) bs)) (go f (drop (8 + word 4 bs) bs))
+
+-- ---- the steps
+
+pub opens-refused : (bs : List ℕ) (c p : ℕ) → Bad c p ≡ fileRows (readFile bs)
+    → _≡_ {A = Spot} (record { number = c; fault = p; place = 0; end = 0; parent = 0; rows = 0; last = End }) (startOf bs)
+unfolding startOf
+opens-refused bs c p e = rw (file-bad (readFile bs) c p e)
+
+pub opens-accepted : (bs : List ℕ) (n : ℕ) → Good n ≡ fileRows (readFile bs)
+    → _≡_ {A = Spot} (record { number = 0; fault = 0; place = 0; end = 0; parent = 0; rows = 0; last = End }) (startOf bs)
+unfolding startOf
+opens-accepted bs n e = let (f, r, s) = file-good (readFile bs) n e in rw r
+
+module _ (bs : List ℕ) (at : Spot) where
+  pub header-none : length bs < 8 → ended at ≡ headerStep bs at
+  unfolding headerStep
+  header-none h = rw (lt-leb 8 (length bs) h)
+
+  pub header-here : 8 ≤ length bs → (v : ℕ) → v ≡ word 4 bs → moved at 8 8 0 (Row 1 0 8 0 v 0) ≡ headerStep bs at
+  unfolding headerStep
+  header-here h v e = rw (le-leb 8 (length bs) h, e)
+
+  pub record-none : stands bs ≡ false → ended at ≡ recordStep bs at
+  unfolding recordStep
+  record-none e = rw e
+
+  pub container-none : stands bs ≡ false → ended at ≡ containerStep bs at
+  unfolding containerStep
+  container-none e = rw e
+
+  -- the body, as code cuts it
+  pub cut : (n : ℕ) → n ≡ word 4 bs → take (8 + n - 8) (drop 8 bs) ≡ bodyIn bs
+  cut n en = let e : 8 + n - 8 ≡ word 4 bs = omega (arith, en) in ap (λ (m : ℕ). take m (drop 8 bs)) e
+
+  module _ (e : stands bs ≡ true) (k n : ℕ) (ek : k ≡ word 0 bs) (en : n ≡ word 4 bs) where
+    pub fits : 8 + n ≤ length bs
+    fits = omega (arith, en, standing bs e .1)
+
+    pub few-children : (c : ℕ) → c ≡ countIn (take (8 + n - 8) (drop 8 bs)) → c ≤ n
+    few-children c ec =
+        let size : length (bodyIn bs) ≡ word 4 bs = length-take-le (word 4 bs) (drop 8 bs) (omega (arith, length-drop 8 bs, standing bs e .1)) in
+        omega (arith, ec, few-counted (take (8 + n - 8) (drop 8 bs)), ap length (cut n en), size, en)
+
+    pub record-empty : hasValues k (take (8 + n - 8) (drop 8 bs)) ≡ false → ended at ≡ recordStep bs at
+    unfolding recordStep
+    record-empty h = let h′ : hasValues (word 0 bs) (bodyIn bs) ≡ false = rw (ek, cut n en) at h in rw (e, h′)
+
+    pub record-here : hasValues k (take (8 + n - 8) (drop 8 bs)) ≡ true → (v : Values) → v ≡ valuesOf k (take (8 + n - 8) (drop 8 bs))
+        → moved at (at .place + (8 + n)) (at .end) (at .parent) (Row (v .kind) (at .place) (8 + n) (at .parent) (v .one) (v .two)) ≡ recordStep bs at
+    unfolding recordStep
+    record-here h v ev =
+        let h′ : hasValues (word 0 bs) (bodyIn bs) ≡ true = rw (ek, cut n en) at h in
+        let v′ : v ≡ valuesOf (word 0 bs) (bodyIn bs) = rw (ek, cut n en) at ev in
+        rw (e, h′, v′, en)
+
+    pub container-here : (c : ℕ) → c ≡ countIn (take (8 + n - 8) (drop 8 bs)) → (row : WalkerYield) → row ≡ containerRow (at .place) (8 + n) k c
+        → moved at (at .place + 8) (at .place + (8 + n)) (at .rows + 1) row ≡ containerStep bs at
+    unfolding containerStep
+    container-here c ec row er =
+        let c′ : c ≡ countIn (bodyIn bs) = rw (cut n en) at ec in
+        rw (e, er, ek, c′, en)
+
+-- ---- which step it is
+
+module _ (bs : List ℕ) (at : Spot) where
+  pub step-refused : (at .number ≡ 0 → ⊥) → refusedAt at ≡ stepOf bs at
+  unfolding stepOf
+  step-refused n = rw (ne-eqb (at .number) 0 n)
+
+  module _ (z : at .number ≡ 0) where
+    pub step-unusable : usable bs at ≡ false → ended at ≡ stepOf bs at
+    unfolding stepOf
+    step-unusable u = rw (eq-eqb (at .number) 0 z, u)
+
+    pub over-limit : fileLimit < length bs → usable bs at ≡ false
+    unfolding usable
+    over-limit h = rw (lt-leb (length bs) fileLimit h)
+
+    module _ (l : length bs ≤ fileLimit) where
+      pub over-rows : fileLimit < at .rows → usable bs at ≡ false
+      unfolding usable
+      over-rows h = rw (le-leb (length bs) fileLimit l, lt-leb (at .rows) fileLimit h)
+
+      module _ (r : at .rows ≤ fileLimit) where
+        pub over-end : length bs < at .end → usable bs at ≡ false
+        unfolding usable
+        over-end h = rw (le-leb (length bs) fileLimit l, le-leb (at .rows) fileLimit r, lt-leb (at .end) (length bs) h)
+
+        module _ (e : at .end ≤ length bs) where
+          pub over-place : length bs < at .place → usable bs at ≡ false
+          unfolding usable
+          over-place h = rw (le-leb (length bs) fileLimit l, le-leb (at .rows) fileLimit r, le-leb (at .end) (length bs) e, lt-leb (at .place) (length bs) h)
+
+          module _ (p : at .place ≤ length bs) where
+            used : usable bs at ≡ true
+            unfolding usable
+            used = rw (le-leb (length bs) fileLimit l, le-leb (at .rows) fileLimit r, le-leb (at .end) (length bs) e, le-leb (at .place) (length bs) p)
+
+            pub step-header : at .place ≡ 0 → headerStep bs at ≡ stepOf bs at
+            unfolding stepOf
+            step-header h = rw (eq-eqb (at .number) 0 z, used, eq-eqb (at .place) 0 h)
+
+            module _ (h : at .place ≡ 0 → ⊥) where
+              pub step-record : at .place < at .end → recordStep (take (at .end - at .place) (drop (at .place) bs)) at ≡ stepOf bs at
+              unfolding stepOf
+              step-record m = rw (eq-eqb (at .number) 0 z, used, ne-eqb (at .place) 0 h, lt-ltb (at .place) (at .end) m)
+
+              pub step-container : at .end ≤ at .place → containerStep (take (length bs - at .place) (drop (at .place) bs)) at ≡ stepOf bs at
+              unfolding stepOf
+              step-container m =
+                  let all : take (length bs - at .place) (drop (at .place) bs) ≡ drop (at .place) bs = sym (left (at .place) bs) in
+                  rw (eq-eqb (at .number) 0 z, used, ne-eqb (at .place) 0 h, le-ltb (at .place) (at .end) m, all)

@@ -1,0 +1,76 @@
+-- The loop counts turn by turn.
+-- The idea: so many were counted, and the rest counts on (Counting).
+use borrow.Author.Needs.{needs}
+use mathlib.Core.Path.{_≡_, sym, _∙_}
+use Prim.Native.Nat.{_+_}
+use native.Mathlib.Omega.{arith}
+use borrow.Author.Tests.{lt-leb}
+use denote.Ref.{now}
+use lib.ListN.{length}
+use Rattle.walk.proofs.StepLaws.{Counting, begin, counted, counts-on, too-short, long-enough}
+use Rattle.walk.proofs.count_in.Statement.{statement}
+use Rattle.walk.proofs.count_in.Tie as tie
+use Rattle.walk.proofs.count_in.Reads as reads
+use Rattle.walk.proofs.count_in.Lts as lts
+use Rattle.words.proofs.word_at.Reads as word-at-reads
+
+abbrev Inv-loop : tie.InvT-loop
+Inv-loop part rest₀ count₀ rest count = Counting part rest count
+
+abbrev μ-loop : tie.MeasureT-loop
+μ-loop part rest₀ count₀ rest count = length rest
+
+loop-holds : tie.Need-loop-holds Inv-loop μ-loop
+loop-holds c = begin (now (c .before .args .part))
+
+word-at-requires : tie.Need-word-at-requires Inv-loop μ-loop
+word-at-requires c κs = omega (arith, c .loop-test .taken)
+
+cast-size : tie.Need-cast-size Inv-loop μ-loop
+cast-size c = search needs
+
+add-size : tie.Need-add-size Inv-loop μ-loop
+add-size c = search needs
+
+returns : tie.Need-returns Inv-loop μ-loop
+returns c = counted (c .before .before .before .loop .inv) (long-enough (now (c .before .before .before .loop .rest)) (c .before .before .loop-test .taken) ∙ rw (← c .before .word-at .ensures) (lt-leb (8 + c .before .word-at .result) (length (now (c .before .before .before .loop .rest))) (c .if1 .taken)))
+
+sub-rest : tie.Need-sub-rest Inv-loop μ-loop
+sub-rest c = search needs
+
+part-rest-start : tie.Need-part-rest-start Inv-loop μ-loop
+part-rest-start c = search needs
+
+part-rest-end : tie.Need-part-rest-end Inv-loop μ-loop
+part-rest-end c = search needs
+
+add-count : tie.Need-add-count Inv-loop μ-loop
+add-count c = search needs
+
+loop-less : tie.Need-loop-less Inv-loop μ-loop
+loop-less c = search needs
+
+loop-again : tie.Need-loop-again Inv-loop μ-loop
+loop-again c = counts-on (c .before .before .before .before .loop .inv) (c .before .before .word-at .result) (c .before .before .word-at .ensures) (c .before .before .before .loop-test .taken) (c .before .if1 .left)
+
+returns-2 : tie.Need-returns-2 Inv-loop μ-loop
+returns-2 c = counted (c .before .loop .inv) (too-short (now (c .before .loop .rest)) (c .loop-test .left))
+
+pub count-in-spec : {M : Type 1} → statement M
+count-in-spec =
+    tie.close
+    (tie.spec
+    Inv-loop
+    μ-loop
+    loop-holds
+    word-at-requires
+    cast-size
+    add-size
+    returns
+    sub-rest
+    part-rest-start
+    part-rest-end
+    add-count
+    loop-less
+    loop-again
+    returns-2)

@@ -1,0 +1,100 @@
+-- Document 01, 'Rows and calls', Walker: where a walk stands, what it yields there, and where it goes. Defined for any numbers; that
+-- from opening on the yields are the table's rows, and then the end, is proved (proofs/WalkTheorem.antt).
+use Prim.Native.Nat.{ℕ, zero, suc, _+_, _-_, _%_}
+use mathlib.Core.Bool.{Bool, true, false, cond, not, _&&_}
+use mathlib.Core.List.{List}
+use lib.Dec.{leb, ltb, eqb}
+use lib.ListN.{length, take, drop}
+use Rattle.theory.specs.Tests.{Res, ok, bad}
+use Rattle.note.specs.Limits.{fileLimit}
+use Rattle.note.specs.Words.{word}
+use Rattle.note.specs.Files.{File, readFile}
+use Rattle.note.specs.declared.WalkerYield.{WalkerYield}
+use Rattle.note.specs.declared.WalkerYield.the-variants.{Row, End, Refused}
+use Rattle.rows.specs.Values.{hasValues, valuesOf}
+use Rattle.walk.specs.declared.Spot.{Spot}
+
+-- A structure's two words stand at the front of the bytes, and its length lies within them.
+unfoldable pub stands : List ℕ → Bool
+stands bs = leb 8 (length bs) && leb (8 + word 4 bs) (length bs)
+
+-- Structures back to back, by their length words alone; the first number only bounds the steps.
+unfoldable pub countFrom : ℕ → List ℕ → ℕ
+countFrom zero bs = 0
+countFrom (suc f) bs = cond (stands bs) (suc (countFrom f (drop (8 + word 4 bs) bs))) 0
+
+unfoldable pub countIn : List ℕ → ℕ
+countIn bs = countFrom (length bs) bs
+
+-- "Configuration .. at byte 8": its row and an event's.
+unfoldable pub containerRow : ℕ → ℕ → ℕ → ℕ → WalkerYield
+containerRow place whole w count = cond (eqb place 8) (Row 2 8 whole 0 count 0) (Row 5 place whole 0 (w % 65536) count)
+
+-- The walk stays where it is; it yields the end, or the file's refusal.
+unfoldable pub stayed : Spot → WalkerYield → Spot
+stayed at y = record { number = at .number; fault = at .fault; place = at .place; end = at .end; parent = at .parent; rows = at .rows; last = y }
+
+abbrev pub ended : Spot → Spot
+ended at = stayed at End
+
+abbrev pub refusedAt : Spot → Spot
+refusedAt at = stayed at (Refused (at .number) (at .fault))
+
+-- It moves on, one row further, and yields that row.
+abbrev pub moved : Spot → ℕ → ℕ → ℕ → WalkerYield → Spot
+moved at place end parent row = record { number = at .number; fault = at .fault; place = place; end = end; parent = parent; rows = at .rows + 1; last = row }
+
+-- The header's row; a record's, at the front of what is left of its container; a container's, of what is left of the file.
+unfoldable pub headerStep : List ℕ → Spot → Spot
+headerStep bs at = cond (leb 8 (length bs)) (moved at 8 8 0 (Row 1 0 8 0 (word 4 bs) 0)) (ended at)
+
+abbrev pub bodyIn : List ℕ → List ℕ
+bodyIn bs = take (word 4 bs) (drop 8 bs)
+
+abbrev pub recordRow : List ℕ → Spot → WalkerYield
+recordRow bs at =
+    Row (valuesOf (word 0 bs) (bodyIn bs) .kind) (at .place) (8 + word 4 bs) (at .parent)
+    (valuesOf (word 0 bs) (bodyIn bs) .one) (valuesOf (word 0 bs) (bodyIn bs) .two)
+
+unfoldable pub recordStep : List ℕ → Spot → Spot
+recordStep bs at =
+    cond (stands bs)
+    (cond (hasValues (word 0 bs) (bodyIn bs)) (moved at (at .place + (8 + word 4 bs)) (at .end) (at .parent) (recordRow bs at)) (ended at))
+    (ended at)
+
+unfoldable pub containerStep : List ℕ → Spot → Spot
+containerStep bs at =
+    cond (stands bs)
+    (moved at (at .place + 8) (at .place + (8 + word 4 bs)) (at .rows + 1) (containerRow (at .place) (8 + word 4 bs) (word 0 bs) (countIn (bodyIn bs))))
+    (ended at)
+
+-- Numbers that a walk over this file can have.
+unfoldable pub usable : List ℕ → Spot → Bool
+usable bs at = leb (length bs) fileLimit && (leb (at .rows) fileLimit && (leb (at .end) (length bs) && leb (at .place) (length bs)))
+
+-- One step. "Over a refused file it yields that refusal each time."
+unfoldable pub stepOf : List ℕ → Spot → Spot
+stepOf bs at =
+    cond (eqb (at .number) 0)
+    (cond (usable bs at)
+    (cond (eqb (at .place) 0) (headerStep bs at)
+    (cond (ltb (at .place) (at .end)) (recordStep (take (at .end - at .place) (drop (at .place) bs)) at)
+    (containerStep (drop (at .place) bs) at)))
+    (ended at))
+    (refusedAt at)
+
+-- Where a walk starts, and its first yield: "walkers come only from opening a file and from yields".
+abbrev pub startGiven : Res File → Spot
+startGiven (ok f) = record { number = 0; fault = 0; place = 0; end = 0; parent = 0; rows = 0; last = End }
+startGiven (bad c p) = record { number = c; fault = p; place = 0; end = 0; parent = 0; rows = 0; last = End }
+
+unfoldable pub startOf : List ℕ → Spot
+startOf bs = startGiven (readFile bs)
+
+unfoldable pub openedOf : List ℕ → Spot
+openedOf bs = stepOf bs (startOf bs)
+
+-- k steps on.
+unfoldable pub stepsFrom : List ℕ → ℕ → Spot → Spot
+stepsFrom bs zero at = at
+stepsFrom bs (suc k) at = stepsFrom bs k (stepOf bs at)

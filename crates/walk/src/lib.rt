@@ -1,0 +1,239 @@
+// A walk over a file by steps: where it stands is plain numbers beside the lent slice, and any numbers are taken. The file is checked
+// where a walk starts; a step then reads its own structure, and a container's passes over its children by their length words.
+use containers::Count;
+use containers::check;
+use note::WalkerYield;
+use rows::has_values;
+use rows::values_in;
+use words::word_at;
+ghost use mathlib.Core.Path.{_≡_};
+ghost use Prim.Native.Nat.{_+_, _≤_};
+ghost use lib.ListN.{length};
+ghost use Rattle.walk.specs.Steps.{stands, countIn, containerRow, stayed, headerStep, recordStep, containerStep, stepOf, startOf, openedOf};
+
+/// Where a walk stands: the file's refusal (number 0: accepted) and its place, the next byte, the end of the container that it is in,
+/// that container's row number, the rows so far, and what was yielded last.
+pub struct Spot {
+    pub number: u32,
+    pub fault: usize,
+    pub place: usize,
+    pub end: usize,
+    pub parent: u32,
+    pub rows: u32,
+    pub last: WalkerYield,
+}
+
+// Whether a structure's two words stand at the front of a part, and its length lies within it.
+fn stands(part: &[u8]) -> bool
+    ensures { λ r. ⌜ r ≡ stands (now (part .entry)) ⌝ }
+{
+    if part.len() < 8 {
+        return false;
+    }
+    8 + word_at(part, 4) as usize <= part.len()
+}
+
+// How many structures stand back to back in a part, by their length words.
+fn count_in(part: &[u8]) -> usize
+    ensures { λ r. ⌜ r ≡ countIn (now (part .entry)) ⌝ }
+{
+    let mut rest = part;
+    let mut count = 0;
+    while 8 <= rest.len() {
+        let size = 8 + word_at(rest, 4) as usize;
+        if rest.len() < size {
+            return count;
+        }
+        rest = &rest[size..];
+        count = count + 1;
+    }
+    count
+}
+
+// The row of a container: the configuration stands at byte 8, an event anywhere else.
+fn container_row(place: usize, whole: u32, word: u32, count: u32) -> WalkerYield
+    requires { ⌜ place ≤ 0x1000000 ⌝ }
+    ensures { λ r. ⌜ r ≡ containerRow place whole word count ⌝ }
+{
+    if place == 8 {
+        return WalkerYield::Row {
+            kind: 2,
+            start: 8,
+            whole,
+            parent: 0,
+            one: count,
+            two: 0,
+        };
+    }
+    WalkerYield::Row {
+        kind: 5,
+        start: place as u32,
+        whole,
+        parent: 0,
+        one: word % 65536,
+        two: count,
+    }
+}
+
+// The walk where it is, with another yield.
+fn stayed(at: Spot, last: WalkerYield) -> Spot
+    ensures { λ r. ⌜ r ≡ stayed at last ⌝ }
+{
+    Spot {
+        number: at.number,
+        fault: at.fault,
+        place: at.place,
+        end: at.end,
+        parent: at.parent,
+        rows: at.rows,
+        last,
+    }
+}
+
+// The header's step.
+fn header_step(file: &[u8], at: Spot) -> Spot
+    requires { ⌜ at .rows ≤ 0x1000000 ⌝ }
+    ensures { λ r. ⌜ r ≡ headerStep (now (file .entry)) at ⌝ }
+{
+    if file.len() < 8 {
+        return stayed(at, WalkerYield::End);
+    }
+    Spot {
+        number: at.number,
+        fault: at.fault,
+        place: 8,
+        end: 8,
+        parent: 0,
+        rows: at.rows + 1,
+        last: WalkerYield::Row {
+            kind: 1,
+            start: 0,
+            whole: 8,
+            parent: 0,
+            one: word_at(file, 4),
+            two: 0,
+        },
+    }
+}
+
+// A record's step, at the front of what is left of its container.
+fn record_step(part: &[u8], at: Spot) -> Spot
+    requires { ⌜ (at .place + length (now part) ≤ 0x1000000) × (at .rows ≤ 0x1000000) ⌝ }
+    ensures { λ r. ⌜ r ≡ recordStep (now (part .entry)) at ⌝ }
+{
+    if !stands(part) {
+        return stayed(at, WalkerYield::End);
+    }
+    let kind = word_at(part, 0);
+    let size = 8 + word_at(part, 4) as usize;
+    if !has_values(kind, &part[8..size]) {
+        return stayed(at, WalkerYield::End);
+    }
+    let v = values_in(kind, &part[8..size]);
+    Spot {
+        number: at.number,
+        fault: at.fault,
+        place: at.place + size,
+        end: at.end,
+        parent: at.parent,
+        rows: at.rows + 1,
+        last: WalkerYield::Row {
+            kind: v.kind,
+            start: at.place as u32,
+            whole: size as u32,
+            parent: at.parent,
+            one: v.one,
+            two: v.two,
+        },
+    }
+}
+
+// A configuration's or an event's step, at the front of what is left of the file.
+fn container_step(part: &[u8], at: Spot) -> Spot
+    requires { ⌜ (at .place + length (now part) ≤ 0x1000000) × (at .rows ≤ 0x1000000) ⌝ }
+    ensures { λ r. ⌜ r ≡ containerStep (now (part .entry)) at ⌝ }
+{
+    if !stands(part) {
+        return stayed(at, WalkerYield::End);
+    }
+    let size = 8 + word_at(part, 4) as usize;
+    let count = count_in(&part[8..size]);
+    let row = container_row(at.place, size as u32, word_at(part, 0), count as u32);
+    Spot {
+        number: at.number,
+        fault: at.fault,
+        place: at.place + 8,
+        end: at.place + size,
+        parent: at.rows + 1,
+        rows: at.rows + 1,
+        last: row,
+    }
+}
+
+/// One step: the row at the spot is yielded and the walk moves on; at the end and over a refused file it stays.
+pub fn step(file: &[u8], at: Spot) -> Spot
+    ensures { λ r. ⌜ r ≡ stepOf (now (file .entry)) at ⌝ }
+{
+    let room = file.len();
+    let place = at.place;
+    let end = at.end;
+    if at.number != 0 {
+        let refusal = WalkerYield::Refused {
+            number: at.number,
+            place: at.fault,
+        };
+        return stayed(at, refusal);
+    }
+    if 0x1000000 < room {
+        return stayed(at, WalkerYield::End);
+    }
+    if 0x1000000 < at.rows {
+        return stayed(at, WalkerYield::End);
+    }
+    if room < end {
+        return stayed(at, WalkerYield::End);
+    }
+    if room < place {
+        return stayed(at, WalkerYield::End);
+    }
+    if place == 0 {
+        return header_step(file, at);
+    }
+    if place < end {
+        return record_step(&file[place..end], at);
+    }
+    container_step(&file[place..], at)
+}
+
+/// Where a walk over a file starts: the whole file is checked, once.
+pub fn start(file: &[u8]) -> Spot
+    ensures { λ r. ⌜ r ≡ startOf (now (file .entry)) ⌝ }
+{
+    match check(file) {
+        Count::Bad { number, place } => Spot {
+            number,
+            fault: place,
+            place: 0,
+            end: 0,
+            parent: 0,
+            rows: 0,
+            last: WalkerYield::End,
+        },
+        Count::Good { count: _ } => Spot {
+            number: 0,
+            fault: 0,
+            place: 0,
+            end: 0,
+            parent: 0,
+            rows: 0,
+            last: WalkerYield::End,
+        },
+    }
+}
+
+/// A walk at its first yield.
+pub fn opened(file: &[u8]) -> Spot
+    ensures { λ r. ⌜ r ≡ openedOf (now (file .entry)) ⌝ }
+{
+    step(file, start(file))
+}
