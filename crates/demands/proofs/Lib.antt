@@ -10,3 +10,5 @@ pub mod EditLaws
 pub mod EditInFull
 pub mod RewriteLaws
 pub mod RefusalLaws
+pub mod OutputLaws
+pub mod WriterLaws

@@ -68,7 +68,7 @@ found-from bs before rest r l e q =
     (ap (λ (x : List ℕ). readRecord alone (length before) (drop (length before) x)) e
     ∙ ap (readRecord alone (length before)) (drop-at before rest (length before) refl) ∙ q)
 
-reads-record : (c : Context) (r : Record) (at : ℕ) (rest : List ℕ) → ValidRecord c r → readRecord alone at (recordBytes r ++ rest) ≡ ok r
+pub reads-record : (c : Context) (r : Record) (at : ℕ) (rest : List ℕ) → ValidRecord c r → readRecord alone at (recordBytes r ++ rest) ≡ ok r
 reads-record c r at rest v = same-record alone at (recordBytes r ++ rest) ∙ recordItem .complete alone at r rest (record-ok alone r (valid-alone c r v))
 
 -- a structure of a kind that no record has

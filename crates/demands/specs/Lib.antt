@@ -1,4 +1,6 @@
 pub mod Valid
+pub mod Pieces
+pub mod Outputs
 pub mod FirstFault
 pub mod RowRecords
 pub mod Edited

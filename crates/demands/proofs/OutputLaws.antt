@@ -1,0 +1,93 @@
+-- What an output is made of after a call: bytes put where they have room, bytes behind bytes, bytes around bytes; a refusal changes none.
+-- The idea: before, here and behind determine a list, so outputs of calls one after the other are put together without a look at a byte.
+use mathlib.Core.Path.{_≡_, refl, sym, ap, ap₂, _∙_}
+use mathlib.Core.List.{List, [], _++_, append-assoc}
+use Prim.Native.Nat.{ℕ, _+_, _≤_}
+use native.Mathlib.Omega.{arith}
+use lib.Dec.{leb}
+use lib.ListN.{length, take, drop, length-append, length-drop, take-append-drop}
+use lib.Seq.{take-at, drop-at, drop-drop, length-take-le}
+use Rattle.theory.specs.Tests.{Res, ok, bad, unless}
+use Rattle.theory.proofs.TestLaws.{need-ok, most-passed, ok-inj}
+use Rattle.note.specs.Limits.{fileLimit}
+use Rattle.note.specs.Writers.{wrote, written}
+use Rattle.demands.specs.Outputs.{Laid}
+
+-- ---- what an output is made of
+
+module _ (old new : List ℕ) (place next : ℕ) (bytes : List ℕ) (l : Laid old new place next bytes) where
+  -- From the place on: the bytes, and what stood behind.
+  pub laid-from : drop place new ≡ bytes ++ drop next old
+  laid-from =
+      sym (take-append-drop (length bytes) (drop place new))
+      ∙ ap₂ (λ (x y : List ℕ). x ++ y) (l .here) (drop-drop (length bytes) place new ∙ ap (λ (n : ℕ). drop n new) (sym (l .ends)) ∙ l .behind)
+
+  pub laid-is : new ≡ take place old ++ (bytes ++ drop next old)
+  laid-is = sym (take-append-drop place new) ∙ ap₂ (λ (x y : List ℕ). x ++ y) (l .before) laid-from
+
+-- Bytes put into the output where they have room.
+pub put-laid : (old bytes : List ℕ) (place next : ℕ) → place + length bytes ≤ length old
+    → Laid old (written (ok next) old place bytes) place (place + length bytes) bytes
+unfolding written
+put-laid old bytes place next room =
+    let n : ℕ = length bytes in
+    let rest : List ℕ = drop (place + n) old in
+    let new : List ℕ = take place old ++ (bytes ++ rest) in
+    let front : length (take place old) ≡ place = length-take-le place old (omega arith) in
+    let from : drop place new ≡ bytes ++ rest = drop-at (take place old) (bytes ++ rest) place front in
+    record {
+      before = take-at (take place old) (bytes ++ rest) place front;
+      here = ap (take n) from ∙ take-at bytes rest n refl;
+      behind = sym (drop-drop n place new) ∙ ap (drop n) from ∙ drop-at bytes rest n refl;
+      ends = refl;
+      size = omega (arith, length-append (take place old) (bytes ++ rest), length-append bytes rest, length-drop (place + n) old, front);
+    }
+
+-- Nothing written.
+pub none-laid : (old : List ℕ) (place : ℕ) → Laid old old place place []
+none-laid old place = record { before = refl; here = refl; behind = refl; ends = omega arith; size = refl }
+
+-- Bytes behind bytes.
+pub both-laid : (old mid new a b : List ℕ) (p q r : ℕ) → q ≤ length old → Laid old mid p q a → Laid mid new q r b → Laid old new p r (a ++ b)
+both-laid old mid new a b p q r room x y =
+    let ends : q ≡ p + length a = x .ends in
+    let last : r ≡ q + length b = y .ends in
+    let sum : length (a ++ b) ≡ length a + length b = length-append a b in
+    let low : p ≤ q = omega arith in
+    let past : drop r mid ≡ drop r old =
+    ap (λ (n : ℕ). drop n mid) last ∙ sym (drop-drop (length b) q mid) ∙ ap (drop (length b)) (x .behind) ∙ drop-drop (length b) q old ∙ ap (λ (n : ℕ). drop n old) (sym last) in
+    let kept : take q mid ≡ take p old ++ a =
+    ap (take q) (laid-is old mid p q a x ∙ sym (append-assoc (take p old) a (drop q old)))
+    ∙ take-at (take p old ++ a) (drop q old) q (omega (arith, length-append (take p old) a, length-take-le p old (omega arith))) in
+    let is : new ≡ take p old ++ ((a ++ b) ++ drop r old) =
+    laid-is mid new q r b y ∙ ap₂ (λ (s t : List ℕ). s ++ (b ++ t)) kept past ∙ simp append-assoc in
+    let from : drop p new ≡ (a ++ b) ++ drop r old =
+    ap (drop p) is ∙ drop-at (take p old) ((a ++ b) ++ drop r old) p (length-take-le p old (omega arith)) in
+    record {
+      before = ap (take p) is ∙ take-at (take p old) ((a ++ b) ++ drop r old) p (length-take-le p old (omega arith));
+      here = ap (take (length (a ++ b))) from ∙ take-at (a ++ b) (drop r old) (length (a ++ b)) refl;
+      behind = y .behind ∙ past;
+      ends = omega arith;
+      size = y .size ∙ x .size;
+    }
+
+-- ---- what an accepted writer says
+
+pub record Granted (n place fault size next : ℕ) : Type 0 where
+  pub limit : n ≤ fileLimit
+  pub fine : fault ≡ 0
+  pub room : place + size ≤ n
+  pub is : place + size ≡ next
+
+pub granted : (n place fault size next : ℕ) → wrote n place fault size ≡ ok next → Granted n place fault size next
+unfolding wrote
+granted n place fault size next e =
+    let (l, e1) = need-ok (unless (leb n fileLimit) 1) 0 _ e in
+    let (f, e2) = need-ok fault place _ e1 in
+    let (r, e3) = need-ok (unless (leb (place + size) n) 13) place _ e2 in
+    record { limit = most-passed n fileLimit 0 l; fine = f; room = most-passed (place + size) n 12 r; is = ok-inj e3 }
+
+-- A refusal leaves the output as it was, whichever call gave it.
+pub refusal-keeps : (r : Res ℕ) (out bytes : List ℕ) (place c p : ℕ) → r ≡ bad c p → written r out place bytes ≡ out
+unfolding written
+refusal-keeps r out bytes place c p e = rw e

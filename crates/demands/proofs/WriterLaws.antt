@@ -1,0 +1,282 @@
+-- What a writer wrote, Record reads back the same, at that place, for every kind; all else in the output stays.
+-- The idea: the bytes at the place are those of a record that is valid alone; what the fields show is each kind's own round trip.
+use mathlib.Core.Path.{_≡_, refl, sym, ap, ap₂, _∙_, subst}
+use mathlib.Core.Bool.{true}
+use mathlib.Core.List.{List, [], _∷_, _++_, append-assoc}
+use Prim.Native.Nat.{ℕ, _+_, _-_, _*_, _≤_}
+use native.Mathlib.Omega.{arith}
+use native.Mathlib.Decide.{decLe}
+use lib.ListN.{length, take, drop, length-drop, take-append-drop, drop-of-length-le}
+use lib.Seq.{take-at, drop-drop, drop-append-le, take-nil}
+use borrow.Author.Tests.{le-leb}
+use Rattle.theory.specs.Words.{Bytes, Fits, put}
+use Rattle.theory.specs.Tests.{Res, ok, bad}
+use Rattle.theory.proofs.WordLaws.{Bytes-puts, Bytes-append}
+use Rattle.theory.proofs.StructureLaws.{length-structure, drop-two}
+use Rattle.note.specs.Limits.{fileLimit}
+use Rattle.note.specs.Words.{order, word, words}
+use Rattle.note.specs.Kinds.{Kind}
+use Rattle.note.specs.Phonon.{Phonon, phononKind, phononBytes}
+use Rattle.note.specs.Charge.{Charge, chargeKind, chargeBytes}
+use Rattle.note.specs.Administrative.{Administrative, administrativeKind, administrativeBytes}
+use Rattle.note.specs.Trace.{Trace, traceKind, traceWords, traceBytes, traceOf}
+use Rattle.note.specs.History.{Section, History, historyKind, widthAt, widthOf, after, triggerAt, sectionOf, historyOf, sectionBytes, historyBytes, historyFault, sectionValues}
+use Rattle.note.specs.Gps.{Gps, gpsKind, gpsBytes}
+use Rattle.note.specs.Trigger.{Trigger, triggerKind, triggerBytes}
+use Rattle.note.specs.Tlb.{Tlb, tlbKind, tlbBytes}
+use Rattle.note.specs.Records.{Record, alone, isKind, isAllowed, kindOf, recordBytes, recordRule, readRecord}
+use Rattle.note.specs.Files.{versionWord, headerBytes}
+use Rattle.note.specs.Writers.{Written, wrapped, recordWrote, recordOutput, headerWrote, headerOutput, phononWritten, chargeWritten, administrativeWritten, traceWritten, historyWritten, gpsWritten, triggerWritten, tlbWritten}
+use Rattle.note.specs.Answers.{Value, accepted, count, counts}
+use Rattle.note.specs.Calls.{recordFound, recordGiven, recordAt, partGiven, samplesPart, samplesAt}
+use Rattle.note.proofs.FieldLaws.{phonon-read-back, charge-read-back, administrative-read-back, trigger-read-back, tlb-read-back}
+use Rattle.note.proofs.TraceLaws.{TraceFits, trace-read-back, trace-length}
+use Rattle.note.proofs.HistoryLaws.{history-read-back}
+use Rattle.note.proofs.GpsLaws.{gps-read-back}
+use Rattle.demands.specs.Valid.{ValidRecord}
+use Rattle.demands.specs.Pieces.{Piece, phonon, charge, administrative, trace, history, gps, trigger, tlb, writtenOf, ofKind, recordOf, SectionFits, PieceFits, timesFrom, masksFrom, sectionAnswer, sectionSize, vetoFrom, triggerFrom, answerOf}
+use Rattle.demands.specs.Outputs.{Laid, SectionStands}
+use Rattle.demands.proofs.Bundles.{headerItem}
+use Rattle.demands.proofs.RecordLaws.{reads-record}
+use Rattle.demands.proofs.OutputLaws.{laid-from, put-laid, Granted, granted, refusal-keeps}
+
+-- ---- one record
+
+module _ (out : List ℕ) (place next : ℕ) (w : Written) (e : recordWrote out place w ≡ ok next) where
+  pub record-granted : Granted (length out) place (w .fault) (length (w .bytes)) next
+  unfolding recordWrote
+  record-granted = granted (length out) place (w .fault) (length (w .bytes)) next e
+
+  -- "Output bytes that the written structure doesn't occupy .. stay."
+  pub record-laid : Laid out (recordOutput out place w) place next (w .bytes)
+  unfolding recordOutput
+  record-laid =
+      let g = record-granted in
+      rw (e, ← g .is) (put-laid out (w .bytes) place (place + length (w .bytes)) (g .room))
+
+-- "A refusal changes no byte of a lent buffer."
+pub record-refused : (out : List ℕ) (place : ℕ) (w : Written) (c p : ℕ) → recordWrote out place w ≡ bad c p → recordOutput out place w ≡ out
+unfolding recordOutput
+record-refused out place w c p e = refusal-keeps (recordWrote out place w) out (w .bytes) place c p e
+
+-- ---- the header
+
+pub header-laid : (out : List ℕ) (major minor next : ℕ) → headerWrote out ≡ ok next → Laid out (headerOutput out major minor) 0 next (headerBytes (versionWord major minor))
+unfolding headerWrote headerOutput
+header-laid out major minor next e =
+    let g = granted (length out) 0 0 8 next e in
+    let v : ℕ = versionWord major minor in
+    let eight : 8 ≡ length (headerBytes v) = headerItem .sizes v in
+    let is : 0 + length (headerBytes v) ≡ next = ap (λ (n : ℕ). 0 + n) (sym eight) ∙ g .is in
+    rw (e, ← is) (put-laid out (headerBytes v) 0 (0 + length (headerBytes v)) (omega (arith, eight, g .room)))
+
+pub header-refused : (out : List ℕ) (major minor c p : ℕ) → headerWrote out ≡ bad c p → headerOutput out major minor ≡ out
+unfolding headerOutput
+header-refused out major minor c p e = refusal-keeps (headerWrote out) out (headerBytes (versionWord major minor)) 0 c p e
+
+-- ---- any record is found
+
+-- A writer's way to write the record r: its bytes, and, where the fields have no fault, a body that follows the kind's rule.
+pub record Writes (w : Written) (r : Record) : Type 0 where
+  pub bytes-are : w .bytes ≡ recordBytes r
+  pub kind-known : isKind alone (r .kind) ≡ true
+  pub kind-fits : Fits 4 (r .kind)
+  pub body-bytes : Bytes (r .body)
+  pub body-rule : w .fault ≡ 0 → recordRule (r .kind) (r .body) ≡ 0
+
+-- What any writer wrote, Record finds there.
+module _ (out : List ℕ) (place next : ℕ) (w : Written) (r : Record) (h : Writes w r) (e : recordWrote out place w ≡ ok next) where
+  pub written-valid : ValidRecord alone r
+  unfolding isAllowed
+  written-valid =
+      let g = record-granted out place next w e in
+      let size : length (w .bytes) ≡ 8 + length (r .body) = ap length (h .bytes-are) ∙ length-structure order (λ (b : List ℕ). b) r in
+      record {
+        kind-allowed = h .kind-known;
+        place-allowed = refl;
+        kind-fits = h .kind-fits;
+        length-fits = omega (arith, g .limit, g .room);
+        body-bytes = h .body-bytes;
+        body-rule = h .body-rule (g .fine);
+      }
+
+  pub written-from : drop place (recordOutput out place w) ≡ recordBytes r ++ drop next out
+  written-from = laid-from out _ place next (w .bytes) (record-laid out place next w e) ∙ ap (λ (x : List ℕ). x ++ drop next out) (h .bytes-are)
+
+  pub record-found : recordFound (recordOutput out place w) place ≡ ok r
+  unfolding recordFound
+  record-found =
+      let g = record-granted out place next w e in
+      let l = record-laid out place next w e in
+      let limit : length (recordOutput out place w) ≤ fileLimit = omega (arith, l .size, g .limit) in
+      rw (le-leb (length (recordOutput out place w)) fileLimit limit)
+      (ap (readRecord alone place) written-from ∙ reads-record alone r place (drop next out) written-valid)
+
+  -- Its body stands eight bytes further on.
+  pub body-from : drop (place + 8) (recordOutput out place w) ≡ r .body ++ drop next out
+  body-from =
+      let n : ℕ = length (r .body) in
+      let rest : List ℕ = drop next out in
+      sym (drop-drop 8 place (recordOutput out place w))
+      ∙ ap (drop 8) (written-from ∙ append-assoc (put order 4 (r .kind)) _ rest ∙ ap (λ (x : List ℕ). put order 4 (r .kind) ++ x) (append-assoc (put order 4 n) (r .body) rest))
+      ∙ drop-two order (r .kind) n (r .body ++ rest)
+
+-- ---- the eight kinds
+
+-- A kind that its word names, around a body.
+writes : (k : Kind) (body : List ℕ) (fault : ℕ) → kindOf (k .word) ≡ k → isKind alone (k .word) ≡ true → Fits 4 (k .word) → Bytes body
+    → (fault ≡ 0 → k .rule body ≡ 0) → Writes (record { fault = fault; bytes = wrapped k body }) (ofKind k body)
+writes k body fault named known fits bytes follows = record {
+  bytes-are = refl;
+  kind-known = known;
+  kind-fits = fits;
+  body-bytes = bytes;
+  body-rule = λ e. ap (λ (x : Kind). x .rule body) named ∙ follows e;
+}
+
+section-bytes : (s : Section) → SectionFits s → Bytes (sectionBytes s)
+unfolding sectionBytes
+section-bytes s h =
+    Bytes-append (words (s .count ∷ [])) _ (Bytes-puts order 4 (s .count ∷ []))
+    (Bytes-append (s .times) _ (h .0)
+    (Bytes-append (words (s .width ∷ [])) _ (Bytes-puts order 4 (s .width ∷ [])) (h .1)))
+
+pub piece-writes : (p : Piece) → PieceFits p → Writes (writtenOf p) (recordOf p)
+unfolding writtenOf recordOf PieceFits kindOf isKind
+    phononWritten chargeWritten administrativeWritten traceWritten historyWritten gpsWritten triggerWritten tlbWritten
+    phononBytes chargeBytes administrativeBytes traceBytes historyBytes gpsBytes triggerBytes tlbBytes
+piece-writes (phonon f) h = writes phononKind (phononBytes f) _ refl refl (omega arith) (Bytes-puts order 4 _) (λ e. phonon-read-back f h e .0)
+piece-writes (charge f) h = writes chargeKind (chargeBytes f) _ refl refl (omega arith) (Bytes-puts order 4 _) (λ e. charge-read-back f h e .0)
+piece-writes (administrative f) h = writes administrativeKind (administrativeBytes f) _ refl refl (omega arith) (Bytes-puts order 4 _) (λ e. administrative-read-back f h e .0)
+piece-writes (trace f) h =
+    writes traceKind (traceBytes f) _ refl refl (omega arith) (Bytes-append (words (traceWords f)) (f .samples) (Bytes-puts order 4 _) (h .1)) (λ e. trace-read-back f (h .0) e .0)
+piece-writes (history f) h =
+    writes historyKind (historyBytes f) _ refl refl (omega arith)
+    (Bytes-append (sectionBytes (f .veto)) _ (section-bytes (f .veto) (h .0)) (section-bytes (f .trigger) (h .1))) (λ e. history-read-back f e .0)
+piece-writes (gps f) h = writes gpsKind (gpsBytes f) _ refl refl (omega arith) (Bytes-puts order 4 _) (λ e. gps-read-back f e .0)
+piece-writes (trigger f) h = writes triggerKind (triggerBytes f) _ refl refl (omega arith) (Bytes-puts order 4 _) (λ e. trigger-read-back f h .0)
+piece-writes (tlb f) h = writes tlbKind (tlbBytes f) _ refl refl (omega arith) (Bytes-puts order 4 _) (λ e. tlb-read-back f h e .0)
+
+-- ---- their fields
+
+-- A section's part of the answer, from the section that stands at p of the body.
+section-answer : (from p : ℕ) (b : List ℕ) (s : Section) → sectionOf p b ≡ s → sectionValues from p b ≡ sectionAnswer (from + p) s
+unfolding sectionValues sectionOf widthAt
+section-answer from p b s e =
+    let counted : word p b ≡ s .count = ap (λ (x : Section). x .count) e in
+    let wide : widthOf p b ≡ s .width = ap (λ (x : Section). x .width) e in
+    let times : from + (p + 4) ≡ from + p + 4 = omega arith in
+    let masks : from + (p + 4 + 4 * word p b + 4) ≡ from + p + 8 + 4 * s .count = omega arith in
+    λ i. counted i ∷ times i ∷ wide i ∷ masks i ∷ []
+
+after-section : (p : ℕ) (b : List ℕ) (s : Section) → sectionOf p b ≡ s → after p b ≡ p + sectionSize s
+unfolding after sectionOf widthAt
+after-section p b s e =
+    let counted : word p b ≡ s .count = ap (λ (x : Section). x .count) e in
+    let wide : widthOf p b ≡ s .width = ap (λ (x : Section). x .width) e in
+    rw (counted, wide) (omega arith)
+
+history-answer : (place : ℕ) (f : History) → historyFault f ≡ 0 → historyKind .values place (historyBytes f)
+    ≡ counts (sectionAnswer (vetoFrom place f) (f .veto) ++ sectionAnswer (triggerFrom place f) (f .trigger))
+unfolding historyOf
+history-answer place f e =
+    let b : List ℕ = historyBytes f in
+    let same : historyOf b ≡ f = history-read-back f e .1 in
+    let veto : sectionOf 0 b ≡ f .veto = ap (λ (g : History). g .veto) same in
+    let first : place + 8 + 0 ≡ vetoFrom place f = omega arith in
+    let second : place + 8 + triggerAt b ≡ triggerFrom place f = omega (arith, after-section 0 b (f .veto) veto) in
+    ap₂ (λ (x y : List ℕ). counts (x ++ y))
+    (section-answer (place + 8) 0 b (f .veto) veto ∙ ap (λ (n : ℕ). sectionAnswer n (f .veto)) first)
+    (section-answer (place + 8) (triggerAt b) b (f .trigger) (ap (λ (g : History). g .trigger) same) ∙ ap (λ (n : ℕ). sectionAnswer n (f .trigger)) second)
+
+-- The fields of the body of fields are the fields.
+fields-are : (place : ℕ) (p : Piece) → PieceFits p → writtenOf p .fault ≡ 0 → recordGiven place (ok (recordOf p)) ≡ answerOf place p
+unfolding writtenOf recordOf PieceFits answerOf kindOf
+    phononWritten chargeWritten administrativeWritten traceWritten historyWritten gpsWritten triggerWritten tlbWritten
+fields-are place (phonon f) h e = ap (λ (g : Phonon). answerOf place (phonon g)) (phonon-read-back f h e .1)
+fields-are place (charge f) h e = ap (λ (g : Charge). answerOf place (charge g)) (charge-read-back f h e .1)
+fields-are place (administrative f) h e = ap (λ (g : Administrative). answerOf place (administrative g)) (administrative-read-back f h e .1)
+fields-are place (trace f) h e = ap (λ (g : Trace). answerOf place (trace g)) (trace-read-back f (h .0) e .1)
+fields-are place (history f) h e = ap (λ (vs : List Value). accepted (count 8 ∷ vs)) (history-answer place f e)
+fields-are place (gps f) h e = ap (λ (g : Gps). answerOf place (gps g)) (gps-read-back f e .1)
+fields-are place (trigger f) h e = ap (λ (g : Trigger). answerOf place (trigger g)) (trigger-read-back f h .1)
+fields-are place (tlb f) h e = ap (λ (g : Tlb). answerOf place (tlb g)) (tlb-read-back f h e .1)
+
+module _ (out : List ℕ) (place next : ℕ) where
+  -- For every kind: what the writer wrote, Record reads back the same, at that place.
+  pub piece-reads : (p : Piece) → PieceFits p → recordWrote out place (writtenOf p) ≡ ok next
+      → recordAt (recordOutput out place (writtenOf p)) place ≡ answerOf place p
+  unfolding recordAt
+  piece-reads p h e =
+      ap (recordGiven place) (record-found out place next (writtenOf p) (recordOf p) (piece-writes p h) e)
+      ∙ fields-are place p h (record-granted out place next (writtenOf p) e .fine)
+
+  -- A trace's samples, which Samples finds.
+  pub samples-read : (f : Trace) → TraceFits f → Bytes (f .samples) → recordWrote out place (traceWritten f) ≡ ok next
+      → samplesAt (recordOutput out place (traceWritten f)) place ≡ f .samples
+  unfolding writtenOf recordOf PieceFits traceWritten traceOf samplesAt samplesPart
+  samples-read f h b e =
+      let w : Written = traceWritten f in
+      let new : List ℕ = recordOutput out place w in
+      let body : List ℕ = traceBytes f in
+      let rest : List ℕ = drop next out in
+      let made : Writes w (ofKind traceKind body) = piece-writes (trace f) (h, b) in
+      let (rule, fields) = trace-read-back f h (record-granted out place next w e .fine) in
+      let same : drop 48 body ≡ f .samples = ap (λ (g : Trace). g .samples) fields in
+      let long : 48 ≤ length body = omega (arith, trace-length body rule .0) in
+      let size : length (f .samples) ≡ length body - 48 = sym (ap length same) ∙ length-drop 48 body in
+      let at : place + 8 + 48 ≡ place + 56 = omega arith in
+      let from : drop (place + 56) new ≡ f .samples ++ rest =
+      ap (λ (n : ℕ). drop n new) (sym at) ∙ sym (drop-drop 48 (place + 8) new) ∙ ap (drop 48) (body-from out place next w (ofKind traceKind body) made e)
+      ∙ drop-append-le 48 body rest long ∙ ap (λ (x : List ℕ). x ++ rest) same in
+      ap (λ (x : Res Record). take (partGiven place x .1) (drop (partGiven place x .0) new)) (record-found out place next w (ofKind traceKind body) made e)
+      ∙ ap (take (length body - 48)) from ∙ take-at (f .samples) rest (length body - 48) size
+
+-- A part of a body, where the body stands in front of something.
+part-within : (b rest x : List ℕ) (q n : ℕ) → take n (drop q b) ≡ x → take (length x) (drop q (b ++ rest)) ≡ x
+part-within b rest x q n e = elim (decLe q (length b)) [ yes l ↦ inside l | no l ↦ beyond (omega arith) ]
+  where
+    inside : q ≤ length b → take (length x) (drop q (b ++ rest)) ≡ x
+    inside l =
+        let y : List ℕ = drop n (drop q b) in
+        ap (take (length x)) (drop-append-le q b rest l ∙ ap (λ (z : List ℕ). z ++ rest) (sym (take-append-drop n (drop q b)) ∙ ap (λ (z : List ℕ). z ++ y) e) ∙ append-assoc x y rest)
+        ∙ take-at x (y ++ rest) (length x) refl
+
+    beyond : length b ≤ q → take (length x) (drop q (b ++ rest)) ≡ x
+    beyond l = let none : x ≡ [] = sym e ∙ ap (take n) (drop-of-length-le b l) ∙ take-nil n in rw none
+
+module _ (bs b rest : List ℕ) (from p : ℕ) (s : Section) (stands : drop from bs ≡ b ++ rest) (is : sectionOf p b ≡ s) where
+  -- A section of a body that stands at `from`: its lists stand where the answer says.
+  section-stands : SectionStands bs (from + p) s
+  unfolding sectionOf widthAt
+  section-stands =
+      let part : (q n at : ℕ) (x : List ℕ) → from + q ≡ at → take n (drop q b) ≡ x → take (length x) (drop at bs) ≡ x =
+      λ q n at x here e.
+      ap (λ (m : ℕ). take (length x) (drop m bs)) (sym here)
+      ∙ ap (take (length x)) (sym (drop-drop q from bs) ∙ ap (drop q) stands) ∙ part-within b rest x q n e in
+      let counted : word p b ≡ s .count = ap (λ (x : Section). x .count) is in
+      let times : from + (p + 4) ≡ timesFrom (from + p) s = omega arith in
+      let masks : from + (p + 4 + 4 * word p b + 4) ≡ masksFrom (from + p) s = omega arith in
+      record {
+        times = part (p + 4) (4 * word p b) _ (s .times) times (ap (λ (x : Section). x .times) is);
+        masks = part (p + 4 + 4 * word p b + 4) (4 * (word p b * widthOf p b)) _ (s .masks) masks (ap (λ (x : Section). x .masks) is);
+      }
+
+-- A history's lists stand where Record's answer says.
+pub lists-stand : (out : List ℕ) (place next : ℕ) (f : History) → SectionFits (f .veto) → SectionFits (f .trigger) → recordWrote out place (historyWritten f) ≡ ok next
+    → SectionStands (recordOutput out place (historyWritten f)) (vetoFrom place f) (f .veto)
+    × SectionStands (recordOutput out place (historyWritten f)) (triggerFrom place f) (f .trigger)
+unfolding writtenOf recordOf PieceFits historyWritten historyOf
+lists-stand out place next f v t e =
+    let w : Written = historyWritten f in
+    let b : List ℕ = historyBytes f in
+    let new : List ℕ = recordOutput out place w in
+    let same : historyOf b ≡ f = history-read-back f (record-granted out place next w e .fine) .1 in
+    let veto : sectionOf 0 b ≡ f .veto = ap (λ (g : History). g .veto) same in
+    let first : place + 8 + 0 ≡ vetoFrom place f = omega arith in
+    let second : place + 8 + triggerAt b ≡ triggerFrom place f = omega (arith, after-section 0 b (f .veto) veto) in
+    let from : drop (place + 8) new ≡ b ++ drop next out = body-from out place next w (ofKind historyKind b) (piece-writes (history f) (v, t)) e in (
+      subst (λ (n : ℕ). SectionStands new n (f .veto)) first (section-stands new b (drop next out) (place + 8) 0 (f .veto) from veto),
+      subst (λ (n : ℕ). SectionStands new n (f .trigger)) second
+          (section-stands new b (drop next out) (place + 8) (triggerAt b) (f .trigger) from (ap (λ (g : History). g .trigger) same)),
+    )
