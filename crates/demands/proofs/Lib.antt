@@ -12,3 +12,4 @@ pub mod RewriteLaws
 pub mod RefusalLaws
 pub mod OutputLaws
 pub mod WriterLaws
+pub mod ClosingLaws

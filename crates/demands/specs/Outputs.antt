@@ -1,9 +1,13 @@
 -- Document 01, 'Rows and calls', of writers: what stands in the output afterwards, and what the reading calls make of it.
-use Prim.Native.Nat.{ℕ, _+_}
+use Prim.Native.Nat.{ℕ, _+_, _-_}
 use mathlib.Core.Path.{_≡_}
 use mathlib.Core.List.{List}
 use lib.ListN.{length, take, drop}
+use Rattle.theory.specs.Tests.{Res, ok}
 use Rattle.note.specs.History.{Section}
+use Rattle.note.specs.Records.{Record, Context, readRecords}
+use Rattle.note.specs.Events.{Container, containerBytes}
+use Rattle.note.specs.Writers.{contentsOf}
 use Rattle.demands.specs.Pieces.{timesFrom, masksFrom}
 
 -- "Each record is written into the rest of the output from a given place, and answers the next place"; "output bytes that the written
@@ -19,3 +23,14 @@ pub record Laid (old new : List ℕ) (place next : ℕ) (bytes : List ℕ) : Typ
 pub record SectionStands (bs : List ℕ) (from : ℕ) (s : Section) : Type 0 where
   pub times : take (length (s .times)) (drop (timesFrom from s) bs) ≡ s .times
   pub masks : take (length (s .masks)) (drop (masksFrom from s) bs) ≡ s .masks
+
+-- "A container is closed from a given place to a given end, which is the next place, over contents already written after eight free bytes:
+-- they are checked by the reading rules, then the eight bytes are written"; "a container's contents stay". From the place up to the end
+-- then stands the container with that first word and the records or entries read from the contents, and there it is read.
+pub record Closed (read : Unit {0} → ℕ → List ℕ → Res Container) (c : Context) (old new : List ℕ) (place end next word : ℕ) : Type 0 where
+  pub records : List Record
+  pub contents : readRecords c (place + 8) (contentsOf old place end) ≡ ok records
+  pub ends : next ≡ end
+  pub reads : read tt place (take (end - place) (drop place new)) ≡ ok (record { kind = word; body = records })
+  pub stands : Laid old new place end (containerBytes (record { kind = word; body = records }))
+  pub contents-stay : drop (place + 8) new ≡ drop (place + 8) old

@@ -1,0 +1,229 @@
+-- A closing that is accepted leaves a container: read at the place, it has the first word that was asked for and the records of the contents.
+-- The idea: the closing's checks are the reader's tests in another order; one law over any container's tests, then two lines for each kind.
+use mathlib.Core.Path.{_≡_, refl, sym, ap, ap₂, _∙_}
+use mathlib.Core.List.{List, [], _∷_, _++_, append-assoc, append-nil}
+use Prim.Native.Nat.{ℕ, _+_, _-_, _/_, _≤_}
+use native.Mathlib.Omega.{arith}
+use lib.Dec.{leb}
+use lib.ListN.{length, take, drop, length-drop, take-append-drop}
+use lib.Seq.{take-at, drop-at, drop-drop, length-take-le}
+use Rattle.theory.specs.Words.{Bytes, Fits, put, puts}
+use Rattle.theory.specs.Tests.{Res, ok, bad, unless, among}
+use Rattle.theory.specs.Structures.{readStructure}
+use Rattle.theory.proofs.WordLaws.{Bytes-take, Bytes-drop, length-puts}
+use Rattle.theory.proofs.TestLaws.{need-ok, bind-ok, ok-inj, most-passed, most-passes, equal-passes, first-at, first-passes, holds-at}
+use Rattle.theory.proofs.Items.{Item}
+use Rattle.theory.proofs.StructureLaws.{structure, inside, length-structure}
+use Rattle.note.specs.Limits.{fileLimit}
+use Rattle.note.specs.Words.{order}
+use Rattle.note.specs.Records.{Record, Context, entry, event, none, recordsBytes, readRecord, readRecords}
+use Rattle.note.specs.Events.{Container, containerBytes, classOf, categoryOf, eventTypeOf, eventWord, eventMark, eventFault, eventWordRule, eventHead, eventLate, readEvent}
+use Rattle.note.specs.Files.{configurationWord, configurationHead, configurationLate, readConfiguration}
+use Rattle.note.specs.Writers.{written, contentsOf, ended, within, closingBytes, configurationClosed, configurationOutput, eventClosed, eventOutput}
+use Rattle.note.proofs.BoolLaws.{among-tells, one-up-to}
+use Rattle.demands.specs.Outputs.{Laid, Closed}
+use Rattle.demands.proofs.Bundles.{records, same-records}
+use Rattle.demands.proofs.OutputLaws.{laid-from, put-laid, refusal-keeps}
+
+-- ---- any container
+
+module _ (head : Unit {0} → ℕ → ℕ) (late : Unit {0} → ℕ → ℕ → ℕ) (c : Context) where
+  abbrev pub box : Item (Unit {0}) Container
+  box = structure order head late (inside (λ s. c) records) (λ s x. tt)
+
+  abbrev pub reader : Unit {0} → ℕ → List ℕ → Res Container
+  reader = readStructure order head late (λ s at bs. readRecords c (at + 8) bs)
+
+  same-box : (s : Unit {0}) (at : ℕ) (bs : List ℕ) → reader s at bs ≡ box .read s at bs
+  unfolding readRecords readRecord
+  same-box s at bs = refl
+
+  -- What an accepted closing has checked.
+  pub record Checked (out : List ℕ) (place end next word : ℕ) : Type 0 where
+    pub limit : length out ≤ fileLimit
+    pub room : end ≤ length out
+    pub wide : place + 8 ≤ end
+    pub fits : Fits 4 word
+    pub head-ok : head tt word ≡ 0
+    pub late-ok : late tt word (end - (place + 8)) ≡ 0
+    pub read : List Record
+    pub contents : readRecords c (place + 8) (contentsOf out place end) ≡ ok read
+    pub is : end ≡ next
+
+  module _ (out : List ℕ) (place end next word : ℕ) (k : Checked out place end next word) (h : Bytes (contentsOf out place end)) where
+    inner-size : length (contentsOf out place end) ≡ end - (place + 8)
+    inner-size = length-take-le (end - (place + 8)) (drop (place + 8) out) (omega (arith, length-drop (place + 8) out, k .room, k .wide))
+
+    -- The contents are the records that were read from them, and the container is valid.
+    inner : (contentsOf out place end ≡ recordsBytes (k .read)) × records .Ok c (k .read)
+    inner = records .sound c (place + 8) (contentsOf out place end) (k .read) h (sym (same-records c (place + 8) (contentsOf out place end)) ∙ k .contents)
+
+    size : length (recordsBytes (k .read)) ≡ end - (place + 8)
+    size = sym (ap length (inner .0)) ∙ inner-size
+
+    pub container-ok : box .Ok tt (record { kind = word; body = k .read })
+    container-ok = record {
+      head-ok = k .head-ok;
+      late-ok = ap (late tt word) size ∙ k .late-ok;
+      kind-word = k .fits;
+      length-word = omega (arith, size, k .limit, k .room);
+      body-ok = inner .1;
+    }
+
+    -- The eight bytes, and from the place on the whole container.
+    eight : List ℕ
+    eight = closingBytes word place end
+
+    eight-size : length eight ≡ 8
+    unfolding eight
+    eight-size = length-puts order 4 (word ∷ (end - (place + 8)) ∷ [])
+
+    new : List ℕ
+    new = written (ok next) out place eight
+
+    eight-laid : Laid out new place (place + length eight) eight
+    unfolding new
+    eight-laid = put-laid out eight place next (omega (arith, eight-size, k .wide, k .room))
+
+    whole : Container
+    whole = record { kind = word; body = k .read }
+
+    new-from : drop place new ≡ containerBytes whole ++ drop end out
+    unfolding eight whole puts
+    new-from =
+        let n : ℕ = end - (place + 8) in
+        let B : List ℕ = recordsBytes (k .read) in
+        let rest : List ℕ = drop end out in
+        let at : place + length eight ≡ place + 8 = omega (arith, eight-size) in
+        let last : place + 8 + n ≡ end = omega (arith, k .wide) in
+        let behind : drop (place + 8) out ≡ B ++ rest =
+        sym (take-append-drop n (drop (place + 8) out))
+        ∙ ap₂ (λ (x y : List ℕ). x ++ y) (inner .0) (drop-drop n (place + 8) out ∙ ap (λ (m : ℕ). drop m out) last) in
+        let front : eight ++ (B ++ rest) ≡ put order 4 word ++ (put order 4 n ++ (B ++ rest)) = simp append-assoc in
+        let back : containerBytes whole ++ rest ≡ put order 4 word ++ (put order 4 (length B) ++ (B ++ rest)) = simp append-assoc in
+        laid-from out new place (place + length eight) eight eight-laid
+        ∙ ap (λ (m : ℕ). eight ++ drop m out) at
+        ∙ ap (λ (x : List ℕ). eight ++ x) behind
+        ∙ front
+        ∙ ap (λ (m : ℕ). put order 4 word ++ (put order 4 m ++ (B ++ rest))) (sym size)
+        ∙ sym back
+
+    pub closes : Closed reader c out (written (ok next) out place (closingBytes word place end)) place end next word
+    unfolding eight new whole
+    closes =
+        let rest : List ℕ = drop end out in
+        let all : List ℕ = containerBytes whole in
+        let n : length all ≡ end - place = omega (arith, length-structure order recordsBytes whole, size, k .wide) in
+        let last : place + (end - place) ≡ end = omega (arith, k .wide) in
+        record {
+          records = k .read;
+          contents = k .contents;
+          ends = sym (k .is);
+          reads = same-box tt place (take (end - place) (drop place new))
+              ∙ ap (λ (x : List ℕ). box .read tt place (take (end - place) x)) new-from
+              ∙ ap (box .read tt place) (take-at all rest (end - place) n ∙ sym (append-nil all))
+              ∙ box .complete tt place whole [] container-ok;
+          stands = record {
+            before = eight-laid .before;
+            here = ap (take (length all)) new-from ∙ take-at all rest (length all) refl;
+            behind = ap (λ (m : ℕ). drop m new) (sym last) ∙ sym (drop-drop (end - place) place new) ∙ ap (drop (end - place)) new-from ∙ drop-at all rest (end - place) n;
+            ends = omega (arith, n, k .wide);
+            size = eight-laid .size;
+          };
+          contents-stay = ap (λ (m : ℕ). drop (place + m) new) (sym eight-size) ∙ eight-laid .behind ∙ ap (λ (m : ℕ). drop (place + m) out) eight-size;
+        }
+
+-- ---- the two kinds of container
+
+-- "13: place or end past the output, an end below place plus 8": what is known where none of it was given.
+within-ok : (n place end : ℕ) (r : Res ℕ) (next : ℕ) → within n place end r ≡ ok next
+    → (n ≤ fileLimit) × (end ≤ n) × (place + 8 ≤ end) × (r ≡ ok next)
+within-ok n place end r next e =
+    let (l, e1) = need-ok (unless (leb n fileLimit) 1) 0 _ e in
+    let (p, e2) = need-ok (unless (leb place n) 13) place _ e1 in
+    let (q, e3) = need-ok (unless (leb end n) 13) place _ e2 in
+    let (w, e4) = need-ok (unless (leb (place + 8) end) 13) place r e3 in
+    (most-passed n fileLimit 0 l, most-passed end n 12 q, most-passed (place + 8) end 12 w, e4)
+
+ended-ok : (end next : ℕ) (r : Res (List Record)) → ended end r ≡ ok next → (rs : List Record) × (r ≡ ok rs) × (end ≡ next)
+ended-ok end next r e = let (rs, is, q) = bind-ok r (λ rs. ok end) e in (rs, is, ok-inj q)
+
+pub configuration-checked : (out : List ℕ) (place end next : ℕ) → configurationClosed out place end ≡ ok next
+    → Checked configurationHead configurationLate entry out place end next configurationWord
+unfolding configurationClosed
+configuration-checked out place end next e =
+    let (limit, room, wide, q) = within-ok (length out) place end _ next e in
+    let (rs, read, is) = ended-ok end next _ q in
+    record { limit = limit; room = room; wide = wide; fits = omega arith; head-ok = refl; late-ok = refl; read = rs; contents = read; is = is }
+
+-- The word of an admitted class, category and type is an event's first word.
+module _ (class category type : ℕ) (e : eventFault class category type ≡ 0) where
+  admitted : (class ≤ 2) × (category ≤ 6) × (type ≤ 10)
+  unfolding eventFault
+  admitted = (
+    one-up-to 2 (0 ∷ 2 ∷ []) class refl (among-tells (0 ∷ 2 ∷ []) class .0 (holds-at _ e 0 (among class (0 ∷ 2 ∷ [])) 6 refl)),
+    one-up-to 6 (0 ∷ 1 ∷ 6 ∷ []) category refl (among-tells (0 ∷ 1 ∷ 6 ∷ []) category .0 (holds-at _ e 1 (among category (0 ∷ 1 ∷ 6 ∷ [])) 6 refl)),
+    most-passed type 0xA 6 (first-at _ e 2),
+  )
+
+  pub event-word-fits : Fits 4 (eventWord class category type)
+  event-word-fits = let (a, b, c) = admitted in omega arith
+
+  pub event-word-admitted : eventWordRule (eventWord class category type) ≡ 0
+  unfolding eventWordRule
+  event-word-admitted =
+      let (a, b, c) = admitted in
+      let w : ℕ = eventWord class category type in
+      let mark : w / 65536 ≡ eventMark = omega arith in
+      let is : classOf w ≡ class = omega arith in
+      let ic : categoryOf w ≡ category = omega arith in
+      let it : eventTypeOf w ≡ type = omega arith in
+      first-passes _ (equal-passes 5 mark, ((λ i. eventFault (is i) (ic i) (it i)) ∙ e, tt))
+
+pub event-checked : (out : List ℕ) (place end class category type next : ℕ) → eventClosed out place end class category type ≡ ok next
+    → Checked eventHead eventLate (event none) out place end next (eventWord class category type)
+unfolding eventClosed
+event-checked out place end class category type next e =
+    let (limit, room, wide, q) = within-ok (length out) place end _ next e in
+    let (fault, q1) = need-ok (eventFault class category type) place _ q in
+    let (some, q2) = need-ok (unless (leb (place + 9) end) 9) place _ q1 in
+    let (rs, read, is) = ended-ok end next _ q2 in
+    let least : 1 ≤ end - (place + 8) = omega (arith, most-passed (place + 9) end 8 some) in
+    record {
+      limit = limit;
+      room = room;
+      wide = wide;
+      fits = event-word-fits class category type fault;
+      head-ok = event-word-admitted class category type fault;
+      late-ok = most-passes 9 least;
+      read = rs;
+      contents = read;
+      is = is;
+    }
+
+-- The contents of an output of bytes are bytes.
+contents-bytes : (out : List ℕ) (place end : ℕ) → Bytes out → Bytes (contentsOf out place end)
+contents-bytes out place end h = Bytes-take (end - (place + 8)) (drop (place + 8) out) (Bytes-drop (place + 8) out h)
+
+pub configuration-closes : (out : List ℕ) (place end next : ℕ) → Bytes out → configurationClosed out place end ≡ ok next
+    → Closed readConfiguration entry out (configurationOutput out place end) place end next configurationWord
+unfolding readConfiguration configurationOutput
+configuration-closes out place end next h e =
+    rw e (closes configurationHead configurationLate entry out place end next configurationWord (configuration-checked out place end next e) (contents-bytes out place end h))
+
+pub event-closes : (out : List ℕ) (place end class category type next : ℕ) → Bytes out → eventClosed out place end class category type ≡ ok next
+    → Closed readEvent (event none) out (eventOutput out place end class category type) place end next (eventWord class category type)
+unfolding readEvent eventOutput
+event-closes out place end class category type next h e =
+    rw e (closes eventHead eventLate (event none) out place end next (eventWord class category type) (event-checked out place end class category type next e) (contents-bytes out place end h))
+
+-- A refusal leaves the output as it was.
+pub configuration-refused : (out : List ℕ) (place end c p : ℕ) → configurationClosed out place end ≡ bad c p → configurationOutput out place end ≡ out
+unfolding configurationOutput
+configuration-refused out place end c p e = refusal-keeps (configurationClosed out place end) out (closingBytes configurationWord place end) place c p e
+
+pub event-refused : (out : List ℕ) (place end class category type c p : ℕ) → eventClosed out place end class category type ≡ bad c p
+    → eventOutput out place end class category type ≡ out
+unfolding eventOutput
+event-refused out place end class category type c p e =
+    refusal-keeps (eventClosed out place end class category type) out (closingBytes (eventWord class category type) place end) place c p e
