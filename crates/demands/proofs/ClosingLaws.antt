@@ -108,28 +108,37 @@ module _ (head : Unit {0} → ℕ → ℕ) (late : Unit {0} → ℕ → ℕ → 
         ∙ ap (λ (m : ℕ). put order 4 word ++ (put order 4 m ++ (B ++ rest))) (sym size)
         ∙ sym back
 
+    whole-size : length (containerBytes whole) ≡ end - place
+    unfolding whole
+    whole-size = omega (arith, length-structure order recordsBytes whole, size, k .wide)
+
+    pub container-laid : Laid out (written (ok next) out place (closingBytes word place end)) place end (containerBytes (record { kind = word; body = k .read }))
+    unfolding eight new whole
+    container-laid =
+        let rest : List ℕ = drop end out in
+        let all : List ℕ = containerBytes whole in
+        let last : place + (end - place) ≡ end = omega (arith, k .wide) in
+        record {
+          before = eight-laid .before;
+          here = ap (take (length all)) new-from ∙ take-at all rest (length all) refl;
+          behind = ap (λ (m : ℕ). drop m new) (sym last) ∙ sym (drop-drop (end - place) place new) ∙ ap (drop (end - place)) new-from ∙ drop-at all rest (end - place) whole-size;
+          ends = omega (arith, whole-size, k .wide);
+          size = eight-laid .size;
+        }
+
     pub closes : Closed reader c out (written (ok next) out place (closingBytes word place end)) place end next word
     unfolding eight new whole
     closes =
-        let rest : List ℕ = drop end out in
         let all : List ℕ = containerBytes whole in
-        let n : length all ≡ end - place = omega (arith, length-structure order recordsBytes whole, size, k .wide) in
-        let last : place + (end - place) ≡ end = omega (arith, k .wide) in
         record {
           records = k .read;
           contents = k .contents;
           ends = sym (k .is);
           reads = same-box tt place (take (end - place) (drop place new))
               ∙ ap (λ (x : List ℕ). box .read tt place (take (end - place) x)) new-from
-              ∙ ap (box .read tt place) (take-at all rest (end - place) n ∙ sym (append-nil all))
+              ∙ ap (box .read tt place) (take-at all (drop end out) (end - place) whole-size ∙ sym (append-nil all))
               ∙ box .complete tt place whole [] container-ok;
-          stands = record {
-            before = eight-laid .before;
-            here = ap (take (length all)) new-from ∙ take-at all rest (length all) refl;
-            behind = ap (λ (m : ℕ). drop m new) (sym last) ∙ sym (drop-drop (end - place) place new) ∙ ap (drop (end - place)) new-from ∙ drop-at all rest (end - place) n;
-            ends = omega (arith, n, k .wide);
-            size = eight-laid .size;
-          };
+          stands = container-laid;
           contents-stay = ap (λ (m : ℕ). drop (place + m) new) (sym eight-size) ∙ eight-laid .behind ∙ ap (λ (m : ℕ). drop (place + m) out) eight-size;
         }
 

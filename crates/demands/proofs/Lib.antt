@@ -13,3 +13,5 @@ pub mod RefusalLaws
 pub mod OutputLaws
 pub mod WriterLaws
 pub mod ClosingLaws
+pub mod AssemblyLaws
+pub mod AssemblyExample

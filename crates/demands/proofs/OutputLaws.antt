@@ -2,11 +2,11 @@
 -- The idea: before, here and behind determine a list, so outputs of calls one after the other are put together without a look at a byte.
 use mathlib.Core.Path.{_≡_, refl, sym, ap, ap₂, _∙_}
 use mathlib.Core.List.{List, [], _++_, append-assoc}
-use Prim.Native.Nat.{ℕ, _+_, _≤_}
+use Prim.Native.Nat.{ℕ, _+_, _≤_, min}
 use native.Mathlib.Omega.{arith}
 use lib.Dec.{leb}
-use lib.ListN.{length, take, drop, length-append, length-drop, take-append-drop}
-use lib.Seq.{take-at, drop-at, drop-drop, length-take-le}
+use lib.ListN.{length, take, drop, length-append, length-take, length-drop, take-append-drop}
+use lib.Seq.{take-at, drop-at, drop-drop, take-take, length-take-le}
 use Rattle.theory.specs.Tests.{Res, ok, bad, unless}
 use Rattle.theory.proofs.TestLaws.{need-ok, most-passed, ok-inj}
 use Rattle.note.specs.Limits.{fileLimit}
@@ -70,6 +70,22 @@ both-laid old mid new a b p q r room x y =
       ends = omega arith;
       size = y .size ∙ x .size;
     }
+
+-- Bytes that begin before others and end with them, as a closed container around its contents.
+pub around-laid : (old mid new a b : List ℕ) (p q r : ℕ) → p ≤ q → Laid old mid q r a → Laid mid new p r b → Laid old new p r b
+around-laid old mid new a b p q r low x y = record {
+  before = y .before ∙ sym (take-take p q mid low) ∙ ap (take p) (x .before) ∙ take-take p q old low;
+  here = y .here;
+  behind = y .behind ∙ x .behind;
+  ends = y .ends;
+  size = y .size ∙ x .size;
+}
+
+-- Bytes that were laid from byte 0 on are within the output.
+pub laid-within : (old new bytes : List ℕ) (next : ℕ) → Laid old new 0 next bytes → length bytes ≤ length old
+laid-within old new bytes next l =
+    let n : length bytes ≡ min (length bytes) (length new) = sym (ap length (l .here)) ∙ length-take (length bytes) new in
+    omega (arith, n, l .size)
 
 -- ---- what an accepted writer says
 

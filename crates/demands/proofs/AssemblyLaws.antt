@@ -1,0 +1,227 @@
+-- A file assembled by header, entries, closing, records, closings is accepted with the rows that its pieces make.
+-- The idea: what the calls so far have laid is the bytes of the tree so far; a closing's own check reads the pieces and no other records,
+-- so that its acceptance makes them valid.
+use mathlib.Core.Path.{_≡_, refl, sym, ap, ap₂, _∙_, subst}
+use mathlib.Core.List.{List, [], _∷_, _++_, map, append-assoc}
+use Prim.Native.Nat.{ℕ, zero, suc, _+_, _-_, _%_, _≤_}
+use native.Mathlib.Omega.{arith}
+use lib.ListN.{length, take, drop, length-append}
+use lib.Seq.{take-at, drop-at}
+use Rattle.theory.specs.Words.{Bytes, Fits, wordAt, put}
+use Rattle.theory.specs.Tests.{Res, ok, bind}
+use Rattle.theory.proofs.WordLaws.{Bytes-append, Bytes-put, word-after-put}
+use Rattle.theory.proofs.TestLaws.{need-ok, bind-ok, ok-inj, equal-passes}
+use Rattle.theory.proofs.Items.{seqs, Oks, turn, seq-open}
+use Rattle.theory.proofs.StructureLaws.{ruled, opens, second-word, drop-two, length-structure}
+use Rattle.note.specs.Limits.{fileLimit}
+use Rattle.note.specs.Words.{order}
+use Rattle.note.specs.Records.{Record, Context, recordHead, recordLate, recordRule, recordStep, entry, event, none, recordBytes, recordSize, recordsBytes, readRecords}
+use Rattle.note.specs.Events.{Container, containerBytes, eventWord, eventHead, eventLate, eventsBytes}
+use Rattle.note.specs.Files.{format, versionWord, versionRule, configurationWord, configurationHead, configurationLate, fileBytes, readFile}
+use Rattle.note.specs.Rows.{tableGiven, tableFilled, tableAnswer, tableBuffer}
+use Rattle.note.specs.Writers.{Written, written, recordWrote, recordOutput, contentsOf, closingBytes, headerWrote, headerOutput, configurationClosed, configurationOutput, eventOutput}
+use Rattle.demands.specs.Pieces.{Piece, writtenOf, recordOf}
+use Rattle.demands.specs.Outputs.{Laid}
+use Rattle.demands.specs.Assembly.{AllFitting, EventPieces, FilePieces, containerOf, Built, recordsAssembled, containerAssembled, configurationAssembled, eventAssembled, eventsAssembled, fileAssembled, EventsFitting, FileFits, eventOf, fileOf, Assembled}
+use Rattle.demands.proofs.Bundles.{recordItem, eventItem, parts, same-records}
+use Rattle.demands.proofs.Follows.{read-within}
+use Rattle.demands.proofs.OutputLaws.{none-laid, both-laid, around-laid, laid-within, granted}
+use Rattle.demands.proofs.WriterLaws.{record-granted, record-laid, header-laid, piece-writes}
+use Rattle.demands.proofs.ClosingLaws.{box, Checked, container-ok, container-laid, configuration-checked, event-checked}
+
+-- ---- what is read from the bytes of records is those records
+
+module _ (r : Record) (kind : Fits 4 (r .kind)) (size : Fits 4 (length (r .body))) where
+  record-exact : (c : Context) (at : ℕ) (rest : List ℕ) (x : Record) → recordItem .read c at (recordBytes r ++ rest) ≡ ok x → x ≡ r
+  record-exact c at rest x e =
+      let n : ℕ = length (r .body) in
+      let bs : List ℕ = put order 4 (r .kind) ++ (put order 4 n ++ (r .body ++ rest)) in
+      let shape : recordBytes r ++ rest ≡ bs =
+      append-assoc (put order 4 (r .kind)) (put order 4 n ++ r .body) rest ∙ ap (λ (y : List ℕ). put order 4 (r .kind) ++ y) (append-assoc (put order 4 n) (r .body) rest) in
+      let o = opens order recordHead recordLate (ruled (λ s. recordRule (s .1)) .read) c at bs x (sym (ap (recordItem .read c at) shape) ∙ e) in
+      let ek : wordAt order 4 0 bs ≡ r .kind = word-after-put order 4 (r .kind) (put order 4 n ++ (r .body ++ rest)) kind in
+      let en : wordAt order 4 4 bs ≡ n = second-word order (r .kind) n (r .body ++ rest) size in
+      let part : take (wordAt order 4 4 bs) (drop 8 bs) ≡ r .body =
+      ap₂ take en (drop-two order (r .kind) n (r .body ++ rest)) ∙ take-at (r .body) rest n refl in
+      let b : List ℕ = take (wordAt order 4 4 bs) (drop 8 bs) in
+      let (passed, same) = need-ok (recordRule (wordAt order 4 0 bs) b) at (ok b) (o .body-is) in
+      let eb : x .body ≡ r .body = sym (ok-inj same) ∙ part in
+      let ex : x .kind ≡ r .kind = o .kind-is ∙ ek in
+      λ i. record { kind = ex i; body = eb i }
+
+-- Each kind word fits.
+abbrev KindsFit : List Record → Type 0
+KindsFit [] = Unit {0}
+KindsFit (r ∷ rs) = Fits 4 (r .kind) × KindsFit rs
+
+sequence-exact : (f : ℕ) (c : Context) (at : ℕ) (rs xs : List Record) → KindsFit rs → length (recordsBytes rs) ≤ f → Fits 4 (length (recordsBytes rs))
+    → seqs recordItem f c at (recordsBytes rs) ≡ ok xs → xs ≡ rs
+sequence-exact zero c at [] xs k l s e = sym (ok-inj e)
+sequence-exact (suc f) c at [] xs k l s e = sym (ok-inj e)
+sequence-exact zero c at (r ∷ rs) xs k l s e =
+    absurd (omega (arith, length-append (recordBytes r) (recordsBytes rs), length-structure order (λ (b : List ℕ). b) r))
+sequence-exact (suc f) c at (r ∷ rs) xs k l s e =
+    let bs : List ℕ = recordBytes r ++ recordsBytes rs in
+    let total : length bs ≡ length (recordBytes r) + length (recordsBytes rs) = length-append (recordBytes r) (recordsBytes rs) in
+    let own : length (recordBytes r) ≡ 8 + length (r .body) = length-structure order (λ (b : List ℕ). b) r in
+    let opened = sym (seq-open recordItem f c at bs (omega arith)) ∙ e in
+    let (a, ea, e1) = bind-ok (recordItem .read c at bs) (turn recordItem f c at bs) opened in
+    let same : a ≡ r = record-exact r (k .0) (omega arith) c at (recordsBytes rs) a ea in
+    let (ys, ey, e2) = bind-ok (seqs recordItem f (recordStep c r) (at + recordSize r) (drop (recordSize r) bs)) (λ ys. ok (r ∷ ys)) (subst (λ (x : Record). turn recordItem f c at bs x ≡ ok xs) same e1) in
+    let rest : drop (recordSize r) bs ≡ recordsBytes rs = drop-at (recordBytes r) (recordsBytes rs) (recordSize r) own in
+    let tail : ys ≡ rs = sequence-exact f (recordStep c r) (at + recordSize r) rs ys (k .1) (omega arith) (omega arith)
+    (sym (ap (seqs recordItem f (recordStep c r) (at + recordSize r)) rest) ∙ ey) in
+    sym (ok-inj e2) ∙ ap (λ (zs : List Record). r ∷ zs) tail
+
+records-exact : (c : Context) (at : ℕ) (rs xs : List Record) → KindsFit rs → Fits 4 (length (recordsBytes rs)) → readRecords c at (recordsBytes rs) ≡ ok xs → xs ≡ rs
+records-exact c at rs xs k s e = sequence-exact (length (recordsBytes rs)) c at rs xs k (omega arith) s (sym (same-records c at (recordsBytes rs)) ∙ e)
+
+-- ---- the pieces
+
+pieces-kinds : (ps : List Piece) → AllFitting ps → KindsFit (map recordOf ps)
+pieces-kinds [] h = tt
+pieces-kinds (p ∷ ps) h = (piece-writes p (h .0) .kind-fits, pieces-kinds ps (h .1))
+
+record-bytes : (r : Record) → Bytes (r .body) → Bytes (recordBytes r)
+record-bytes r h =
+    Bytes-append (put order 4 (r .kind)) _ (Bytes-put order 4 (r .kind)) (Bytes-append (put order 4 (length (r .body))) (r .body) (Bytes-put order 4 (length (r .body))) h)
+
+pieces-bytes : (ps : List Piece) → AllFitting ps → Bytes (recordsBytes (map recordOf ps))
+pieces-bytes [] h = tt
+pieces-bytes (p ∷ ps) h =
+    Bytes-append (recordBytes (recordOf p)) (recordsBytes (map recordOf ps)) (record-bytes (recordOf p) (piece-writes p (h .0) .body-bytes)) (pieces-bytes ps (h .1))
+
+-- ---- what the calls have laid
+
+records-laid : (b : Built) (ps : List Piece) (after : Built) → AllFitting ps → recordsAssembled b ps ≡ ok after
+    → Laid (b .out) (after .out) (b .next) (after .next) (recordsBytes (map recordOf ps))
+unfolding recordsAssembled
+records-laid b [] after h e = subst (λ (x : Built). Laid (b .out) (x .out) (b .next) (x .next) []) (ok-inj e) (none-laid (b .out) (b .next))
+records-laid b (p ∷ ps) after h e =
+    let w : Written = writtenOf p in
+    let out : List ℕ = recordOutput (b .out) (b .next) w in
+    let (next, e1, e2) = bind-ok (recordWrote (b .out) (b .next) w) (λ next. recordsAssembled (record { next = next; out = out }) ps) e in
+    let g = record-granted (b .out) (b .next) next w e1 in
+    let one : Laid (b .out) out (b .next) next (recordBytes (recordOf p)) =
+    subst (λ (x : List ℕ). Laid (b .out) out (b .next) next x) (piece-writes p (h .0) .bytes-are) (record-laid (b .out) (b .next) next w e1) in
+    both-laid (b .out) out (after .out) _ _ (b .next) next (after .next) (omega (arith, g .room, g .is)) one
+    (records-laid (record { next = next; out = out }) ps after (h .1) e2)
+
+-- A container: what stands afterwards is the container of the pieces, and it is valid.
+pub record Stood (head : Unit {0} → ℕ → ℕ) (late : Unit {0} → ℕ → ℕ → ℕ) (c : Context) (b after : Built) (x : Container) : Type 0 where
+  pub laid : Laid (b .out) (after .out) (b .next) (after .next) (containerBytes x)
+  pub room : after .next ≤ length (b .out)
+  pub valid : box head late c .Ok tt x
+
+module _ (head : Unit {0} → ℕ → ℕ) (late : Unit {0} → ℕ → ℕ → ℕ) (c : Context) (word : ℕ)
+    (closed : List ℕ → ℕ → ℕ → Res ℕ) (output : List ℕ → ℕ → ℕ → List ℕ)
+    (checked : (out : List ℕ) (place end next : ℕ) → closed out place end ≡ ok next → Checked head late c out place end next word)
+    (is : (out : List ℕ) (place end : ℕ) → output out place end ≡ written (closed out place end) out place (closingBytes word place end)) where
+  closed-stands : (b filled : Built) (ps : List Piece) (next : ℕ) → AllFitting ps
+      → Laid (b .out) (filled .out) (b .next + 8) (filled .next) (recordsBytes (map recordOf ps))
+      → closed (filled .out) (b .next) (filled .next) ≡ ok next
+      → Stood head late c b (record { next = next; out = output (filled .out) (b .next) (filled .next) }) (containerOf word ps)
+  closed-stands b filled ps next h l e =
+      let rs : List Record = map recordOf ps in
+      let old : List ℕ = filled .out in
+      let place : ℕ = b .next in
+      let end : ℕ = filled .next in
+      let k = checked old place end next e in
+      let n : end - (place + 8) ≡ length (recordsBytes rs) = omega (arith, l .ends) in
+      let contents : contentsOf old place end ≡ recordsBytes rs = ap (λ (m : ℕ). take m (drop (place + 8) old)) n ∙ l .here in
+      let bytes : Bytes (contentsOf old place end) = subst Bytes (sym contents) (pieces-bytes ps h) in
+      let same : k .read ≡ rs =
+      records-exact c (place + 8) rs (k .read) (pieces-kinds ps h) (omega (arith, l .ends, k .limit, k .room)) (sym (ap (readRecords c (place + 8)) contents) ∙ k .contents) in
+      let left : written (ok next) old place (closingBytes word place end) ≡ output old place end =
+      ap (λ (r : Res ℕ). written r old place (closingBytes word place end)) (sym e) ∙ sym (is old place end) in
+      let shut = around-laid (b .out) old _ (recordsBytes rs) _ place (place + 8) end (omega arith) l (container-laid head late c old place end next word k bytes) in
+      let whole : List Record → List ℕ = λ xs. containerBytes (record { kind = word; body = xs }) in
+      subst (λ (xs : List Record). Stood head late c b (record { next = next; out = output old place end }) (record { kind = word; body = xs })) same (record {
+        laid = subst (λ (m : ℕ). Laid (b .out) (output old place end) place m (whole (k .read))) (k .is) (subst (λ (x : List ℕ). Laid (b .out) x place end (whole (k .read))) left shut);
+        room = omega (arith, k .room, k .is, l .size);
+        valid = container-ok head late c old place end next word k bytes;
+      })
+
+  container-stands : (b : Built) (ps : List Piece) (after : Built) → AllFitting ps → containerAssembled closed output b ps ≡ ok after
+      → Stood head late c b after (containerOf word ps)
+  unfolding containerAssembled
+  container-stands b ps after h e =
+      let inner : Built = record { next = b .next + 8; out = b .out } in
+      let made : Built → ℕ → Res Built = λ filled next. ok (record { next = next; out = output (filled .out) (b .next) (filled .next) }) in
+      let (filled, e1, e2) = bind-ok (recordsAssembled inner ps) (λ filled. bind (closed (filled .out) (b .next) (filled .next)) (made filled)) e in
+      let (next, e3, e4) = bind-ok (closed (filled .out) (b .next) (filled .next)) (made filled) e2 in
+      subst (λ (x : Built). Stood head late c b x (containerOf word ps)) (ok-inj e4) (closed-stands b filled ps next h (records-laid inner ps filled h e1) e3)
+
+configuration-stands : (b : Built) (ps : List Piece) (after : Built) → AllFitting ps → configurationAssembled b ps ≡ ok after
+    → Stood configurationHead configurationLate entry b after (containerOf configurationWord ps)
+unfolding configurationOutput
+configuration-stands =
+    container-stands configurationHead configurationLate entry configurationWord configurationClosed configurationOutput configuration-checked (λ out place end. refl)
+
+event-stands : (b : Built) (e : EventPieces) (after : Built) → AllFitting (e .records) → eventAssembled b e ≡ ok after
+    → Stood eventHead eventLate (event none) b after (eventOf e)
+unfolding eventOutput
+event-stands b e after h q =
+    container-stands eventHead eventLate (event none) (eventWord (e .class) (e .category) (e .type)) _ _
+    (λ out place end next. event-checked out place end (e .class) (e .category) (e .type) next) (λ out place end. refl) b (e .records) after h q
+
+events-stand : (b : Built) (es : List EventPieces) (after : Built) → EventsFitting es → eventsAssembled b es ≡ ok after
+    → Laid (b .out) (after .out) (b .next) (after .next) (eventsBytes (map eventOf es)) × Oks eventItem tt (map eventOf es)
+unfolding eventsAssembled
+events-stand b [] after h q = (subst (λ (x : Built). Laid (b .out) (x .out) (b .next) (x .next) []) (ok-inj q) (none-laid (b .out) (b .next)), tt)
+events-stand b (e ∷ es) after h q =
+    let (mid, q1, q2) = bind-ok (eventAssembled b e) (λ mid. eventsAssembled mid es) q in
+    let one = event-stands b e mid (h .0) q1 in
+    let (rest, oks) = events-stand mid es after (h .1) q2 in (
+      both-laid (b .out) (mid .out) (after .out) (containerBytes (eventOf e)) (eventsBytes (map eventOf es)) (b .next) (mid .next) (after .next) (one .room) (one .laid) rest,
+      (one .valid, oks),
+    )
+
+-- ---- the file
+
+module _ (out : List ℕ) (f : FilePieces) (h : FileFits f) where
+  version-ok : (versionRule (versionWord (f .major) (f .minor)) ≡ 0) × Fits 4 (versionWord (f .major) (f .minor))
+  version-ok =
+      let low : versionWord (f .major) (f .minor) % 65536 ≡ format = omega (arith, h .major, h .minor) in
+      (equal-passes 4 low, omega (arith, h .major, h .minor))
+
+  -- The calls lay the bytes of the tree, which is valid.
+  file-stands : (b : Built) → fileAssembled out f ≡ ok b → Laid out (b .out) 0 (b .next) (fileBytes (fileOf f)) × (length out ≤ fileLimit) × parts .Ok tt (fileOf f)
+  unfolding fileAssembled fileOf headerWrote
+  file-stands b e =
+      let top : List ℕ = headerOutput out (f .major) (f .minor) in
+      let (next, e1, e2) = bind-ok (headerWrote out) (λ next. bind (configurationAssembled (record { next = next; out = top }) (f .entries)) (λ mid. eventsAssembled mid (f .events))) e in
+      let (mid, e3, e4) = bind-ok (configurationAssembled (record { next = next; out = top }) (f .entries)) (λ mid. eventsAssembled mid (f .events)) e2 in
+      let g = granted (length out) 0 0 8 next e1 in
+      let header = header-laid out (f .major) (f .minor) next e1 in
+      let configuration = configuration-stands (record { next = next; out = top }) (f .entries) mid (h .entries) e3 in
+      let (events, oks) = events-stand mid (f .events) b (h .events) e4 in
+      let rest = both-laid top (mid .out) (b .out) _ _ next (mid .next) (b .next) (configuration .room) (configuration .laid) events in (
+        both-laid out top (b .out) _ _ 0 next (b .next) (omega (arith, g .room, g .is)) header rest,
+        g .limit,
+        (version-ok, (configuration .valid, oks)),
+      )
+
+  pub assembled-accepted : (b : Built) → fileAssembled out f ≡ ok b → Assembled out f b
+  assembled-accepted b e =
+      let (l, limit, valid) = file-stands b e in
+      let bytes : List ℕ = fileBytes (fileOf f) in
+      let n : b .next ≡ length bytes = omega (arith, l .ends) in
+      let is : take (b .next) (b .out) ≡ bytes = ap (λ (m : ℕ). take m (b .out)) n ∙ l .here in
+      let short : length bytes ≤ fileLimit = omega (arith, laid-within out (b .out) bytes (b .next) l) in
+      record {
+        accepted = ap readFile is ∙ read-within bytes (ok (fileOf f)) short (parts .complete tt 0 (fileOf f) valid);
+        whole = ap length is ∙ sym n;
+        behind = l .behind;
+        size = l .size;
+      }
+
+  -- So Table answers with the rows of the tree, and fills them.
+  pub assembled-rows : (b : Built) (old : List ℕ) → fileAssembled out f ≡ ok b
+      → (tableAnswer (take (b .next) (b .out)) (length old) ≡ tableGiven (take (b .next) (b .out)) (length old) (ok (fileOf f)))
+      × (tableBuffer (take (b .next) (b .out)) old ≡ tableFilled old (ok (fileOf f)))
+  unfolding tableAnswer tableBuffer
+  assembled-rows b old e =
+      let file = take (b .next) (b .out) in
+      let read : readFile file ≡ ok (fileOf f) = assembled-accepted b e .accepted in
+      (ap (tableGiven file (length old)) read, ap (tableFilled old) read)

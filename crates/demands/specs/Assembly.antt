@@ -1,0 +1,103 @@
+-- Document 01, 'Rows and calls', of writers: a file assembled in one output by header, entries, closing, records, closings, each call from
+-- the place that the call before it answered.
+use Prim.Native.Nat.{ℕ, _+_, _<_}
+use mathlib.Core.Path.{_≡_}
+use mathlib.Core.List.{List, [], _∷_, map}
+use lib.ListN.{length, take, drop}
+use Rattle.theory.specs.Tests.{Res, ok, bind}
+use Rattle.note.specs.Events.{Container, eventWord}
+use Rattle.note.specs.Files.{File, versionWord, configurationWord, readFile}
+use Rattle.note.specs.Writers.{recordWrote, recordOutput, headerWrote, headerOutput, configurationClosed, configurationOutput, eventClosed, eventOutput}
+use Rattle.demands.specs.Pieces.{Piece, writtenOf, recordOf, PieceFits}
+
+-- ---- the pieces
+
+-- "An event's closing takes its class, category and type as numbers"; its records.
+pub record EventPieces : Type 0 where
+  pub class : ℕ
+  pub category : ℕ
+  pub type : ℕ
+  pub records : List Piece
+
+-- "The file header's writer takes the two DAQ bytes"; the configuration's entries; the events.
+pub record FilePieces : Type 0 where
+  pub major : ℕ
+  pub minor : ℕ
+  pub entries : List Piece
+  pub events : List EventPieces
+
+-- What a caller's types say of them.
+abbrev pub AllFitting : List Piece → Type 0
+AllFitting [] = Unit {0}
+AllFitting (p ∷ ps) = PieceFits p × AllFitting ps
+
+abbrev pub EventsFitting : List EventPieces → Type 0
+EventsFitting [] = Unit {0}
+EventsFitting (e ∷ es) = AllFitting (e .records) × EventsFitting es
+
+pub record FileFits (f : FilePieces) : Type 0 where
+  pub major : f .major < 256
+  pub minor : f .minor < 256
+  pub entries : AllFitting (f .entries)
+  pub events : EventsFitting (f .events)
+
+-- The tree that they make.
+abbrev pub containerOf : ℕ → List Piece → Container
+containerOf word ps = record { kind = word; body = map recordOf ps }
+
+abbrev pub eventOf : EventPieces → Container
+eventOf e = containerOf (eventWord (e .class) (e .category) (e .type)) (e .records)
+
+unfoldable pub fileOf : FilePieces → File
+fileOf f = (versionWord (f .major) (f .minor), (containerOf configurationWord (f .entries), map eventOf (f .events)))
+
+-- ---- the calls in their order
+
+-- Where the calls so far have come to: the next place, and the output.
+pub record Built : Type 0 where
+  pub next : ℕ
+  pub out : List ℕ
+
+-- Records one after the other; the first refusal ends it.
+unfoldable pub recordsAssembled : Built → List Piece → Res Built
+recordsAssembled b [] = ok b
+recordsAssembled b (p ∷ ps) =
+    bind (recordWrote (b .out) (b .next) (writtenOf p)) (λ next.
+    recordsAssembled (record { next = next; out = recordOutput (b .out) (b .next) (writtenOf p) }) ps)
+
+-- "Over contents already written after eight free bytes": the contents, then a closing, with its answer and its output.
+unfoldable pub containerAssembled : (List ℕ → ℕ → ℕ → Res ℕ) → (List ℕ → ℕ → ℕ → List ℕ) → Built → List Piece → Res Built
+containerAssembled closed output b ps =
+    bind (recordsAssembled (record { next = b .next + 8; out = b .out }) ps) (λ filled.
+    bind (closed (filled .out) (b .next) (filled .next)) (λ next.
+    ok (record { next = next; out = output (filled .out) (b .next) (filled .next) })))
+
+abbrev pub configurationAssembled : Built → List Piece → Res Built
+configurationAssembled = containerAssembled configurationClosed configurationOutput
+
+abbrev pub eventAssembled : Built → EventPieces → Res Built
+eventAssembled b e =
+    containerAssembled
+    (λ out place end. eventClosed out place end (e .class) (e .category) (e .type))
+    (λ out place end. eventOutput out place end (e .class) (e .category) (e .type)) b (e .records)
+
+unfoldable pub eventsAssembled : Built → List EventPieces → Res Built
+eventsAssembled b [] = ok b
+eventsAssembled b (e ∷ es) = bind (eventAssembled b e) (λ after. eventsAssembled after es)
+
+-- "Header, entries, closing, records, closings", from byte 0 of the output.
+unfoldable pub fileAssembled : List ℕ → FilePieces → Res Built
+fileAssembled out f =
+    bind (headerWrote out) (λ next.
+    bind (configurationAssembled (record { next = next; out = headerOutput out (f .major) (f .minor) }) (f .entries)) (λ b.
+    eventsAssembled b (f .events)))
+
+-- ---- what then stands in the output
+
+-- The bytes from byte 0 up to the last next place are accepted as the file of the pieces, and so with its rows; the rest of the output
+-- stays.
+pub record Assembled (out : List ℕ) (f : FilePieces) (b : Built) : Type 0 where
+  pub accepted : readFile (take (b .next) (b .out)) ≡ ok (fileOf f)
+  pub whole : length (take (b .next) (b .out)) ≡ b .next
+  pub behind : drop (b .next) (b .out) ≡ drop (b .next) out
+  pub size : length (b .out) ≡ length out
