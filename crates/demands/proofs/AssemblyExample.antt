@@ -1,8 +1,7 @@
 -- The example P14 assembled: its pieces, written into an output of 96 bytes, are its 88 bytes, and the last eight bytes stay.
 -- The idea: the calls compute.
 use mathlib.Core.Path.{_≡_, refl}
-use mathlib.Core.List.{List, [], _∷_, _++_}
-use Prim.Native.Nat.{ℕ}
+use mathlib.Core.List.{[], _∷_, _++_}
 use native.Mathlib.Omega.{arith}
 use lib.ListN.{replicate}
 use Rattle.theory.specs.Tests.{ok}

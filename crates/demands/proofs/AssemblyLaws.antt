@@ -1,8 +1,7 @@
 -- A file assembled by header, entries, closing, records, closings is accepted with the rows that its pieces make.
--- The idea: what the calls so far have laid is the bytes of the tree so far; a closing's own check reads the pieces and no other records,
--- so that its acceptance makes them valid.
+-- The idea: the calls lay the bytes of the tree; a closing's own check reads the pieces and nothing else, so its acceptance makes them valid.
 use mathlib.Core.Path.{_≡_, refl, sym, ap, ap₂, _∙_, subst}
-use mathlib.Core.List.{List, [], _∷_, _++_, map, append-assoc}
+use mathlib.Core.List.{List, [], _∷_, _++_, map}
 use Prim.Native.Nat.{ℕ, zero, suc, _+_, _-_, _%_, _≤_}
 use native.Mathlib.Omega.{arith}
 use lib.ListN.{length, take, drop, length-append}
@@ -25,7 +24,7 @@ use Rattle.demands.specs.Outputs.{Laid}
 use Rattle.demands.specs.Assembly.{AllFitting, EventPieces, FilePieces, containerOf, Built, recordsAssembled, containerAssembled, configurationAssembled, eventAssembled, eventsAssembled, fileAssembled, EventsFitting, FileFits, eventOf, fileOf, Assembled}
 use Rattle.demands.proofs.Bundles.{recordItem, eventItem, parts, same-records}
 use Rattle.demands.proofs.Follows.{read-within}
-use Rattle.demands.proofs.OutputLaws.{none-laid, both-laid, around-laid, laid-within, granted}
+use Rattle.demands.proofs.OutputLaws.{structure-apart, none-laid, both-laid, around-laid, laid-within, granted}
 use Rattle.demands.proofs.WriterLaws.{record-granted, record-laid, header-laid, piece-writes}
 use Rattle.demands.proofs.ClosingLaws.{box, Checked, container-ok, container-laid, configuration-checked, event-checked}
 
@@ -36,8 +35,7 @@ module _ (r : Record) (kind : Fits 4 (r .kind)) (size : Fits 4 (length (r .body)
   record-exact c at rest x e =
       let n : ℕ = length (r .body) in
       let bs : List ℕ = put order 4 (r .kind) ++ (put order 4 n ++ (r .body ++ rest)) in
-      let shape : recordBytes r ++ rest ≡ bs =
-      append-assoc (put order 4 (r .kind)) (put order 4 n ++ r .body) rest ∙ ap (λ (y : List ℕ). put order 4 (r .kind) ++ y) (append-assoc (put order 4 n) (r .body) rest) in
+      let shape : recordBytes r ++ rest ≡ bs = structure-apart (λ (b : List ℕ). b) r rest in
       let o = opens order recordHead recordLate (ruled (λ s. recordRule (s .1)) .read) c at bs x (sym (ap (recordItem .read c at) shape) ∙ e) in
       let ek : wordAt order 4 0 bs ≡ r .kind = word-after-put order 4 (r .kind) (put order 4 n ++ (r .body ++ rest)) kind in
       let en : wordAt order 4 4 bs ≡ n = second-word order (r .kind) n (r .body ++ rest) size in

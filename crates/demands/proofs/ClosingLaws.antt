@@ -23,7 +23,7 @@ use Rattle.note.specs.Writers.{written, contentsOf, ended, within, closingBytes
 use Rattle.note.proofs.BoolLaws.{among-tells, one-up-to}
 use Rattle.demands.specs.Outputs.{Laid, Closed}
 use Rattle.demands.proofs.Bundles.{records, same-records}
-use Rattle.demands.proofs.OutputLaws.{laid-from, put-laid, refusal-keeps}
+use Rattle.demands.proofs.OutputLaws.{structure-apart, laid-from, put-laid, refusal-keeps}
 
 -- ---- any container
 
@@ -100,13 +100,12 @@ module _ (head : Unit {0} → ℕ → ℕ) (late : Unit {0} → ℕ → ℕ → 
         sym (take-append-drop n (drop (place + 8) out))
         ∙ ap₂ (λ (x y : List ℕ). x ++ y) (inner .0) (drop-drop n (place + 8) out ∙ ap (λ (m : ℕ). drop m out) last) in
         let front : eight ++ (B ++ rest) ≡ put order 4 word ++ (put order 4 n ++ (B ++ rest)) = simp append-assoc in
-        let back : containerBytes whole ++ rest ≡ put order 4 word ++ (put order 4 (length B) ++ (B ++ rest)) = simp append-assoc in
         laid-from out new place (place + length eight) eight eight-laid
         ∙ ap (λ (m : ℕ). eight ++ drop m out) at
         ∙ ap (λ (x : List ℕ). eight ++ x) behind
         ∙ front
         ∙ ap (λ (m : ℕ). put order 4 word ++ (put order 4 m ++ (B ++ rest))) (sym size)
-        ∙ sym back
+        ∙ sym (structure-apart recordsBytes whole rest)
 
     whole-size : length (containerBytes whole) ≡ end - place
     unfolding whole
@@ -144,7 +143,7 @@ module _ (head : Unit {0} → ℕ → ℕ) (late : Unit {0} → ℕ → ℕ → 
 
 -- ---- the two kinds of container
 
--- "13: place or end past the output, an end below place plus 8": what is known where none of it was given.
+-- 13 is "place or end past the output, an end below place plus 8": what is known where neither 1 nor 13 was given.
 within-ok : (n place end : ℕ) (r : Res ℕ) (next : ℕ) → within n place end r ≡ ok next
     → (n ≤ fileLimit) × (end ≤ n) × (place + 8 ≤ end) × (r ≡ ok next)
 within-ok n place end r next e =

@@ -1,25 +1,28 @@
 -- Demand 2's other half: rewriting an accepted file from its fields restores its bytes.
 -- The idea: each record's body, written again from its fields, is the body; the rest is the same words around it.
 use mathlib.Core.Path.{_≡_, refl, sym, ap, ap₂, _∙_, subst}
-use mathlib.Core.Bool.{true}
+use mathlib.Core.Bool.{Bool, true, false}
 use mathlib.Core.List.{List, [], _∷_, _++_, map}
-use Prim.Native.Nat.{ℕ, zero, suc, _+_, _≤_}
+use Prim.Native.Nat.{ℕ, zero, suc, _+_, _≤_, _<_}
 use native.Mathlib.Omega.{arith}
 use lib.Dec.{leb}
 use lib.ListN.{length, take, drop}
-use borrow.Author.Tests.{le-leb}
+use borrow.Author.Tests.{le-leb, leb-true, leb-false}
 use Rattle.theory.specs.Words.{Bytes}
-use Rattle.theory.specs.Tests.{Res, ok, bad}
+use Rattle.theory.specs.Tests.{Res, ok, bad, need, bind, unless}
 use Rattle.theory.specs.Structures.{structureBytes}
+use Rattle.theory.proofs.TestLaws.{ok-bad}
 use Rattle.note.specs.Limits.{fileLimit}
 use Rattle.note.specs.Words.{order}
 use Rattle.note.specs.Records.{Record, Context, entry, event, none, behind, recordsBytes}
 use Rattle.note.specs.Events.{Container, containerBytes, eventsBytes}
 use Rattle.note.specs.Files.{File, versionOf, configurationOf, eventsOf, headerBytes, fileBytes, readFile}
-use Rattle.note.specs.Writers.{recordAgain, containerRewritten, fileRewritten, written, rewriteWrote, rewriteOutput}
+use Rattle.note.specs.Writers.{recordAgain, containerRewritten, fileRewritten, written, rewritten, rewriteWrote, rewriteOutput}
 use Rattle.note.proofs.KindLaws.{again-restores}
 use Rattle.demands.specs.Valid.{ValidRecord, ValidRecords, ValidEvent, ValidEvents, Valid}
+use Rattle.demands.specs.Outputs.{RewriteRefused, output-over, file-refused, no-room}
 use Rattle.demands.proofs.Follows.{file-sound}
+use Rattle.demands.proofs.OutputLaws.{refusal-keeps}
 
 -- A valid record, written again from its fields, is itself.
 pub record-restored : (c : Context) (r : Record) → ValidRecord c r → recordAgain r ≡ r
@@ -54,3 +57,33 @@ rewrite-restores bs out f h e room limit =
     let r : leb (length bs) (length out) ≡ true = le-leb (length bs) (length out) room in
     let z : 0 + length bs ≡ length bs = omega arith in
     (rw (l, e, same, r), rw (l, e, same, r, z))
+
+-- A refusal of Rewrite says which it is, and leaves the output as it was.
+pub rewrite-refused : (bs out : List ℕ) (c p : ℕ) → Bytes bs → rewriteWrote bs out ≡ bad c p → RewriteRefused bs out c p × (rewriteOutput bs out ≡ out)
+unfolding rewriteWrote rewriteOutput
+rewrite-refused bs out c p h e = (over (leb (length out) fileLimit) refl e, refusal-keeps (rewriteWrote bs out) out (rewritten (readFile bs)) 0 c p e)
+  where
+    room : (f : File) → length out ≤ fileLimit → readFile bs ≡ ok f → (t : Bool) → leb (length (fileRewritten f)) (length out) ≡ t
+        → need (unless t 13) 0 (ok (length (fileRewritten f))) ≡ bad c p → RewriteRefused bs out c p
+    room f l r true q z = absurd (ok-bad z)
+    room f l r false q z =
+        let (is, valid) = file-sound bs f h r in
+        let same : fileRewritten f ≡ bs = fields-restore f valid ∙ sym is in
+        let short : length out < length bs = leb-false (length bs) (length out) (subst (λ (x : List ℕ). leb (length x) (length out) ≡ false) same q) in
+        let number : c ≡ 13 = cc in
+        let place : p ≡ 0 = cc in
+        no-room f l r short number place
+
+    file : length out ≤ fileLimit → (r : Res File) → readFile bs ≡ r
+        → bind r (λ f. need (unless (leb (length (fileRewritten f)) (length out)) 13) 0 (ok (length (fileRewritten f)))) ≡ bad c p → RewriteRefused bs out c p
+    file l (ok f) r z = room f l r (leb (length (fileRewritten f)) (length out)) refl z
+    file l (bad c′ p′) r z = let same : _≡_ {A = Res File} (bad c′ p′) (bad c p) = cc in file-refused l (r ∙ same)
+
+    over : (t : Bool) → leb (length out) fileLimit ≡ t
+        → need (unless t 1) 0 (bind (readFile bs) (λ f. need (unless (leb (length (fileRewritten f)) (length out)) 13) 0 (ok (length (fileRewritten f))))) ≡ bad c p
+        → RewriteRefused bs out c p
+    over true q z = file (leb-true (length out) fileLimit q) (readFile bs) refl z
+    over false q z =
+        let number : c ≡ 1 = cc in
+        let place : p ≡ 0 = cc in
+        output-over (leb-false (length out) fileLimit q) number place

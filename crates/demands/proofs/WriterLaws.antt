@@ -9,7 +9,7 @@ use native.Mathlib.Decide.{decLe}
 use lib.ListN.{length, take, drop, length-drop, take-append-drop, drop-of-length-le}
 use lib.Seq.{take-at, drop-drop, drop-append-le, take-nil}
 use borrow.Author.Tests.{le-leb}
-use Rattle.theory.specs.Words.{Bytes, Fits, put}
+use Rattle.theory.specs.Words.{Bytes, Fits}
 use Rattle.theory.specs.Tests.{Res, ok, bad}
 use Rattle.theory.proofs.WordLaws.{Bytes-puts, Bytes-append}
 use Rattle.theory.proofs.StructureLaws.{length-structure, drop-two}
@@ -38,7 +38,7 @@ use Rattle.demands.specs.Pieces.{Piece, phonon, charge, administrative, 
 use Rattle.demands.specs.Outputs.{Laid, SectionStands}
 use Rattle.demands.proofs.Bundles.{headerItem}
 use Rattle.demands.proofs.RecordLaws.{reads-record}
-use Rattle.demands.proofs.OutputLaws.{laid-from, put-laid, Granted, granted, refusal-keeps}
+use Rattle.demands.proofs.OutputLaws.{structure-apart, laid-from, put-laid, Granted, granted, refusal-keeps}
 
 -- ---- one record
 
@@ -54,7 +54,7 @@ module _ (out : List ℕ) (place next : ℕ) (w : Written) (e : recordWrote out 
       let g = record-granted in
       rw (e, ← g .is) (put-laid out (w .bytes) place (place + length (w .bytes)) (g .room))
 
--- "A refusal changes no byte of a lent buffer."
+-- A refusal leaves the output as it was.
 pub record-refused : (out : List ℕ) (place : ℕ) (w : Written) (c p : ℕ) → recordWrote out place w ≡ bad c p → recordOutput out place w ≡ out
 unfolding recordOutput
 record-refused out place w c p e = refusal-keeps (recordWrote out place w) out (w .bytes) place c p e
@@ -115,11 +115,10 @@ module _ (out : List ℕ) (place next : ℕ) (w : Written) (r : Record) (h : Wri
   -- Its body stands eight bytes further on.
   pub body-from : drop (place + 8) (recordOutput out place w) ≡ r .body ++ drop next out
   body-from =
-      let n : ℕ = length (r .body) in
       let rest : List ℕ = drop next out in
       sym (drop-drop 8 place (recordOutput out place w))
-      ∙ ap (drop 8) (written-from ∙ append-assoc (put order 4 (r .kind)) _ rest ∙ ap (λ (x : List ℕ). put order 4 (r .kind) ++ x) (append-assoc (put order 4 n) (r .body) rest))
-      ∙ drop-two order (r .kind) n (r .body ++ rest)
+      ∙ ap (drop 8) (written-from ∙ structure-apart (λ (b : List ℕ). b) r rest)
+      ∙ drop-two order (r .kind) (length (r .body)) (r .body ++ rest)
 
 -- ---- the eight kinds
 

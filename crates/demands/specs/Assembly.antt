@@ -85,7 +85,7 @@ unfoldable pub eventsAssembled : Built → List EventPieces → Res Built
 eventsAssembled b [] = ok b
 eventsAssembled b (e ∷ es) = bind (eventAssembled b e) (λ after. eventsAssembled after es)
 
--- "Header, entries, closing, records, closings", from byte 0 of the output.
+-- The header, whose writer "starts at byte 0"; the configuration; the events.
 unfoldable pub fileAssembled : List ℕ → FilePieces → Res Built
 fileAssembled out f =
     bind (headerWrote out) (λ next.

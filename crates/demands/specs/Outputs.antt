@@ -1,12 +1,14 @@
 -- Document 01, 'Rows and calls', of writers: what stands in the output afterwards, and what the reading calls make of it.
-use Prim.Native.Nat.{ℕ, _+_, _-_}
+use Prim.Native.Nat.{ℕ, _+_, _-_, _≤_, _<_}
 use mathlib.Core.Path.{_≡_}
 use mathlib.Core.List.{List}
 use lib.ListN.{length, take, drop}
-use Rattle.theory.specs.Tests.{Res, ok}
+use Rattle.theory.specs.Tests.{Res, ok, bad}
+use Rattle.note.specs.Limits.{fileLimit}
 use Rattle.note.specs.History.{Section}
 use Rattle.note.specs.Records.{Record, Context, readRecords}
 use Rattle.note.specs.Events.{Container, containerBytes}
+use Rattle.note.specs.Files.{File, readFile}
 use Rattle.note.specs.Writers.{contentsOf}
 use Rattle.demands.specs.Pieces.{timesFrom, masksFrom}
 
@@ -25,7 +27,7 @@ pub record SectionStands (bs : List ℕ) (from : ℕ) (s : Section) : Type 0 whe
   pub masks : take (length (s .masks)) (drop (masksFrom from s) bs) ≡ s .masks
 
 -- "A container is closed from a given place to a given end, which is the next place, over contents already written after eight free bytes:
--- they are checked by the reading rules, then the eight bytes are written"; "a container's contents stay". From the place up to the end
+-- they are checked by the reading rules, then the eight bytes are written"; "a container's contents, stay". From the place up to the end
 -- then stands the container with that first word and the records or entries read from the contents, and there it is read.
 pub record Closed (read : Unit {0} → ℕ → List ℕ → Res Container) (c : Context) (old new : List ℕ) (place end next word : ℕ) : Type 0 where
   pub records : List Record
@@ -34,3 +36,10 @@ pub record Closed (read : Unit {0} → ℕ → List ℕ → Res Container) (c : 
   pub reads : read tt place (take (end - place) (drop place new)) ≡ ok (record { kind = word; body = records })
   pub stands : Laid old new place end (containerBytes (record { kind = word; body = records }))
   pub contents-stay : drop (place + 8) new ≡ drop (place + 8) old
+
+-- "Rewrite ..: 1 for either buffer, the file's refusal, then 13": the output over the limit, 1 at place 0; the file's own refusal, 1 where it
+-- is over the limit; too little room for the file, 13 at place 0.
+pub data RewriteRefused (bs out : List ℕ) (c p : ℕ) : Type 0 where
+  output-over : fileLimit < length out → c ≡ 1 → p ≡ 0 → RewriteRefused bs out c p
+  file-refused : length out ≤ fileLimit → readFile bs ≡ bad c p → RewriteRefused bs out c p
+  no-room : (f : File) → length out ≤ fileLimit → readFile bs ≡ ok f → length out < length bs → c ≡ 13 → p ≡ 0 → RewriteRefused bs out c p
