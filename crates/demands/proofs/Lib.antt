@@ -2,6 +2,7 @@ pub mod Bundles
 pub mod Follows
 pub mod RowLaws
 pub mod FaultLaws
+pub mod EventLaws
 pub mod RecordLaws
 pub mod WalkerLaws
 pub mod FindLaws

@@ -4,18 +4,18 @@ use mathlib.Core.Path.{_≡_, refl, sym, ap, ap₂, _∙_, subst}
 use mathlib.Core.List.{List, [], _∷_, _++_, map, append-nil}
 use Prim.Native.Nat.{ℕ, suc, _+_, _-_, _*_, _%_, _≤_, _<_}
 use native.Mathlib.Omega.{arith}
-use lib.ListN.{length, take, drop, length-append, length-map, length-drop}
+use lib.ListN.{length, take, drop, length-map, length-drop}
 use lib.Seq.{length-take-le}
 use Rattle.theory.specs.Words.{Bytes}
-use Rattle.theory.specs.Tests.{Res, ok, bad}
-use Rattle.theory.specs.Layout.{Row, Child, Node, box, total, extents, childRows, rows, rowCount}
+use Rattle.theory.specs.Tests.{ok}
+use Rattle.theory.specs.Layout.{Row, Child, Node, total, extents, childRows, rows, rowCount}
 use Rattle.theory.proofs.WordLaws.{Bytes-drop}
 use Rattle.theory.proofs.TestLaws.{ok-inj}
 use Rattle.theory.proofs.LayoutLaws.{rows-append, length-rows, rowCount-append, extents-append}
 use Rattle.theory.proofs.LoopLaws.{At, start, ended, prefix, reads}
 use Rattle.note.specs.Limits.{fileLimit, rowWidth}
 use Rattle.note.specs.Words.{word}
-use Rattle.note.specs.Records.{Record, event, none, recordsBytes, readRecords}
+use Rattle.note.specs.Records.{event, none, readRecords}
 use Rattle.note.specs.Events.{Container, readEvents}
 use Rattle.note.specs.Rows.{childOf, childrenOf, eventNode}
 use Rattle.demands.proofs.Bundles.{eventItem, same-events}

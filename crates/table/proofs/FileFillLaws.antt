@@ -1,14 +1,14 @@
 -- Filling the rows of a file that was checked: the rows that storing its parts' rows in the code's order leaves.
 -- The idea: each part that code cuts out is read as the file's own, so its rows are the file's, and they stand one behind the other.
-use mathlib.Core.Path.{_≡_, refl, sym, ap, ap₂, _∙_, subst}
+use mathlib.Core.Path.{_≡_, refl, sym, ap, ap₂, _∙_}
 use mathlib.Core.List.{List, [], _∷_, _++_, map}
-use Prim.Native.Nat.{ℕ, suc, _+_, _-_, _*_, _≤_, _<_}
+use Prim.Native.Nat.{ℕ, _+_, _-_, _*_, _≤_}
 use native.Mathlib.Omega.{arith}
 use lib.ListN.{length, take, drop, length-append, length-map, length-drop}
 use Rattle.theory.specs.Words.{Bytes}
-use Rattle.theory.specs.Tests.{Res, ok}
-use Rattle.theory.specs.Layout.{Row, Child, Node, single, box, total, childRow, childRows, rows}
-use Rattle.theory.proofs.LayoutLaws.{length-childRows, length-rows}
+use Rattle.theory.specs.Tests.{ok}
+use Rattle.theory.specs.Layout.{Row, Child, total, childRows, rows}
+use Rattle.theory.proofs.LayoutLaws.{length-childRows}
 use Rattle.note.specs.Limits.{rowWidth}
 use Rattle.note.specs.Words.{word}
 use Rattle.note.specs.Records.{entry, recordsBytes, readRecords}
@@ -21,7 +21,7 @@ use Rattle.containers.proofs.EventLoop.{few}
 use Rattle.containers.proofs.FileParts.{length-is, room, entries-part, entries-read, events-read}
 use Rattle.rows.specs.Buffers.{rowOf, stored}
 use Rattle.rows.proofs.StoreLaws.{stored-append, length-stored, stored-before}
-use Rattle.table.specs.Filling.{Fillable, FillableEvents, FillableFile, Filled, FilledEvents}
+use Rattle.table.specs.Filling.{Fillable, FillableEvents, Filled, FilledEvents}
 
 module _ (bs : List ℕ) (f : File) (h : Bytes bs) (e : readFile bs ≡ ok f) where
   abbrev conf : Container

@@ -2,12 +2,12 @@
 -- The idea: the count that check gives is the number of rows, so the code's test is the definition's.
 use Prim.Native.Nat.{ℕ, _+_, _*_, _/_, _≤_, _<_}
 use native.Mathlib.Omega.{arith}
-use mathlib.Core.Path.{_≡_, refl, sym, ap, _∙_, subst}
+use mathlib.Core.Path.{_≡_, refl, _∙_}
 use mathlib.Core.List.{List, [], _∷_, map}
-use lib.ListN.{length, length-append, length-map}
+use lib.ListN.{length, length-map}
 use borrow.Author.Tests.{le-leb, lt-leb}
 use Rattle.theory.specs.Tests.{Res, ok, bad}
-use Rattle.theory.specs.Layout.{Row, Node, total, childRows, rows, rowCount}
+use Rattle.theory.specs.Layout.{rowCount}
 use Rattle.theory.proofs.LayoutLaws.{length-rows}
 use Rattle.note.specs.Limits.{rowWidth}
 use Rattle.note.specs.Events.{Container}

@@ -162,6 +162,13 @@ word-of-append o w p xs ys h = ap (λ (r : List ℕ). num (ordered o r)) (cut p 
     cut (suc p) [] h = absurd (omega arith)
     cut (suc p) (x ∷ xs) h = cut p xs (omega arith)
 
+-- A word of a part that was cut out is that word of the whole.
+pub word-of-part : (o : Order) (w p q n : ℕ) (bs : List ℕ) → p + w ≤ length (take n (drop q bs)) → wordAt o w p (take n (drop q bs)) ≡ wordAt o w (q + p) bs
+word-of-part o w p q n bs h =
+    sym (word-of-append o w p (take n (drop q bs)) (drop n (drop q bs)) h)
+    ∙ ap (wordAt o w p) (take-append-drop n (drop q bs))
+    ∙ word-of-drop o w p q bs
+
 -- A word past the first bytes is a word of the rest.
 pub word-past : (o : Order) (w p : ℕ) (xs ys : List ℕ) → wordAt o w (length xs + p) (xs ++ ys) ≡ wordAt o w p ys
 unfolding wordAt

@@ -1,0 +1,17 @@
+-- An event's records: the first is administrative.
+-- The idea: before the first record nothing has come, and nothing but an administrative record is admitted then.
+use mathlib.Core.Path.{_≡_, refl}
+use mathlib.Core.Bool.{Bool, true, false, cond}
+use lib.Dec.{eqb}
+use borrow.Author.Tests.{eqb-true}
+use Rattle.note.specs.Administrative.{administrativeKind}
+use Rattle.note.specs.Records.{Record, event, none, isPlaced, isAllowed}
+use Rattle.demands.specs.Valid.{ValidRecord}
+
+pub first-administrative : (r : Record) → ValidRecord (event none) r → r .kind ≡ administrativeKind .word
+unfolding isAllowed isPlaced
+first-administrative r v = go (eqb (r .kind) (administrativeKind .word)) refl (v .place-allowed)
+  where
+    go : (b : Bool) → eqb (r .kind) (administrativeKind .word) ≡ b → cond b true false ≡ true → r .kind ≡ administrativeKind .word
+    go true e q = eqb-true (r .kind) (administrativeKind .word) e
+    go false e q = absurd (mathlib.Core.Bool.false≢true q)

@@ -1,0 +1,304 @@
+-- The search over events and over an event's records: what is known at each turn, and what each way of a turn leads to.
+-- The idea: the whole is known to be read, so what stands next is read too; the first match of what is still to be searched is the
+-- first match of all, and a trace that doesn't match is left out without loss.
+use mathlib.Core.Path.{_≡_, refl, sym, ap, ap₂, _∙_, subst}
+use mathlib.Core.Bool.{Bool, true, false}
+use mathlib.Core.List.{List, [], _∷_, _++_}
+use Prim.Native.Nat.{ℕ, _+_, _-_, _≤_, _<_}
+use native.Mathlib.Decide.{ℕ-discrete}
+use native.Mathlib.Omega.{arith}
+use lib.Dec.{eqb}
+use lib.ListN.{length, take, drop, length-drop}
+use lib.Seq.{length-take-le}
+use borrow.Author.Tests.{eq-eqb, ne-eqb}
+use Rattle.theory.specs.Words.{Bytes}
+use Rattle.theory.specs.Tests.{Res, ok}
+use Rattle.theory.proofs.WordLaws.{Bytes-drop, Bytes-take, word-of-part}
+use Rattle.theory.proofs.TestLaws.{ok-inj}
+use Rattle.theory.proofs.Items.{Item}
+use Rattle.theory.proofs.LoopLaws.{Ahead, ahead}
+use Rattle.note.specs.Limits.{fileLimit}
+use Rattle.note.specs.Words.{order, word}
+use Rattle.note.specs.Administrative.{administrativeOf}
+use Rattle.note.specs.Trace.{traceKind, traceOf}
+use Rattle.note.specs.Records.{Record, Context, behind, event, none, recordSize, recordsBytes, recordRule, kindOf, readRecords}
+use Rattle.note.specs.Events.{Container, containerSize, readEvents}
+use Rattle.note.specs.Calls.{Placed, isTrace, put, tracesIn, tracesFrom, numberOf, firstMatch}
+use Rattle.demands.specs.Valid.{ValidRecord, ValidEvent}
+use Rattle.demands.proofs.Bundles.{recordItem, eventItem, same-record, same-records, same-events, record-valid, event-valid}
+use Rattle.demands.proofs.EventLaws.{first-administrative}
+use Rattle.rules.proofs.RoomLaws.{administrative-room, trace-room}
+use Rattle.record.proofs.StepLaws.{Read, read-shows, cut}
+use Rattle.containers.proofs.RecordLoop.{left}
+use Rattle.containers.proofs.EventLoop.{Shown, event-shows}
+use Rattle.find.specs.Search.{Searchable, tracesRead}
+
+-- What is left of a part, as code cuts it.
+abbrev behindOf : ℕ → List ℕ → List ℕ
+behindOf n bs = take (length bs - n) (drop n bs)
+
+length-behind : (n : ℕ) (bs : List ℕ) → length (behindOf n bs) ≡ length bs - n
+length-behind n bs = ap length (sym (left n bs)) ∙ length-drop n bs
+
+Bytes-behind : (n : ℕ) (bs : List ℕ) → Bytes bs → Bytes (behindOf n bs)
+Bytes-behind n bs h = subst Bytes (left n bs) (Bytes-drop n bs h)
+
+no-records : (c : Context) (at : ℕ) (bs : List ℕ) (rs : List Record) → length bs ≤ 0 → readRecords c at bs ≡ ok rs → rs ≡ []
+unfolding readRecords
+no-records c at [] rs l e = sym (ok-inj e)
+no-records c at (b ∷ bs) rs l e = absurd (omega arith)
+
+no-events : (at : ℕ) (bs : List ℕ) (es : List Container) → length bs ≤ 0 → readEvents tt at bs ≡ ok es → es ≡ []
+unfolding readEvents
+no-events at [] es l e = sym (ok-inj e)
+no-events at (b ∷ bs) es l e = absurd (omega arith)
+
+-- An event of another number has no match.
+other-number : (number code n : ℕ) → (n ≡ number → ⊥) → (at : ℕ) (rs : List Record) (ts : List Placed)
+    → firstMatch number code (tracesIn n at rs ++ ts) ≡ firstMatch number code ts
+unfolding tracesIn firstMatch
+other-number number code n d at [] ts = refl
+other-number number code n d at (r ∷ rs) ts = go (isTrace r) (other-number number code n d (at + recordSize r) rs ts)
+  where
+    t : Placed
+    t = record { number = n; code = traceOf (r .body) .code; place = at }
+
+    more : List Placed
+    more = tracesIn n (at + recordSize r) rs
+
+    go : (b : Bool) → firstMatch number code (more ++ ts) ≡ firstMatch number code ts → firstMatch number code (put b t more ++ ts) ≡ firstMatch number code ts
+    go true e = rw (ne-eqb n number d) e
+    go false e = e
+
+-- ---- the records of an event that carries the number
+
+-- Records fill the part, and the first match among their traces and the later ones is the answer.
+pub record Looking (number code : ℕ) (answer : List ℕ) (next : ℕ) (later : List Placed) (place : ℕ) (bs : List ℕ) : Type 0 where
+  pub state : Context
+  pub rs : List Record
+  pub reads : readRecords state place bs ≡ ok rs
+  pub still : firstMatch number code (tracesIn number place rs ++ later) ≡ answer
+  pub ends : place + length bs ≡ next
+  pub bytes : Bytes bs
+
+module _ {number code : ℕ} {answer : List ℕ} {next : ℕ} {later : List Placed} {place : ℕ} {bs : List ℕ} (i : Looking number code answer next later place bs) where
+  pub looked : length bs ≤ 0 → firstMatch number code later ≡ answer
+  unfolding tracesIn
+  looked l =
+      let none-left : i .rs ≡ [] = no-records (i .state) place bs (i .rs) l (i .reads) in
+      ap (λ (rs : List Record). firstMatch number code (tracesIn number place rs ++ later)) (sym none-left) ∙ i .still
+
+  module _ (l : 0 < length bs) where
+    front : Ahead recordItem (i .state) place bs (i .rs)
+    front = ahead recordItem (i .state) place bs (i .rs) (i .bytes) l (sym (same-records (i .state) place bs) ∙ i .reads)
+
+    shown : Read (i .state) place bs (word 0 bs) (word 4 bs) × (front .item ≡ record { kind = word 0 bs; body = take (word 4 bs) (drop 8 bs) })
+    shown = read-shows (i .state) place bs (front .item) (same-record (i .state) place bs ∙ front .reads-item)
+
+    pub record-fits : 8 + word 4 bs ≤ length bs
+    record-fits = shown .0 .fits
+
+    abbrev this : Placed
+    this = record { number = number; code = word 16 (take (word 4 bs) (drop 8 bs)); place = place }
+
+    abbrev others : List Placed
+    others = tracesIn number (place + (8 + word 4 bs)) (front .others)
+
+    -- the record that stands next, and those behind it
+    split : firstMatch number code (put (eqb (word 0 bs) (traceKind .word)) this others ++ later) ≡ answer
+    unfolding tracesIn traceOf
+    split =
+        let a : Record = record { kind = word 0 bs; body = take (word 4 bs) (drop 8 bs) } in
+        let size : place + recordSize a ≡ place + (8 + word 4 bs) = ap (λ (n : ℕ). place + (8 + n)) (shown .0 .size) in
+        let both : i .rs ≡ a ∷ front .others = front .splits ∙ ap (λ (r : Record). r ∷ front .others) (shown .1) in
+        ap (λ (p : ℕ). firstMatch number code (put (eqb (word 0 bs) (traceKind .word)) this (tracesIn number p (front .others)) ++ later)) (sym size)
+        ∙ ap (λ (rs : List Record). firstMatch number code (tracesIn number place rs ++ later)) (sym both) ∙ i .still
+
+    -- a trace has room for the words before its samples; its code is the record's word 24
+    module _ (k : word 0 bs ≡ traceKind .word) where
+      room : 48 ≤ word 4 bs
+      unfolding kindOf
+      room =
+          let b : List ℕ = take (word 4 bs) (drop 8 bs) in
+          omega (arith, trace-room b (subst (λ (w : ℕ). recordRule w b ≡ 0) k (shown .0 .follows)), shown .0 .size)
+
+      pub trace-fits : 56 ≤ length bs
+      trace-fits = omega (arith, room, record-fits)
+
+      code-is : this .code ≡ word 24 bs
+      code-is = word-of-part order 4 16 8 (word 4 bs) bs (omega (arith, room, shown .0 .size))
+
+      pub hit : word 24 bs ≡ code → place ∷ [] ≡ answer
+      unfolding firstMatch
+      hit c =
+          let same : this .code ≡ code = code-is ∙ c in
+          rw (eq-eqb (word 0 bs) (traceKind .word) k, eq-eqb number number refl, eq-eqb (this .code) code same) at split
+
+    -- a record that is no trace of the code
+    missed : (word 0 bs ≡ traceKind .word → word 24 bs ≡ code → ⊥) → firstMatch number code (others ++ later) ≡ answer
+    unfolding firstMatch
+    missed d = elim (ℕ-discrete (word 0 bs) (traceKind .word)) [
+      | yes k ↦
+          let differs : this .code ≡ code → ⊥ = λ q. d k (sym (code-is k) ∙ q) in
+          rw (eq-eqb (word 0 bs) (traceKind .word) k, eq-eqb number number refl, ne-eqb (this .code) code differs) at split
+      | no k ↦ rw (ne-eqb (word 0 bs) (traceKind .word) k) at split
+    ]
+
+    pub past : (word 0 bs ≡ traceKind .word → word 24 bs ≡ code → ⊥) → (m : ℕ) → m ≡ word 4 bs
+        → Looking number code answer next later (place + (8 + m)) (behindOf (8 + m) bs)
+    past d m em =
+        let n : ℕ = 8 + word 4 bs in
+        let s : Context = behind (i .state) (front .item .kind) in
+        let size : 8 + length (front .item .body) ≡ n = ap (λ (r : Record). 8 + length (r .body)) (shown .1) ∙ ap (λ (x : ℕ). 8 + x) (shown .0 .size) in
+        let behind-it : readRecords s (place + n) (drop n bs) ≡ ok (front .others) =
+        subst (λ (x : ℕ). readRecords s (place + x) (drop x bs) ≡ ok (front .others)) size
+        (same-records s (place + (8 + length (front .item .body))) (drop (8 + length (front .item .body)) bs) ∙ front .reads-others) in
+        subst (λ (x : ℕ). Looking number code answer next later (place + (8 + x)) (behindOf (8 + x) bs)) (sym em)
+        (record {
+          state = s;
+          rs = front .others;
+          reads = ap (readRecords s (place + n)) (sym (left n bs)) ∙ behind-it;
+          still = missed d;
+          ends = omega (arith, i .ends, length-behind n bs, record-fits);
+          bytes = Bytes-behind n bs (i .bytes);
+        })
+
+-- ---- the events
+
+-- Events fill the part, and the first match among their traces is the answer.
+pub record Searching (number code : ℕ) (answer : List ℕ) (at : ℕ) (bs : List ℕ) : Type 0 where
+  pub es : List Container
+  pub reads : readEvents tt at bs ≡ ok es
+  pub still : firstMatch number code (tracesFrom at es) ≡ answer
+  pub within : at + length bs ≤ fileLimit
+  pub bytes : Bytes bs
+
+-- The traces behind the first n bytes of a part whose first byte stands at `at`.
+abbrev pub laterTraces : ℕ → ℕ → List ℕ → List Placed
+laterTraces n at bs = tracesRead (at + n) (readEvents tt (at + n) (behindOf n bs))
+
+pub begin : (number code from : ℕ) (bs : List ℕ) → Searchable from bs → Bytes bs
+    → Searching number code (firstMatch number code (tracesRead from (readEvents tt from bs))) from bs
+unfolding tracesRead
+begin number code from bs s h = record {
+  es = s .events;
+  reads = s .reads;
+  still = ap (λ (r : Res (List Container)). firstMatch number code (tracesRead from r)) (sym (s .reads));
+  within = s .within;
+  bytes = h;
+}
+
+module _ {number code : ℕ} {answer : List ℕ} {at : ℕ} {bs : List ℕ} (i : Searching number code answer at bs) where
+  pub searched : length bs ≤ 0 → [] ≡ answer
+  unfolding tracesFrom firstMatch
+  searched l =
+      let none-left : i .es ≡ [] = no-events at bs (i .es) l (i .reads) in
+      ap (λ (es : List Container). firstMatch number code (tracesFrom at es)) (sym none-left) ∙ i .still
+
+  module _ (l : 0 < length bs) where
+    front-event : Ahead eventItem tt at bs (i .es)
+    front-event = ahead eventItem tt at bs (i .es) (i .bytes) l (sym (same-events tt at bs) ∙ i .reads)
+
+    shown-event : Shown at bs (front-event .item)
+    shown-event = event-shows at bs (front-event .item) (i .bytes) (front-event .reads-item)
+
+    pub event-fits : 8 + word 4 bs ≤ length bs
+    event-fits = shown-event .fits
+
+    -- its records' part, as code cuts it
+    abbrev inner : List ℕ
+    inner = take (8 + word 4 bs - 8) (drop 8 bs)
+
+    inner-length : length inner ≡ word 4 bs
+    inner-length = ap length (cut (word 4 bs) bs) ∙ length-take-le (word 4 bs) (drop 8 bs) (omega (arith, length-drop 8 bs, event-fits))
+
+    inner-bytes : Bytes inner
+    inner-bytes = Bytes-take (8 + word 4 bs - 8) (drop 8 bs) (Bytes-drop 8 bs (i .bytes))
+
+    -- its first record, which is administrative
+    inner-front : Ahead recordItem (event none) (at + 8) inner (front-event .item .body)
+    inner-front =
+        let e : Container = front-event .item in
+        let v : ValidEvent e = event-valid e (eventItem .sound tt at bs e (i .bytes) (front-event .reads-item) .1) in
+        ahead recordItem (event none) (at + 8) inner (e .body) inner-bytes (omega (arith, v .not-empty, shown-event .size, inner-length))
+        (sym (same-records (event none) (at + 8) inner) ∙ shown-event .contents)
+
+    first-shown : Read (event none) (at + 8) inner (word 0 inner) (word 4 inner) × (inner-front .item ≡ record { kind = word 0 inner; body = take (word 4 inner) (drop 8 inner) })
+    first-shown = read-shows (event none) (at + 8) inner (inner-front .item) (same-record (event none) (at + 8) inner ∙ inner-front .reads-item)
+
+    first-room : length (inner-front .item .body) ≡ 24
+    unfolding kindOf
+    first-room =
+        let r : Record = inner-front .item in
+        let v : ValidRecord (event none) r = record-valid (event none) r (recordItem .sound (event none) (at + 8) inner r inner-bytes (inner-front .reads-item) .1) in
+        administrative-room (r .body) (subst (λ (w : ℕ). recordRule w (r .body) ≡ 0) (first-administrative r v) (v .body-rule))
+
+    -- there is room for it; its number is the event's word 24
+    first-long : 32 ≤ length inner
+    first-long = omega (arith, first-room, ap (λ (r : Record). length (r .body)) (first-shown .1), first-shown .0 .size, first-shown .0 .fits)
+
+    pub first-fits : 40 ≤ length bs
+    first-fits = omega (arith, first-long, inner-length, event-fits)
+
+    number-is : numberOf (front-event .item .body) ≡ word 24 bs
+    unfolding administrativeOf
+    number-is =
+        let body-is : inner-front .item .body ≡ take (word 4 inner) (drop 8 inner) = ap (λ (r : Record). r .body) (first-shown .1) in
+        ap numberOf (inner-front .splits)
+        ∙ ap (word 8) body-is
+        ∙ word-of-part order 4 8 8 (word 4 inner) inner (omega (arith, first-room, ap length body-is))
+        ∙ word-of-part order 4 16 8 (8 + word 4 bs - 8) bs (omega (arith, first-long))
+
+    -- behind the event
+    behind-event : readEvents tt (at + (8 + word 4 bs)) (behindOf (8 + word 4 bs) bs) ≡ ok (front-event .others)
+    behind-event =
+        let n : ℕ = 8 + word 4 bs in
+        let size : 8 + length (recordsBytes (front-event .item .body)) ≡ n = ap (λ (x : ℕ). 8 + x) (shown-event .size) in
+        ap (readEvents tt (at + n)) (sym (left n bs))
+        ∙ subst (λ (x : ℕ). readEvents tt (at + x) (drop x bs) ≡ ok (front-event .others)) size
+        (same-events tt (at + containerSize (front-event .item)) (drop (containerSize (front-event .item)) bs) ∙ front-event .reads-others)
+
+    split-event : firstMatch number code (tracesIn (word 24 bs) (at + 8) (front-event .item .body) ++ laterTraces (8 + word 4 bs) at bs) ≡ answer
+    unfolding tracesFrom tracesRead
+    split-event =
+        let n : ℕ = 8 + word 4 bs in
+        let rs : List Record = front-event .item .body in
+        let size : containerSize (front-event .item) ≡ n = ap (λ (x : ℕ). 8 + x) (shown-event .size) in
+        ap₂ (λ (w : ℕ) (r : Res (List Container)). firstMatch number code (tracesIn w (at + 8) rs ++ tracesRead (at + n) r)) (sym number-is) behind-event
+        ∙ ap (λ (x : ℕ). firstMatch number code (tracesIn (numberOf rs) (at + 8) rs ++ tracesFrom (at + x) (front-event .others))) (sym size)
+        ∙ ap (λ (es : List Container). firstMatch number code (tracesFrom at es)) (sym (front-event .splits))
+        ∙ i .still
+
+    -- into an event of the number
+    pub into : (m : ℕ) → m ≡ word 4 bs → word 24 bs ≡ number
+        → Looking number code answer (at + (8 + m)) (laterTraces (8 + m) at bs) (at + 8) (take (8 + m - 8) (drop 8 bs))
+    into m em same =
+        subst (λ (x : ℕ). Looking number code answer (at + (8 + x)) (laterTraces (8 + x) at bs) (at + 8) (take (8 + x - 8) (drop 8 bs))) (sym em)
+        (record {
+          state = event none;
+          rs = front-event .item .body;
+          reads = shown-event .contents;
+          still = subst (λ (w : ℕ). firstMatch number code (tracesIn w (at + 8) (front-event .item .body) ++ laterTraces (8 + word 4 bs) at bs) ≡ answer) same split-event;
+          ends = omega (arith, inner-length);
+          bytes = inner-bytes;
+        })
+
+    -- past an event in which nothing matches
+    pub past-event : (m : ℕ) → m ≡ word 4 bs → firstMatch number code (laterTraces (8 + m) at bs) ≡ answer
+        → Searching number code answer (at + (8 + m)) (behindOf (8 + m) bs)
+    unfolding tracesRead
+    past-event m em e =
+        let reads-behind : readEvents tt (at + (8 + m)) (behindOf (8 + m) bs) ≡ ok (front-event .others) =
+        subst (λ (x : ℕ). readEvents tt (at + (8 + x)) (behindOf (8 + x) bs) ≡ ok (front-event .others)) (sym em) behind-event in
+        record {
+          es = front-event .others;
+          reads = reads-behind;
+          still = ap (λ (r : Res (List Container)). firstMatch number code (tracesRead (at + (8 + m)) r)) (sym reads-behind) ∙ e;
+          within = omega (arith, i .within, length-behind (8 + m) bs, em, event-fits);
+          bytes = Bytes-behind (8 + m) bs (i .bytes);
+        }
+
+    pub past-other : (m : ℕ) → m ≡ word 4 bs → (word 24 bs ≡ number → ⊥) → firstMatch number code (laterTraces (8 + m) at bs) ≡ answer
+    past-other m em d =
+        subst (λ (x : ℕ). firstMatch number code (laterTraces (8 + x) at bs) ≡ answer) (sym em)
+        (sym (other-number number code (word 24 bs) d (at + 8) (front-event .item .body) (laterTraces (8 + word 4 bs) at bs)) ∙ split-event)

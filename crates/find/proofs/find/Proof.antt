@@ -1,0 +1,85 @@
+-- The two ways out are the laws of CallLaws: check's refusal, and what the search of the events finds.
+-- The idea: the file's bytes are known to be bytes, and its configuration's length word tells where the events begin.
+use mathlib.Core.Path.{sym, _∙_}
+use native.Mathlib.Omega.{arith}
+use denote.Ref.{now}
+use Rattle.theory.proofs.WordLaws.{Bytes-from}
+use Rattle.note.specs.Answers.{givenFind}
+use Rattle.find.proofs.CallLaws.{refused, word-fits, events-fit, searchable, searched}
+use borrow.Author.Needs.{needs}
+use Rattle.find.proofs.find.Statement.{statement}
+use Rattle.find.proofs.find.Tie as tie
+use Rattle.find.proofs.find.Reads as reads
+use Rattle.find.proofs.find.Lts as lts
+use Rattle.containers.proofs.check.Reads as check-reads
+use Rattle.find.proofs.search.Reads as search-reads
+use Rattle.words.proofs.word_at.Reads as word-at-reads
+
+check-requires : tie.Need-check-requires
+check-requires c κs = search needs
+
+enum-known-fault : tie.Need-enum-known-fault
+enum-known-fault c = search needs
+
+enum-told : tie.Need-enum-told
+enum-told c = search needs
+
+word-at-requires : tie.Need-word-at-requires
+word-at-requires c κs =
+    let a = c .before .before .before .before .args in
+    let h = Bytes-from (now (a .file)) (λ i l. omega (arith, c .before .before .before .shared-slice-known .given i)) in
+    word-fits (now (a .file)) h _ (sym (c .enum-told .given .1) ∙ c .before .before .check .ensures)
+
+cast-from : tie.Need-cast-from
+cast-from c = search needs
+
+add-from : tie.Need-add-from
+add-from c = search needs
+
+sub-search : tie.Need-sub-search
+sub-search c =
+    let a = c .before .before .before .before .before .args in
+    let h = Bytes-from (now (a .file)) (λ i l. omega (arith, c .before .before .before .before .shared-slice-known .given i)) in
+    events-fit (now (a .file)) h _ (sym (c .before .enum-told .given .1) ∙ c .before .before .before .check .ensures) _ (c .word-at .ensures)
+
+part-search-start : tie.Need-part-search-start
+part-search-start c =
+    let a = c .before .before .before .before .before .args in
+    let h = Bytes-from (now (a .file)) (λ i l. omega (arith, c .before .before .before .before .shared-slice-known .given i)) in
+    events-fit (now (a .file)) h _ (sym (c .before .enum-told .given .1) ∙ c .before .before .before .check .ensures) _ (c .word-at .ensures)
+
+part-search-end : tie.Need-part-search-end
+part-search-end c = search needs
+
+search-requires : tie.Need-search-requires
+search-requires c κs =
+    let a = c .before .before .before .before .before .before .args in
+    let h = Bytes-from (now (a .file)) (λ i l. omega (arith, c .before .before .before .before .before .shared-slice-known .given i)) in
+    searchable (now (a .file)) h _ (sym (c .before .before .enum-told .given .1) ∙ c .before .before .before .before .check .ensures) _ (c .before .word-at .ensures)
+
+returns : tie.Need-returns
+unfolding givenFind
+returns c = let a = c .before .before .before .before .before .args in refused (now (a .file)) (a .number) (a .code) _ _ (sym (c .before .fault .given .1) ∙ c .before .before .before .check .ensures)
+
+returns-2 : tie.Need-returns-2
+returns-2 c =
+    let a = c .before .before .before .before .before .before .before .args in
+    let h = Bytes-from (now (a .file)) (λ i l. omega (arith, c .before .before .before .before .before .before .shared-slice-known .given i)) in
+    c .search .ensures ∙ searched (now (a .file)) h _ (sym (c .before .before .before .enum-told .given .1) ∙ c .before .before .before .before .before .check .ensures) _ (c .before .before .word-at .ensures) (a .number) (a .code)
+
+pub find-spec : {M : Type 1} → statement M
+find-spec =
+    tie.close
+    (tie.spec
+    check-requires
+    enum-known-fault
+    enum-told
+    word-at-requires
+    cast-from
+    add-from
+    sub-search
+    part-search-start
+    part-search-end
+    search-requires
+    returns
+    returns-2)

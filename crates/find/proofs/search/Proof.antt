@@ -1,0 +1,190 @@
+-- The laws of the search answer each need: what stands next was read, and each way of a turn keeps the first match.
+-- The idea: the inner loop speaks of an event that carries the number, and of the traces behind that event.
+use mathlib.Core.Path.{_≡_, refl, sym, ap, _∙_}
+use mathlib.Core.List.{List}
+use mathlib.Core.Logic.{⊎-elim}
+use Prim.Native.Nat.{ℕ, _+_, _-_}
+use native.Mathlib.Omega.{arith}
+use denote.Ref.{now}
+use lib.ListN.{length}
+use borrow.Author.Needs.{needs}
+use Rattle.theory.proofs.WordLaws.{Bytes-from}
+use Rattle.note.specs.declared.FindAnswer.the-variants.{Nothing}
+use Rattle.note.specs.Answers.{accepted, counts, givenFind}
+use Rattle.note.specs.Events.{readEvents}
+use Rattle.note.specs.Calls.{firstMatch}
+use Rattle.find.specs.Search.{tracesRead}
+use Rattle.find.proofs.SearchLaws.{Looking, Searching, laterTraces, begin, searched, event-fits, first-fits, into, past-event, past-other, looked, record-fits, trace-fits, hit, past}
+use Rattle.find.proofs.search.Statement.{statement}
+use Rattle.find.proofs.search.Tie as tie
+use Rattle.find.proofs.search.Reads as reads
+use Rattle.find.proofs.search.Lts as lts
+use Rattle.words.proofs.word_at.Reads as word-at-reads
+
+-- What the search is to give.
+abbrev sought : ℕ → ℕ → ℕ → List ℕ → List ℕ
+sought number code from part = firstMatch number code (tracesRead from (readEvents tt from part))
+
+abbrev Inv-loop : tie.InvT-loop
+Inv-loop part from number code found₀ rest at size records₀ place₀ found records place =
+    (found ≡ Nothing) × Looking number code (sought number code from part) (at + size) (laterTraces size at rest) place records
+
+abbrev μ-loop : tie.MeasureT-loop
+μ-loop part from number code found₀ rest at size records₀ place₀ found records place = length records
+
+abbrev Inv-events : tie.InvT-events
+Inv-events part from number code found₀ rest₀ at₀ found rest at = (found ≡ Nothing) × Searching number code (sought number code from part) at rest
+
+abbrev μ-events : tie.MeasureT-events
+μ-events part from number code found₀ rest₀ at₀ found rest at = length rest
+
+events-holds : tie.Need-events-holds Inv-loop μ-loop Inv-events μ-events
+events-holds c =
+    let a = c .before .args in
+    let h = Bytes-from (now (a .part)) (λ i l. omega (arith, c .shared-slice-known .given i)) in
+    (refl, begin (a .number) (a .code) (a .from) (now (a .part)) (c .before .pre) h)
+
+word-at-requires : tie.Need-word-at-requires Inv-loop μ-loop Inv-events μ-events
+word-at-requires c κs = omega (arith, event-fits (c .before .events .inv .1) (c .events-test .taken))
+
+cast-size : tie.Need-cast-size Inv-loop μ-loop Inv-events μ-events
+cast-size c = search needs
+
+add-size : tie.Need-add-size Inv-loop μ-loop Inv-events μ-events
+add-size c = search needs
+
+word-at-requires-2 : tie.Need-word-at-requires-2 Inv-loop μ-loop Inv-events μ-events
+word-at-requires-2 c κs = omega (arith, first-fits (c .before .before .events .inv .1) (c .before .events-test .taken))
+
+sub-records : tie.Need-sub-records Inv-loop μ-loop Inv-events μ-events
+sub-records c = search needs
+
+part-records-start : tie.Need-part-records-start Inv-loop μ-loop Inv-events μ-events
+part-records-start c = search needs
+
+part-records-end : tie.Need-part-records-end Inv-loop μ-loop Inv-events μ-events
+part-records-end c = omega (arith, event-fits (c .before .before .before .before .events .inv .1) (c .before .before .before .events-test .taken), c .before .before .word-at .ensures)
+
+add-place : tie.Need-add-place Inv-loop μ-loop Inv-events μ-events
+add-place c = search needs
+
+loop-holds : tie.Need-loop-holds Inv-loop μ-loop Inv-events μ-events
+loop-holds c =
+    let e = c .before .before .before .before .before .events .inv in
+    (e .0, into (e .1) (c .before .before .before .before .events-test .taken) _ (c .before .before .before .word-at .ensures) (sym (c .before .before .word-at2 .ensures) ∙ c .before .if1 .taken))
+
+word-at-requires-3 : tie.Need-word-at-requires-3 Inv-loop μ-loop Inv-events μ-events
+word-at-requires-3 c κs = omega (arith, record-fits (c .before .loop .inv .1) (c .loop-test .taken))
+
+word-at-requires-4 : tie.Need-word-at-requires-4 Inv-loop μ-loop Inv-events μ-events
+word-at-requires-4 c κs = omega (arith, trace-fits (c .before .before .before .loop .inv .1) (c .before .before .loop-test .taken) (sym (c .before .word-at3 .ensures) ∙ c .if2 .taken))
+
+word-at-requires-5 : tie.Need-word-at-requires-5 Inv-loop μ-loop Inv-events μ-events
+word-at-requires-5 c κs = omega (arith, record-fits (c .before .before .before .loop .inv .1) (c .before .before .loop-test .taken))
+
+cast-length : tie.Need-cast-length Inv-loop μ-loop Inv-events μ-events
+cast-length c = search needs
+
+add-length : tie.Need-add-length Inv-loop μ-loop Inv-events μ-events
+add-length c = search needs
+
+sub-records-2 : tie.Need-sub-records-2 Inv-loop μ-loop Inv-events μ-events
+sub-records-2 c = omega (arith, record-fits (c .before .before .before .before .loop .inv .1) (c .before .before .before .loop-test .taken), c .word-at5 .ensures)
+
+part-records-start-2 : tie.Need-part-records-start-2 Inv-loop μ-loop Inv-events μ-events
+part-records-start-2 c = omega (arith, record-fits (c .before .before .before .before .loop .inv .1) (c .before .before .before .loop-test .taken), c .word-at5 .ensures)
+
+part-records-end-2 : tie.Need-part-records-end-2 Inv-loop μ-loop Inv-events μ-events
+part-records-end-2 c = omega (arith, record-fits (c .before .before .before .before .loop .inv .1) (c .before .before .before .loop-test .taken), c .word-at5 .ensures)
+
+add-place-2 : tie.Need-add-place-2 Inv-loop μ-loop Inv-events μ-events
+add-place-2 c =
+    let inner = c .before .before .before .before .before .loop .inv .1 in
+    let outer = c .before .before .before .before .before .before .before .before .before .before .before .events .inv .1 in
+    let event = event-fits outer (c .before .before .before .before .before .before .before .before .before .before .events-test .taken) in
+    omega (arith, record-fits inner (c .before .before .before .before .loop-test .taken), c .before .word-at5 .ensures, inner .ends, event, c .before .before .before .before .before .before .before .before .before .word-at .ensures, outer .within)
+
+loop-less : tie.Need-loop-less Inv-loop μ-loop Inv-events μ-events
+loop-less c = omega (arith, record-fits (c .before .before .before .before .before .loop .inv .1) (c .before .before .before .before .loop-test .taken), c .before .word-at5 .ensures)
+
+loop-again : tie.Need-loop-again Inv-loop μ-loop Inv-events μ-events
+loop-again c =
+    let i = c .before .before .before .before .before .loop .inv in (
+      i .0,
+      past (i .1) (c .before .before .before .before .loop-test .taken)
+          (⊎-elim (λ w. λ k q. w .2 .left (w .1 .ensures ∙ q)) (λ w. λ k q. w .left (c .before .before .before .word-at3 .ensures ∙ k)) (c .before .before .if2 .came))
+          _ (c .before .word-at5 .ensures),
+    )
+
+sub-rest : tie.Need-sub-rest Inv-loop μ-loop Inv-events μ-events
+sub-rest c = omega (arith, event-fits (c .before .before .before .before .events .inv .1) (c .before .before .before .events-test .taken), c .before .before .word-at .ensures)
+
+part-rest-start : tie.Need-part-rest-start Inv-loop μ-loop Inv-events μ-events
+part-rest-start c = omega (arith, event-fits (c .before .before .before .before .events .inv .1) (c .before .before .before .events-test .taken), c .before .before .word-at .ensures)
+
+part-rest-end : tie.Need-part-rest-end Inv-loop μ-loop Inv-events μ-events
+part-rest-end c = omega (arith, event-fits (c .before .before .before .before .events .inv .1) (c .before .before .before .events-test .taken), c .before .before .word-at .ensures)
+
+add-at : tie.Need-add-at Inv-loop μ-loop Inv-events μ-events
+add-at c = omega (arith, event-fits (c .before .before .before .before .before .events .inv .1) (c .before .before .before .before .events-test .taken), c .before .before .before .word-at .ensures, c .before .before .before .before .before .events .inv .1 .within)
+
+events-less : tie.Need-events-less Inv-loop μ-loop Inv-events μ-events
+events-less c = omega (arith, event-fits (c .before .before .before .before .before .events .inv .1) (c .before .before .before .before .events-test .taken), c .before .before .before .word-at .ensures)
+
+events-again : tie.Need-events-again Inv-loop μ-loop Inv-events μ-events
+events-again c =
+    let e = c .before .before .before .before .before .events .inv in
+    let l = c .before .before .before .before .events-test .taken in
+    let size = c .before .before .before .word-at .ensures in
+    let none-yet = ⊎-elim (λ w. w .4 ∙ w .2 .inv .0) (λ w. w .1 ∙ e .0) (c .before .if1 .came) in
+    let nothing-here = ⊎-elim (λ w. looked (w .2 .inv .1) (w .3 .left)) (λ w. past-other (e .1) l _ size (λ q. w .0 .left (c .before .before .word-at2 .ensures ∙ q))) (c .before .if1 .came) in
+    (none-yet, past-event (e .1) l _ size nothing-here)
+
+returns : tie.Need-returns Inv-loop μ-loop Inv-events μ-events
+unfolding givenFind
+returns c = rw (c .before .events .inv .0) (ap (λ (p : List ℕ). accepted (counts p)) (searched (c .before .events .inv .1) (c .events-test .left)))
+
+returns-2 : tie.Need-returns-2 Inv-loop μ-loop Inv-events μ-events
+unfolding givenFind
+returns-2 c =
+    let trace = sym (c .before .before .before .word-at3 .ensures) ∙ c .before .before .if2 .taken in
+    let same-code = sym (c .before .word-at4 .ensures) ∙ c .if3 .taken in
+    ap (λ (p : List ℕ). accepted (counts p)) (hit (c .before .before .before .before .before .loop .inv .1) (c .before .before .before .before .loop-test .taken) trace same-code)
+
+pub search-spec : {M : Type 1} → statement M
+search-spec =
+    tie.close
+    (tie.spec
+    Inv-loop
+    μ-loop
+    Inv-events
+    μ-events
+    events-holds
+    word-at-requires
+    cast-size
+    add-size
+    word-at-requires-2
+    sub-records
+    part-records-start
+    part-records-end
+    add-place
+    loop-holds
+    word-at-requires-3
+    word-at-requires-4
+    word-at-requires-5
+    cast-length
+    add-length
+    sub-records-2
+    part-records-start-2
+    part-records-end-2
+    add-place-2
+    loop-less
+    loop-again
+    sub-rest
+    part-rest-start
+    part-rest-end
+    add-at
+    events-less
+    events-again
+    returns
+    returns-2)

@@ -1,0 +1,20 @@
+-- What the search is handed, and the traces that it looks through: those of the events that fill a part of a file.
+use Prim.Native.Nat.{ℕ, _+_, _≤_}
+use mathlib.Core.Path.{_≡_}
+use mathlib.Core.List.{List, []}
+use lib.ListN.{length}
+use Rattle.theory.specs.Tests.{Res, ok, bad}
+use Rattle.note.specs.Limits.{fileLimit}
+use Rattle.note.specs.Events.{Container, readEvents}
+use Rattle.note.specs.Calls.{Placed, tracesFrom}
+
+-- Events fill the part, which lies in a file of the greatest length or less.
+pub record Searchable (from : ℕ) (bs : List ℕ) : Type 0 where
+  pub events : List Container
+  pub reads : readEvents tt from bs ≡ ok events
+  pub within : from + length bs ≤ fileLimit
+
+-- The traces of the events that were read from the place `at` on; none where they weren't.
+unfoldable pub tracesRead : ℕ → Res (List Container) → List Placed
+tracesRead at (ok es) = tracesFrom at es
+tracesRead at (bad c p) = []
