@@ -1,9 +1,9 @@
--- Document 01, 'Rows and calls': the rows of a file, Table's answer and buffer, and the walker's yields.
-use Prim.Native.Nat.{ℕ, zero, suc, _+_, _*_, _%_}
+-- Document 01, 'Rows and calls': the rows of a file, Table's answer and buffer, the walker's yields, and a visitor's.
+use Prim.Native.Nat.{ℕ, zero, suc, _+_, _*_, _/_, _%_}
 use mathlib.Core.Bool.{Bool, true, false, cond, _||_}
 use mathlib.Core.List.{List, [], _∷_, _++_, map}
 use lib.Dec.{leb, eqb, ltb}
-use lib.ListN.{length, drop}
+use lib.ListN.{length, take, drop}
 use Rattle.theory.specs.Tests.{Res, ok, bad}
 use Rattle.theory.specs.Layout.{Row, Child, Node, single, box, rows, row}
 use Rattle.note.specs.Limits.{rowWidth}
@@ -74,3 +74,24 @@ yieldGiven k (ok f) = cond (ltb k (length (rowsOf f))) (accepted (counts (rowNum
 
 unfoldable pub yieldAt : List ℕ → ℕ → Given
 yieldAt bs k = yieldGiven k (readFile bs)
+
+-- A visitor, for callers who hold no walker: its yields from the k-th on, from 0, as rows in a lent buffer, up to the last row or until
+-- the buffer is full. It answers how many; 0 has the file's length as its place, as with Table, a refusal is the file's; the rest of
+-- the buffer is unchanged.
+abbrev pub piece : ℕ → ℕ → List Row → List Row
+piece k capacity rs = take (capacity / rowWidth) (drop k rs)
+
+abbrev pub visitGiven : List ℕ → ℕ → ℕ → Res File → TableAnswer
+visitGiven bs k capacity (bad c p) = record { number = c; count = 0; place = p }
+visitGiven bs k capacity (ok f) = record { number = 0; count = length (piece k capacity (rowsOf f)); place = length bs }
+
+unfoldable pub visitAnswer : List ℕ → ℕ → ℕ → TableAnswer
+visitAnswer bs k capacity = visitGiven bs k capacity (readFile bs)
+
+abbrev pub visitFilled : ℕ → List ℕ → Res File → List ℕ
+visitFilled k old (bad c p) = old
+visitFilled k old (ok f) =
+    flat (piece k (length old) (rowsOf f)) ++ drop (rowWidth * length (piece k (length old) (rowsOf f))) old
+
+unfoldable pub visitBuffer : List ℕ → ℕ → List ℕ → List ℕ
+visitBuffer bs k old = visitFilled k old (readFile bs)

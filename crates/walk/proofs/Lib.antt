@@ -1,1 +1,4 @@
+pub mod FrontLaws
 pub mod StepLaws
+pub mod TurnLaws
+pub mod WalkLaws

@@ -2,10 +2,12 @@
 -- from opening on the yields are the table's rows, and then the end, is proved (proofs/WalkTheorem.antt).
 use Prim.Native.Nat.{ℕ, zero, suc, _+_, _-_, _%_}
 use mathlib.Core.Bool.{Bool, true, false, cond, not, _&&_}
-use mathlib.Core.List.{List}
+use mathlib.Core.Path.{_≡_}
+use mathlib.Core.List.{List, [], _∷_}
 use lib.Dec.{leb, ltb, eqb}
 use lib.ListN.{length, take, drop}
 use Rattle.theory.specs.Tests.{Res, ok, bad}
+use Rattle.theory.specs.Layout as Layout
 use Rattle.note.specs.Limits.{fileLimit}
 use Rattle.note.specs.Words.{word}
 use Rattle.note.specs.Files.{File, readFile}
@@ -98,3 +100,12 @@ openedOf bs = stepOf bs (startOf bs)
 unfoldable pub stepsFrom : List ℕ → ℕ → Spot → Spot
 stepsFrom bs zero at = at
 stepsFrom bs (suc k) at = stepsFrom bs k (stepOf bs at)
+
+-- A row as a yield.
+abbrev pub rowYield : Layout.Row → WalkerYield
+rowYield r = Row (r .kind) (r .start) (r .whole) (r .parent) (r .one) (r .two)
+
+-- What a walk yields from a spot on: these rows, the one at hand first, and then the end, again and again.
+unfoldable pub Yields : List ℕ → Spot → List Layout.Row → Type 0
+Yields bs at [] = (k : ℕ) → stepsFrom bs k at .last ≡ End
+Yields bs at (r ∷ rs) = (at .last ≡ rowYield r) × Yields bs (stepOf bs at) rs

@@ -237,3 +237,10 @@ pub fn opened(file: &[u8]) -> Spot
 {
     step(file, start(file))
 }
+
+/// What a walk yielded last.
+pub fn last(at: Spot) -> WalkerYield
+    ensures { λ r. ⌜ r ≡ at .last ⌝ }
+{
+    at.last
+}
