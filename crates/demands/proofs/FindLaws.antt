@@ -1,10 +1,20 @@
--- Find gives the first: a trace that matches, and before it in file order none that does; or nothing, and none matches.
--- The idea: the search runs down the list of a file's traces, which stand in file order.
+-- Find gives the first: a trace that matches, and before it in file order none that does; or nothing, and none matches. It can be
+-- read off the table.
+-- The idea: the search runs down the list of a file's traces, which stand in file order, and which the rows tell of.
 use mathlib.Core.Path.{_≡_, refl, sym, ap, _∙_}
 use mathlib.Core.Bool.{Bool, true, false, cond}
 use mathlib.Core.List.{List, [], _∷_, _++_}
 use Prim.Native.Nat.{ℕ}
-use Rattle.note.specs.Calls.{Placed, matches, firstMatch}
+use Rattle.theory.specs.Words.{Bytes}
+use Rattle.theory.specs.Tests.{ok, bad}
+use Rattle.note.specs.Answers.{accepted, refused, counts}
+use Rattle.note.specs.Files.{File, readFile}
+use Rattle.note.specs.Rows.{rowsOf}
+use Rattle.note.specs.Calls.{Placed, matches, tracesOf, firstMatch, findAt}
+use Rattle.note.proofs.AnswerLaws.{counts-determined}
+use Rattle.demands.specs.RowTraces.{rowTraces}
+use Rattle.demands.proofs.Follows.{file-sound}
+use Rattle.demands.proofs.TraceRows.{traces-are-rows}
 
 -- No trace of the list matches.
 abbrev pub NoneMatches : ℕ → ℕ → List Placed → Type 0
@@ -50,3 +60,28 @@ nothing-matches number code (t ∷ ts) e = go (matches number code t) refl e (no
         → (firstMatch number code ts ≡ [] → NoneMatches number code ts) → NoneMatches number code (t ∷ ts)
     go true m q rest = let z : _≡_ {A = ℕ} 0 1 = cc in absurd (omega native.Mathlib.Omega.arith)
     go false m q rest = (m, rest q)
+
+-- ---- Find's answer
+
+-- "A refused file gives its refusal."
+pub find-refused : (bs : List ℕ) (c p number code : ℕ) → readFile bs ≡ bad c p → findAt bs number code ≡ refused c p
+unfolding findAt
+find-refused bs c p number code e = rw e
+
+-- An accepted file.
+module _ (bs : List ℕ) (f : File) (e : readFile bs ≡ ok f) (number code : ℕ) where
+  found-in : findAt bs number code ≡ accepted (counts (firstMatch number code (tracesOf f)))
+  unfolding findAt
+  found-in = rw e
+
+  -- "The place of the first trace in file order whose event carries that number and whose code is that code; or nothing."
+  pub find-is-first : (place : ℕ) → findAt bs number code ≡ accepted (counts (place ∷ [])) → FirstMatch number code (tracesOf f) place
+  find-is-first place q =
+      found-is-first number code (tracesOf f) place (counts-determined (firstMatch number code (tracesOf f)) (place ∷ []) (sym found-in ∙ q))
+
+  pub find-nothing : findAt bs number code ≡ accepted [] → NoneMatches number code (tracesOf f)
+  find-nothing q = nothing-matches number code (tracesOf f) (counts-determined (firstMatch number code (tracesOf f)) [] (sym found-in ∙ q))
+
+  -- Find looks at nothing of an accepted file but its rows.
+  pub find-by-rows : Bytes bs → findAt bs number code ≡ accepted (counts (firstMatch number code (rowTraces (rowsOf f) (rowsOf f))))
+  find-by-rows h = found-in ∙ ap (λ (ts : List Placed). accepted (counts (firstMatch number code ts))) (traces-are-rows f (file-sound bs f h e .1))

@@ -7,6 +7,7 @@ pub mod RecordLaws
 pub mod WalkerLaws
 pub mod FindLaws
 pub mod SpotLaws
+pub mod TraceRows
 pub mod EditLaws
 pub mod EditInFull
 pub mod RewriteLaws

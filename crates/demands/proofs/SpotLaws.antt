@@ -34,7 +34,7 @@ trace-kind k =
     (λ e. absurd (omega arith)) (λ e. absurd (omega arith)) (λ e. absurd (omega arith)) (λ e. absurd (omega arith))
 
 -- An entry is no trace.
-entry-no-trace : (r : Record) → ValidRecord entry r → kindOf (r .kind) .row ≡ 7 → ⊥
+pub entry-no-trace : (r : Record) → ValidRecord entry r → kindOf (r .kind) .row ≡ 7 → ⊥
 unfolding isKind
 entry-no-trace r v e =
     let k : r .kind ≡ traceKind .word = trace-kind (r .kind) e in

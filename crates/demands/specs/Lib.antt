@@ -5,3 +5,4 @@ pub mod Assembly
 pub mod FirstFault
 pub mod RowRecords
 pub mod Edited
+pub mod RowTraces

@@ -3,12 +3,12 @@
 use Prim.Native.Nat.{ℕ, zero, suc}
 use mathlib.Core.Path.{_≡_, refl, sym, ap, _∙_}
 use mathlib.Core.Bool.{cond}
-use mathlib.Core.List.{List, [], _∷_}
+use mathlib.Core.List.{List, [], _∷_, map}
 use lib.Dec.{eqb}
 use lib.IntN.{ℤ, pos, negsuc}
 use lib.Ieee.{Float, nan}
 use lib.ListN.{getD}
-use Rattle.note.specs.Answers.{Value, whole, float, Given, accepted, refused, givenRecord, givenSetting, givenCode, givenSample, givenFind, givenYield, givenWriter}
+use Rattle.note.specs.Answers.{Value, whole, float, Given, accepted, refused, counts, givenRecord, givenSetting, givenCode, givenSample, givenFind, givenYield, givenWriter}
 use Rattle.note.specs.declared.RecordAnswer.{RecordAnswer}
 use Rattle.note.specs.declared.RecordAnswer.the-variants as Record
 use Rattle.note.specs.declared.SettingAnswer.{SettingAnswer}
@@ -138,6 +138,15 @@ unfolding givenWriter
 writer-undone (Writer.Next a) = refl
 writer-undone (Writer.Refused a b) = refl
 
+-- Counts, however many.
+abbrev backCounts : Given → List ℕ
+backCounts (accepted vs) = map (λ (v : Value). magnitude (asWhole v)) vs
+backCounts (refused number place) = []
+
+counts-undone : (ns : List ℕ) → backCounts (accepted (counts ns)) ≡ ns
+counts-undone [] = refl
+counts-undone (n ∷ ns) = ap (λ (l : List ℕ). n ∷ l) (counts-undone ns)
+
 -- ---- so each is one-to-one
 
 pub record-determined : (a b : RecordAnswer) → givenRecord a ≡ givenRecord b → a ≡ b
@@ -160,3 +169,6 @@ yield-determined = way-back givenYield backYield yield-undone
 
 pub writer-determined : (a b : WriterAnswer) → givenWriter a ≡ givenWriter b → a ≡ b
 writer-determined = way-back givenWriter backWriter writer-undone
+
+pub counts-determined : (ms ns : List ℕ) → accepted (counts ms) ≡ accepted (counts ns) → ms ≡ ns
+counts-determined = way-back (λ (ns : List ℕ). accepted (counts ns)) backCounts counts-undone
