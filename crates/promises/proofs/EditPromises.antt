@@ -1,7 +1,7 @@
--- Demand 3, of what the calls give: one byte changed inside a trace's samples leaves Table's answer and buffer, the walker's yields, and
--- Record's and Setting's answers at each row as they were, and of the samples changes only the one that holds it.
--- The idea: the edited file is accepted with the same rows, and Table and the walker look at nothing else of it; the rest is the demand
--- on the definitions, with the rows taken from the buffer.
+-- Demand 3, of what the calls give: one byte changed inside a trace's samples leaves Table's answer and buffer, the walker's yields,
+-- Find's answers, and Record's and Setting's answers at each row as they were, and of the samples changes only the one that holds it.
+-- The idea: the edited file is accepted with the same rows, and Table, the walker and Find look at nothing else of it; the rest is the
+-- demand on the definitions, with the rows taken from the buffer.
 use mathlib.Core.Path.{_≡_, sym, ap, _∙_, subst}
 use mathlib.Core.Logic.{_≢_}
 use mathlib.Core.List.{List}
@@ -10,10 +10,14 @@ use lib.ListN.{length, set, length-set}
 use Rattle.theory.specs.Words.{Bytes}
 use Rattle.theory.specs.Tests.{ok}
 use Rattle.theory.specs.Layout.{Row, row}
+use Rattle.theory.proofs.WordLaws.{Bytes-set}
+use Rattle.note.specs.Answers.{accepted, counts}
 use Rattle.note.specs.Files.{File, readFile}
 use Rattle.note.specs.Rows.{rowsOf, tableAnswer, tableBuffer, yieldAt}
-use Rattle.note.specs.Calls.{recordAt, settingAt, sampleAt}
+use Rattle.note.specs.Calls.{recordAt, settingAt, sampleAt, firstMatch, findAt}
 use Rattle.demands.specs.Edited.{startOf, holder, Edited}
+use Rattle.demands.specs.RowTraces.{rowTraces}
+use Rattle.demands.proofs.FindLaws.{find-by-rows}
 use Rattle.demands.proofs.EditInFull.{edit-in-full}
 use Rattle.promises.specs.Buffers.{tableCount, tableRows, tableRow}
 use Rattle.promises.specs.EditedCalls.{SampleByte, EditedCalls}
@@ -26,6 +30,14 @@ same-table : (bs cs : List ℕ) (f g : File) → length cs ≡ length bs → rea
 unfolding tableAnswer tableBuffer yieldAt
 same-table bs cs f g n e q same = (λ capacity. rw (e, q, same, n), λ old. rw (e, q, same), λ k. rw (e, q, same))
 
+-- Accepted files with the same rows give the same to Find.
+same-found : (bs cs : List ℕ) (f g : File) → Bytes bs → Bytes cs → readFile bs ≡ ok f → readFile cs ≡ ok g → rowsOf g ≡ rowsOf f
+    → (number code : ℕ) → findAt cs number code ≡ findAt bs number code
+same-found bs cs f g hb hc e q same number code =
+    find-by-rows cs g q number code hc
+    ∙ ap (λ (rs : List Row). accepted (counts (firstMatch number code (rowTraces rs rs)))) same
+    ∙ sym (find-by-rows bs f e number code hb)
+
 -- In an accepted file, row j is a trace, and byte i, inside its samples, becomes the byte x.
 module _ (bs : List ℕ) (f : File) (h : Bytes bs) (e : readFile bs ≡ ok f) (j : ℕ) (below : j < length (rowsOf f)) (kind : row (rowsOf f) j .kind ≡ 7)
     (i x : ℕ) (lo : startOf f j + 56 ≤ i) (hi : i < startOf f j + row (rowsOf f) j .whole) (byte : x < 256) where
@@ -36,7 +48,8 @@ module _ (bs : List ℕ) (f : File) (h : Bytes bs) (e : readFile bs ≡ ok f) (j
       × ((k : ℕ) → yieldAt (set bs i x) k ≡ yieldAt bs k)
   kept = same-table bs (set bs i x) f (edited .file) (length-set bs i x) e (edited .accepted) (edited .same-rows)
 
-  -- "still accepted, same rows": Table answers the same for every capacity and leaves the same in every buffer; the walker yields the same.
+  -- "still accepted, same rows": Table answers the same for every capacity and leaves the same in every buffer; the walker yields the
+  -- same, and Find gives the same for every number and code.
   pub edit-keeps-answer : (capacity : ℕ) → tableAnswer (set bs i x) capacity ≡ tableAnswer bs capacity
   edit-keeps-answer = kept .0
 
@@ -45,6 +58,9 @@ module _ (bs : List ℕ) (f : File) (h : Bytes bs) (e : readFile bs ≡ ok f) (j
 
   pub edit-keeps-yields : (k : ℕ) → yieldAt (set bs i x) k ≡ yieldAt bs k
   edit-keeps-yields = kept .2
+
+  pub edit-keeps-finds : (number code : ℕ) → findAt (set bs i x) number code ≡ findAt bs number code
+  edit-keeps-finds = same-found bs (set bs i x) f (edited .file) h (Bytes-set bs i x byte h) e (edited .accepted) (edited .same-rows)
 
   -- "every other .. field reads as before": Record answers the same at each row's place.
   pub edit-keeps-records : (k : ℕ) → k < length (rowsOf f) → recordAt (set bs i x) (startOf f k) ≡ recordAt bs (startOf f k)
@@ -73,6 +89,7 @@ edit-seen-by-calls bs old j i x h s =
       same-answer = edit-keeps-answer bs f h e j here trace i x lo hi (s .byte);
       same-buffer = edit-keeps-buffer bs f h e j here trace i x lo hi (s .byte);
       same-yields = edit-keeps-yields bs f h e j here trace i x lo hi (s .byte);
+      same-finds = edit-keeps-finds bs f h e j here trace i x lo hi (s .byte);
       same-records = λ k l. subst (λ (p : ℕ). recordAt (set bs i x) p ≡ recordAt bs p) (start k l) (new .fields-stay k (inside k l));
       same-settings = λ k l. subst (λ (p : ℕ). settingAt (set bs i x) p ≡ settingAt bs p) (start k l) (new .settings-stay k (inside k l));
       sample-changes = λ d.

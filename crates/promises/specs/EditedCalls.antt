@@ -5,7 +5,7 @@ use mathlib.Core.Logic.{_≢_}
 use mathlib.Core.List.{List}
 use lib.ListN.{length, getD, set}
 use Rattle.note.specs.Rows.{tableAnswer, tableBuffer, yieldAt}
-use Rattle.note.specs.Calls.{recordAt, settingAt, sampleAt}
+use Rattle.note.specs.Calls.{recordAt, settingAt, sampleAt, findAt}
 use Rattle.demands.specs.Edited.{holder}
 use Rattle.promises.specs.Buffers.{tableCount, tableRow}
 
@@ -20,12 +20,14 @@ pub record SampleByte (bs old : List ℕ) (j i x : ℕ) : Type 0 where
   pub byte : x < 256
 
 -- "One byte changed inside a trace's samples: still accepted, same rows, the sample that holds it changes, every other sample and field
--- reads as before." Byte i of bs becomes x: Table's answer for every capacity, its buffer and the walker's yields are the same; at the
--- start of each row in the buffer Record and Setting answer the same; of the samples only the one that holds byte i changes.
+-- reads as before." Byte i of bs becomes x: Table's answer for every capacity, its buffer, the walker's yields and what Find gives for
+-- every number and code are the same; at the start of each row in the buffer Record and Setting answer the same; of the samples only
+-- the one that holds byte i changes.
 pub record EditedCalls (bs old : List ℕ) (j i x : ℕ) : Type 0 where
   pub same-answer : (capacity : ℕ) → tableAnswer (set bs i x) capacity ≡ tableAnswer bs capacity
   pub same-buffer : (other : List ℕ) → tableBuffer (set bs i x) other ≡ tableBuffer bs other
   pub same-yields : (k : ℕ) → yieldAt (set bs i x) k ≡ yieldAt bs k
+  pub same-finds : (number code : ℕ) → findAt (set bs i x) number code ≡ findAt bs number code
   pub same-records : (k : ℕ) → k < tableCount bs old → recordAt (set bs i x) (tableRow bs old k .start) ≡ recordAt bs (tableRow bs old k .start)
   pub same-settings : (k : ℕ) → k < tableCount bs old → settingAt (set bs i x) (tableRow bs old k .start) ≡ settingAt bs (tableRow bs old k .start)
   pub sample-changes : x ≢ getD bs i 0
