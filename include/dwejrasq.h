@@ -74,6 +74,26 @@ void dwj_samples(const uint8_t *file, size_t file_length, size_t place, uint64_t
  */
 uint32_t dwj_sample(const uint8_t *file, size_t file_length, size_t place, size_t number, uint32_t *value, uint64_t *refused_at);
 
+/* Find: the first trace in file order whose event carries a number and whose code is a code. On 0 *place is its place, or 0 for
+ * nothing (no trace stands there); *refused_at is unchanged. On a refusal, which is the file's, *place is unchanged.
+ */
+uint32_t dwj_find(const uint8_t *file, size_t file_length, uint32_t number, uint32_t code, uint64_t *place, uint64_t *refused_at);
+
+/* Walker: a file's rows one at a time. walker is its numbers; only dwj_open and dwj_next give meaningful ones, and any others are safe:
+ * the call ends with some row of the file, or at the end. dwj_open checks the whole file once and gives the first row; dwj_next gives
+ * the next one. On 0 row is the row, or zeros at the end (no row has kind 0), again and again; *refused_at is unchanged. Over a refused
+ * file each call gives its refusal: row is unchanged and *refused_at is its place. The file must be the same in each call.
+ */
+uint32_t dwj_open(const uint8_t *file, size_t file_length, uint64_t walker[6], uint32_t row[6], uint64_t *refused_at);
+uint32_t dwj_next(const uint8_t *file, size_t file_length, uint64_t walker[6], uint32_t row[6], uint64_t *refused_at);
+
+/* Visitor: a file's rows from the number first on, counted from 0, up to the last or until rows is full; so a file is read in pieces, the
+ * next from first + *count on, until *count is 0. Each call checks the file and passes over the rows before.
+ *    0  *count rows stand in rows, what lies past them is unchanged, *place is file_length
+ *   else  *count is 0, *place is where the file is refused, rows is unchanged
+ */
+uint32_t dwj_visit(const uint8_t *file, size_t file_length, size_t first, uint32_t *rows, size_t rows_length, uint64_t *count, uint64_t *place);
+
 /* Channel: of a detector code. numbers = type, detector number, length of the analysis name, length of the cold name; the names are
  * ASCII, with zeros up to four bytes and without an end mark. 10 where the code names no listed channel; all unchanged then.
  */

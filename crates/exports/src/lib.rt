@@ -1,19 +1,25 @@
 // Every public call for C: numbers and lent buffers alone. include/dwejrasq.h documents each.
 use note::CodeAnswer;
+use note::FindAnswer;
 use note::RecordAnswer;
 use note::SampleAnswer;
 use note::SettingAnswer;
+use note::WalkerYield;
+use walk::Spot;
 ghost use mathlib.Core.Path.{_≡_};
 ghost use mathlib.Core.Bool.{cond};
 ghost use mathlib.Core.List.{[], _∷_};
 ghost use lib.Dec.{eqb};
 ghost use lib.IntN.{pos};
 ghost use lib.ListN.{length};
-ghost use Rattle.note.specs.Calls.{recordAt, settingAt, samplesPart, sampleAt};
+ghost use Rattle.note.specs.Answers.{givenYield};
+ghost use Rattle.note.specs.Calls.{recordAt, settingAt, samplesPart, sampleAt, findAt};
 ghost use Rattle.note.specs.Channels.{channelAnswer, codeAnswer};
-ghost use Rattle.note.specs.Rows.{tableAnswer, tableBuffer};
+ghost use Rattle.note.specs.Rows.{tableAnswer, tableBuffer, visitAnswer, visitBuffer};
 ghost use Rattle.note.specs.Tlb.{zipSet};
+ghost use Rattle.walk.specs.Steps.{openedOf, stepOf};
 ghost use Rattle.exports.specs.Lent.{numberOf, placeAfter, wholesAfter, floatsAfter, bit};
+ghost use Rattle.exports.specs.Walkers.{spotOf, numbersOf, rowAfter};
 
 /// Table: the number; the rows, their count and the place lent.
 #[no_mangle]
@@ -363,6 +369,146 @@ pub extern "C" fn dwj_sample(
             why
         }
     }
+}
+
+/// Find: the place of the first trace of an event's number and a code, 0 for nothing; on a refusal its place alone.
+#[no_mangle]
+pub extern "C" fn dwj_find(
+    file: &[u8],
+    number: u32,
+    code: u32,
+    place: &mut u64,
+    refusal: &mut u64,
+) -> u32
+    ensures number { λ r. ⌜ r ≡ numberOf (findAt (now (file .entry)) number code) ⌝ }
+    ensures place { λ _. ⌜ pos (now (place .exit)) ∷ [] ≡ wholesAfter 1 (pos (now (place .entry)) ∷ []) (findAt (now (file .entry)) number code) ⌝ }
+    ensures refusal { λ _. ⌜ now (refusal .exit) ≡ placeAfter (now (refusal .entry)) (findAt (now (file .entry)) number code) ⌝ }
+{
+    match dwejrasq::find(file, number, code) {
+        FindAnswer::Found { place: found } => {
+            *place = found as u64;
+            0
+        }
+        FindAnswer::Nothing => {
+            *place = 0;
+            0
+        }
+        FindAnswer::Refused {
+            number: why,
+            place: at,
+        } => {
+            *refusal = at as u64;
+            why
+        }
+    }
+}
+
+/// Visit: the number; rows from the number `first` on, from 0, their count and the place lent.
+#[no_mangle]
+pub extern "C" fn dwj_visit(
+    file: &[u8],
+    first: usize,
+    rows: &mut [u32],
+    count: &mut u64,
+    place: &mut u64,
+) -> u32
+    ensures number { λ r. ⌜ r ≡ visitAnswer (now (file .entry)) first (length (now (rows .entry))) .number ⌝ }
+    ensures rows { λ _. ⌜ now (rows .exit) ≡ visitBuffer (now (file .entry)) first (now (rows .entry)) ⌝ }
+    ensures count { λ _. ⌜ now (count .exit) ≡ visitAnswer (now (file .entry)) first (length (now (rows .entry))) .count ⌝ }
+    ensures place { λ _. ⌜ now (place .exit) ≡ visitAnswer (now (file .entry)) first (length (now (rows .entry))) .place ⌝ }
+{
+    let answer = dwejrasq::visit(file, first, rows);
+    *count = answer.count as u64;
+    *place = answer.place as u64;
+    answer.number
+}
+
+// What a walk yields, for C: the number; a row, zeros at the end, or a refusal's place lent.
+fn tell(last: WalkerYield, row: &mut [u32; 6], refusal: &mut u64) -> u32
+    ensures number { λ r. ⌜ r ≡ numberOf (givenYield last) ⌝ }
+    ensures row { λ _. ⌜ now (row .exit) ≡ rowAfter (now (row .entry)) last ⌝ }
+    ensures refusal { λ _. ⌜ now (refusal .exit) ≡ placeAfter (now (refusal .entry)) (givenYield last) ⌝ }
+{
+    match last {
+        WalkerYield::Row {
+            kind,
+            start,
+            whole,
+            parent,
+            one,
+            two,
+        } => {
+            *row = [kind, start, whole, parent, one, two];
+            0
+        }
+        WalkerYield::End => {
+            *row = [0, 0, 0, 0, 0, 0];
+            0
+        }
+        WalkerYield::Refused { number, place } => {
+            *refusal = place as u64;
+            number
+        }
+    }
+}
+
+/// Open: a walker's numbers, and its first yield.
+#[no_mangle]
+pub extern "C" fn dwj_open(
+    file: &[u8],
+    walker: &mut [u64; 6],
+    row: &mut [u32; 6],
+    refusal: &mut u64,
+) -> u32
+    ensures number { λ r. ⌜ r ≡ numberOf (givenYield (openedOf (now (file .entry)) .last)) ⌝ }
+    ensures walker { λ _. ⌜ now (walker .exit) ≡ numbersOf (openedOf (now (file .entry))) ⌝ }
+    ensures row { λ _. ⌜ now (row .exit) ≡ rowAfter (now (row .entry)) (openedOf (now (file .entry)) .last) ⌝ }
+    ensures refusal { λ _. ⌜ now (refusal .exit) ≡ placeAfter (now (refusal .entry)) (givenYield (openedOf (now (file .entry)) .last)) ⌝ }
+{
+    let at = walk::opened(file);
+    *walker = [
+        at.number as u64,
+        at.fault as u64,
+        at.place as u64,
+        at.end as u64,
+        at.parent as u64,
+        at.rows as u64,
+    ];
+    tell(walk::last(at), row, refusal)
+}
+
+/// Next: a walker's numbers one step on, and what it yields there. Any numbers are taken.
+#[no_mangle]
+pub extern "C" fn dwj_next(
+    file: &[u8],
+    walker: &mut [u64; 6],
+    row: &mut [u32; 6],
+    refusal: &mut u64,
+) -> u32
+    ensures number { λ r. ⌜ r ≡ numberOf (givenYield (stepOf (now (file .entry)) (spotOf (now (walker .entry))) .last)) ⌝ }
+    ensures walker { λ _. ⌜ now (walker .exit) ≡ numbersOf (stepOf (now (file .entry)) (spotOf (now (walker .entry)))) ⌝ }
+    ensures row { λ _. ⌜ now (row .exit) ≡ rowAfter (now (row .entry)) (stepOf (now (file .entry)) (spotOf (now (walker .entry))) .last) ⌝ }
+    ensures refusal { λ _. ⌜ now (refusal .exit) ≡ placeAfter (now (refusal .entry)) (givenYield (stepOf (now (file .entry)) (spotOf (now (walker .entry))) .last)) ⌝ }
+{
+    let from = Spot {
+        number: (walker[0] % 4294967296) as u32,
+        fault: walker[1] as usize,
+        place: walker[2] as usize,
+        end: walker[3] as usize,
+        parent: (walker[4] % 4294967296) as u32,
+        rows: (walker[5] % 4294967296) as u32,
+        last: WalkerYield::End,
+    };
+    let at = walk::step(file, from);
+    *walker = [
+        at.number as u64,
+        at.fault as u64,
+        at.place as u64,
+        at.end as u64,
+        at.parent as u64,
+        at.rows as u64,
+    ];
+    tell(walk::last(at), row, refusal)
 }
 
 /// Channel: type, number, and the lengths of both names, then the names; all untouched under 10.

@@ -19,7 +19,7 @@ use Rattle.theory.proofs.Items.{Item}
 use Rattle.theory.proofs.LoopLaws.{Ahead, ahead}
 use Rattle.note.specs.Limits.{fileLimit}
 use Rattle.note.specs.Words.{order, word}
-use Rattle.note.specs.Administrative.{administrativeOf}
+use Rattle.note.specs.Administrative.{administrativeKind, administrativeOf}
 use Rattle.note.specs.Trace.{traceKind, traceOf}
 use Rattle.note.specs.Records.{Record, Context, behind, event, none, recordSize, recordsBytes, recordRule, kindOf, readRecords}
 use Rattle.note.specs.Events.{Container, containerSize, readEvents}
@@ -27,7 +27,7 @@ use Rattle.note.specs.Calls.{Placed, isTrace, put, tracesIn, tracesFrom, number
 use Rattle.demands.specs.Valid.{ValidRecord, ValidEvent}
 use Rattle.demands.proofs.Bundles.{recordItem, eventItem, same-record, same-records, same-events, record-valid, event-valid}
 use Rattle.demands.proofs.EventLaws.{first-administrative}
-use Rattle.rules.proofs.RoomLaws.{administrative-room, trace-room}
+use Rattle.rules.proofs.LengthLaws.{long-enough}
 use Rattle.record.proofs.StepLaws.{Read, read-shows, cut}
 use Rattle.containers.proofs.RecordLoop.{left}
 use Rattle.containers.proofs.EventLoop.{Shown, event-shows}
@@ -120,7 +120,7 @@ module _ {number code : ℕ} {answer : List ℕ} {next : ℕ} {later : List Plac
       unfolding kindOf
       room =
           let b : List ℕ = take (word 4 bs) (drop 8 bs) in
-          omega (arith, trace-room b (subst (λ (w : ℕ). recordRule w b ≡ 0) k (shown .0 .follows)), shown .0 .size)
+          omega (arith, long-enough (traceKind .word) b (subst (λ (w : ℕ). recordRule w b ≡ 0) k (shown .0 .follows)), shown .0 .size)
 
       pub trace-fits : 56 ≤ length bs
       trace-fits = omega (arith, room, record-fits)
@@ -226,12 +226,12 @@ module _ {number code : ℕ} {answer : List ℕ} {at : ℕ} {bs : List ℕ} (i :
     first-shown : Read (event none) (at + 8) inner (word 0 inner) (word 4 inner) × (inner-front .item ≡ record { kind = word 0 inner; body = take (word 4 inner) (drop 8 inner) })
     first-shown = read-shows (event none) (at + 8) inner (inner-front .item) (same-record (event none) (at + 8) inner ∙ inner-front .reads-item)
 
-    first-room : length (inner-front .item .body) ≡ 24
+    first-room : 24 ≤ length (inner-front .item .body)
     unfolding kindOf
     first-room =
         let r : Record = inner-front .item in
         let v : ValidRecord (event none) r = record-valid (event none) r (recordItem .sound (event none) (at + 8) inner r inner-bytes (inner-front .reads-item) .1) in
-        administrative-room (r .body) (subst (λ (w : ℕ). recordRule w (r .body) ≡ 0) (first-administrative r v) (v .body-rule))
+        long-enough (administrativeKind .word) (r .body) (subst (λ (w : ℕ). recordRule w (r .body) ≡ 0) (first-administrative r v) (v .body-rule))
 
     -- there is room for it; its number is the event's word 24
     first-long : 32 ≤ length inner
