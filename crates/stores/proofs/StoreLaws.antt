@@ -1,0 +1,56 @@
+-- Runs of stores: stores one after the other, and stores into the part that is lent on from a place.
+-- The idea: `sets` of one list after another is `sets` of both, whatever the room; only a part that is lent on asks for room.
+use Prim.Native.Nat.{ℕ, zero, suc, _+_, _-_, _*_, _≤_, _<_}
+use mathlib.Core.Path.{_≡_, refl, sym, ap, _∙_}
+use mathlib.Core.List.{List, [], _∷_, _++_, append-nil}
+use native.Mathlib.Omega.{arith}
+use native.Mathlib.Numerals.{add-one}
+use native.Mathlib.Nat.{add-zero}
+use lib.ListN.{length, take, drop, getD, set, length-drop, drop-of-length-le}
+use lib.Seq.{sets, length-take-le, take-suc, take-all}
+use borrow.Rule.Slice.PartMut.{putMid, midOf}
+use Rattle.theory.proofs.WordLaws.{length-puts, puts-append}
+use Rattle.note.specs.Words.{order, words}
+
+-- ---- one after the other
+
+sets-append : (l : List ℕ) (i : ℕ) (a b : List ℕ) → sets (sets l i a) (i + length a) b ≡ sets l i (a ++ b)
+sets-append l i [] b = ap (λ (k : ℕ). sets l k b) (add-zero i)
+sets-append l i (x ∷ a) b =
+    let e : i + suc (length a) ≡ suc i + length a = omega arith in
+    ap (λ (k : ℕ). sets (sets (set l i x) (suc i) a) k b) e ∙ sets-append (set l i x) (suc i) a b
+
+-- Stores right behind n bytes that were stored.
+pub stored-next : (l : List ℕ) (at n : ℕ) (a b : List ℕ) → length a ≡ n → sets (sets l at a) (at + n) b ≡ sets l at (a ++ b)
+stored-next l at n a b e = ap (λ (k : ℕ). sets (sets l at a) (at + k) b) (sym e) ∙ sets-append l at a b
+
+-- One byte more of a part, and one word more of a list of words.
+pub byte-more : (l s : List ℕ) (at i : ℕ) → i < length s → set (sets l at (take i s)) (at + i) (getD s i 0) ≡ sets l at (take (i + 1) s)
+byte-more l s at i h = stored-next l at i (take i s) (getD s i 0 ∷ []) (length-take-le i s (omega arith)) ∙ rw (add-one, take-suc s i 0)
+
+pub word-more : (l ws : List ℕ) (at i : ℕ) → i < length ws
+    → sets (sets l at (words (take i ws))) (at + 4 * i) (words (getD ws i 0 ∷ [])) ≡ sets l at (words (take (i + 1) ws))
+word-more l ws at i h =
+    let e : length (words (take i ws)) ≡ 4 * i = omega (arith, length-puts order 4 (take i ws), length-take-le i ws (omega arith)) in
+    stored-next l at (4 * i) (words (take i ws)) (words (getD ws i 0 ∷ [])) e ∙ rw (add-one, take-suc ws i 0, puts-append)
+
+-- ---- into the part that is lent on from a place
+
+sets-nil : (i : ℕ) (vs : List ℕ) → sets [] i vs ≡ []
+sets-nil i [] = refl
+sets-nil i (a ∷ vs) = sets-nil (suc i) vs
+
+sets-cons : (x : ℕ) (l : List ℕ) (i : ℕ) (vs : List ℕ) → sets (x ∷ l) (suc i) vs ≡ x ∷ sets l i vs
+sets-cons x l i [] = refl
+sets-cons x l i (a ∷ vs) = sets-cons x (set l i a) (suc i) vs
+
+sets-drop : (k : ℕ) (l : List ℕ) (vs : List ℕ) → take k l ++ sets (drop k l) 0 vs ≡ sets l k vs
+sets-drop zero l vs = refl
+sets-drop (suc k) [] vs = sets-nil 0 vs ∙ sym (sets-nil (suc k) vs)
+sets-drop (suc k) (x ∷ l) vs = ap (λ (r : List ℕ). x ∷ r) (sets-drop k l vs) ∙ sym (sets-cons x l k vs)
+
+-- Stores into `&mut out[at..]`, seen in `out` when the loan ends.
+pub rest-stored : (l : List ℕ) (at : ℕ) (vs e : List ℕ) → at ≤ length l → e ≡ sets (midOf at (length l - at) l) 0 vs → putMid at (length l - at) l e ≡ sets l at vs
+rest-stored l at vs e h q =
+    let m : length (drop at l) ≤ length l - at = omega (arith, length-drop at l) in
+    rw (q, take-all (length l - at) (drop at l) m, drop-of-length-le (drop at l) m, append-nil, sets-drop)

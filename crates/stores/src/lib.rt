@@ -1,0 +1,75 @@
+// What every writer does: it is admitted, or refused before the first store; then words and parts of bytes are stored as the note's files
+// have them.
+use note::WriterAnswer;
+use record::FILE_LIMIT;
+ghost use mathlib.Core.Path.{_≡_};
+ghost use mathlib.Core.List.{[], _∷_};
+ghost use Prim.Native.Nat.{_+_, _*_, _≤_};
+ghost use lib.ListN.{length};
+ghost use lib.Seq.{sets};
+ghost use Rattle.note.specs.Words.{words};
+ghost use Rattle.note.specs.Answers.{givenWriter};
+ghost use Rattle.note.specs.Writers.{wrote, writerGiven};
+
+/// The answer of a writer of `size` bytes from a place on, over an output of `room` bytes: 1 for an output over the limit, the fault of the
+/// fields (0 for none), 13 for too little room, or the next place.
+pub fn admitted(room: usize, place: usize, fault: u32, size: usize) -> WriterAnswer
+    ensures { λ r. ⌜ givenWriter r ≡ writerGiven (wrote room place fault size) ⌝ }
+{
+    if room > FILE_LIMIT {
+        return WriterAnswer::Refused {
+            number: 1,
+            place: 0,
+        };
+    }
+    if fault != 0 {
+        return WriterAnswer::Refused {
+            number: fault,
+            place,
+        };
+    }
+    if place > room {
+        return WriterAnswer::Refused { number: 13, place };
+    }
+    if size > room - place {
+        return WriterAnswer::Refused { number: 13, place };
+    }
+    WriterAnswer::Next {
+        place: place + size,
+    }
+}
+
+// Stores a word from a place on.
+fn put_word(out: &mut [u8], at: usize, w: u32)
+    requires { ⌜ at + 4 ≤ length (now out) ⌝ }
+    ensures { λ _. ⌜ now (out .exit) ≡ sets (now (out .entry)) at (words (w ∷ [])) ⌝ }
+{
+    out[at] = (w % 256) as u8;
+    out[at + 1] = (w / 256 % 256) as u8;
+    out[at + 2] = (w / 65536 % 256) as u8;
+    out[at + 3] = (w / 16777216) as u8;
+}
+
+/// Stores words one after the other, from a place on.
+pub fn put_words(out: &mut [u8], at: usize, ws: &[u32])
+    requires { ⌜ at + 4 * length (now ws) ≤ length (now out) ⌝ }
+    ensures { λ _. ⌜ now (out .exit) ≡ sets (now (out .entry)) at (words (now (ws .entry))) ⌝ }
+{
+    let mut i = 0;
+    while i < ws.len() {
+        put_word(out, at + 4 * i, ws[i]);
+        i += 1;
+    }
+}
+
+/// Stores a part of bytes, from a place on.
+pub fn put_part(out: &mut [u8], at: usize, part: &[u8])
+    requires { ⌜ at + length (now part) ≤ length (now out) ⌝ }
+    ensures { λ _. ⌜ now (out .exit) ≡ sets (now (out .entry)) at (now (part .entry)) ⌝ }
+{
+    let mut i = 0;
+    while i < part.len() {
+        out[at + i] = part[i];
+        i += 1;
+    }
+}
