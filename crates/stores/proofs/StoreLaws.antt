@@ -20,19 +20,22 @@ sets-append l i (x ∷ a) b =
     let e : i + suc (length a) ≡ suc i + length a = omega arith in
     ap (λ (k : ℕ). sets (sets (set l i x) (suc i) a) k b) e ∙ sets-append (set l i x) (suc i) a b
 
--- Stores right behind n bytes that were stored.
-pub stored-next : (l : List ℕ) (at n : ℕ) (a b : List ℕ) → length a ≡ n → sets (sets l at a) (at + n) b ≡ sets l at (a ++ b)
-stored-next l at n a b e = ap (λ (k : ℕ). sets (sets l at a) (at + k) b) (sym e) ∙ sets-append l at a b
+-- Stores from the place behind those before them.
+pub stored-next : (l : List ℕ) (at next : ℕ) (a b : List ℕ) → at + length a ≡ next → sets (sets l at a) next b ≡ sets l at (a ++ b)
+stored-next l at next a b e = ap (λ (k : ℕ). sets (sets l at a) k b) (sym e) ∙ sets-append l at a b
 
 -- One byte more of a part, and one word more of a list of words.
 pub byte-more : (l s : List ℕ) (at i : ℕ) → i < length s → set (sets l at (take i s)) (at + i) (getD s i 0) ≡ sets l at (take (i + 1) s)
-byte-more l s at i h = stored-next l at i (take i s) (getD s i 0 ∷ []) (length-take-le i s (omega arith)) ∙ rw (add-one, take-suc s i 0)
+byte-more l s at i h =
+    stored-next l at (at + i) (take i s) (getD s i 0 ∷ []) (omega (arith, length-take-le i s (omega arith)))
+    ∙ rw (add-one, take-suc s i 0)
 
 pub word-more : (l ws : List ℕ) (at i : ℕ) → i < length ws
     → sets (sets l at (words (take i ws))) (at + 4 * i) (words (getD ws i 0 ∷ [])) ≡ sets l at (words (take (i + 1) ws))
 word-more l ws at i h =
-    let e : length (words (take i ws)) ≡ 4 * i = omega (arith, length-puts order 4 (take i ws), length-take-le i ws (omega arith)) in
-    stored-next l at (4 * i) (words (take i ws)) (words (getD ws i 0 ∷ [])) e ∙ rw (add-one, take-suc ws i 0, puts-append)
+    stored-next l at (at + 4 * i) (words (take i ws)) (words (getD ws i 0 ∷ []))
+    (omega (arith, length-puts order 4 (take i ws), length-take-le i ws (omega arith)))
+    ∙ rw (add-one, take-suc ws i 0, puts-append)
 
 -- ---- into the part that is lent on from a place
 

@@ -1,7 +1,7 @@
 -- A writer's answer and the output that it leaves: each way through `wrote`, and what an answer tells a writer that was given it.
 -- The idea: a writer's answer determines `wrote`, and `wrote` determines the output; no kind of structure enters.
 use Prim.Native.Nat.{ℕ, zero, suc, _+_, _-_, _≤_, _<_}
-use mathlib.Core.Path.{_≡_, refl, sym, ap, _∙_}
+use mathlib.Core.Path.{_≡_, refl, sym, ap, _∙_, subst}
 use mathlib.Core.Bool.{Bool, true, false}
 use mathlib.Core.List.{List, [], _∷_, _++_, append-assoc}
 use native.Mathlib.Omega.{arith}
@@ -62,14 +62,14 @@ module _ (n place fault size : ℕ) where
   room h e l = rw (le-leb n fileLimit h, e, le-leb (place + size) n l)
 
   -- The next place was answered: nothing stood against it.
-  pub room-told : (next : ℕ) → accepted (counts (next ∷ [])) ≡ answer → (fault ≡ 0) × (place + size ≤ n)
+  pub room-told : (next : ℕ) → accepted (counts (next ∷ [])) ≡ answer → (n ≤ fileLimit) × (fault ≡ 0) × (place + size ≤ n)
   unfolding wrote
   room-told next h =
       let fits : Res ℕ = need (unless (leb (place + size) n) 13) place (ok (place + size)) in
       let limit = need-ok (unless (leb n fileLimit) 1) 0 (need fault place fits) (next-told (wrote n place fault size) next h) in
       let fields = need-ok fault place fits (limit .1) in
       let last = need-ok (unless (leb (place + size) n) 13) place (ok (place + size)) (fields .1) in
-      (fields .0, most-passed (place + size) n 12 (last .0))
+      (most-passed n fileLimit 0 (limit .0), fields .0, most-passed (place + size) n 12 (last .0))
 
 -- ---- the output
 
@@ -110,4 +110,27 @@ module _ (out : List ℕ) (place : ℕ) where
     writes next h rest q =
         let own : accepted (counts (next ∷ [])) ≡ writerGiven (recordWrote out place w) = h ∙ ap writerGiven same in
         let told = room-told (length out) place fault size next h in
-        (own, stored (recordWrote out place w) (w .bytes) next own (omega (arith, told .1, l (told .0))) rest q)
+        (own, stored (recordWrote out place w) (w .bytes) next own (omega (arith, told .2, l (told .1))) rest q)
+
+-- ---- what a writer promises of a record
+
+-- The answer and the output afterwards are those of the record.
+abbrev pub Wrote : List ℕ → ℕ → Given → List ℕ → Written → Type 0
+Wrote out place given after w = (given ≡ writerGiven (recordWrote out place w)) × (after ≡ recordOutput out place w)
+
+refused-either : (c f p : ℕ) (out : List ℕ) (place : ℕ) (a b : List ℕ) → written (need c 0 (bad f p)) out place a ≡ written (need c 0 (bad f p)) out place b
+unfolding written
+refused-either zero f p out place a b = refl
+refused-either (suc c) f p out place a b = refl
+
+-- Of fields with a fault, the bytes aren't asked.
+module _ (out : List ℕ) (place : ℕ) (given : Given) (after : List ℕ) where
+  others : (fault : ℕ) (a b : List ℕ) → (fault ≡ 0 → a ≡ b) → Wrote out place given after (record { fault = fault; bytes = a }) → Wrote out place given after (record { fault = fault; bytes = b })
+  unfolding recordOutput recordWrote wrote
+  others zero a b h s = subst (λ (bytes : List ℕ). Wrote out place given after (record { fault = 0; bytes = bytes })) (h refl) s
+  others (suc f) a b h s = (s .0, s .1 ∙ refused-either (unless (leb (length out) fileLimit) 1) (suc f) place out place a b)
+
+  pub bytes-unasked : (fault : ℕ) (bytes : List ℕ) (w : Written) → fault ≡ w .fault → (fault ≡ 0 → bytes ≡ w .bytes)
+      → Wrote out place given after (record { fault = fault; bytes = bytes }) → Wrote out place given after w
+  bytes-unasked fault bytes w e h s =
+      subst (λ (f : ℕ). Wrote out place given after (record { fault = f; bytes = w .bytes })) e (others fault bytes (w .bytes) h s)

@@ -1,0 +1,3 @@
+pub mod StructureLaws
+pub mod FaultLaws
+pub mod SignedLaws

@@ -1,0 +1,31 @@
+-- A structure's bytes as the writers store them: its size, and its three stores.
+-- The idea: kind and length words, the body's words and the bytes behind them stand one after the other.
+use Prim.Native.Nat.{ℕ, _+_, _*_}
+use mathlib.Core.Path.{_≡_, refl, sym, ap, _∙_}
+use mathlib.Core.List.{List, [], _∷_, _++_}
+use native.Mathlib.Omega.{arith}
+use lib.ListN.{length, length-append}
+use lib.Seq.{sets}
+use Rattle.theory.specs.Words.{bytes, put, puts}
+use Rattle.theory.proofs.WordLaws.{length-puts}
+use Rattle.note.specs.Words.{order, words}
+use Rattle.stores.proofs.StoreLaws.{stored-next}
+use Rattle.writers.specs.Structures.{structured}
+
+module _ (kind : ℕ) (ws rest : List ℕ) where
+  body-size : length (words ws ++ rest) ≡ 4 * length ws + length rest
+  body-size = omega (arith, length-append (words ws) rest, length-puts order 4 ws)
+
+  pub structured-size : length (structured kind ws rest) ≡ 8 + (4 * length ws + length rest)
+  unfolding structured put bytes
+  structured-size = omega (arith, body-size)
+
+  pub structured-stored : (l : List ℕ) (n : ℕ) → n ≡ 4 * length ws + length rest
+      → sets (sets (sets l 0 (words (kind ∷ n ∷ []))) 8 (words ws)) (8 + 4 * length ws) rest ≡ sets l 0 (structured kind ws rest)
+  unfolding structured puts put bytes
+  structured-stored l n e =
+      let head : List ℕ = words (kind ∷ n ∷ []) in
+      let size : 0 + length (head ++ words ws) ≡ 8 + 4 * length ws = omega (arith, length-append head (words ws), length-puts order 4 ws) in
+      ap (λ (m : List ℕ). sets m (8 + 4 * length ws) rest) (stored-next l 0 8 head (words ws) refl)
+      ∙ stored-next l 0 (8 + 4 * length ws) (head ++ words ws) rest size
+      ∙ ap (λ (k : ℕ). sets l 0 (put order 4 kind ++ (put order 4 k ++ (words ws ++ rest)))) (e ∙ sym body-size)

@@ -1,0 +1,68 @@
+use Prim.Native.Nat.{_+_, _*_}
+use mathlib.Core.Path.{_≡_, refl, ap, _∙_}
+use mathlib.Core.List.{List}
+use denote.Ref.{now}
+use Prim.Native.Nat.{ℕ}
+use lib.ListN.{length}
+use lib.Seq.{sets}
+use Rattle.note.specs.Words.{words}
+use Rattle.writers.proofs.StructureLaws.{structured-stored}
+use borrow.Author.Needs.{needs}
+use Rattle.writers.proofs.put_structure.Statement.{statement}
+use Rattle.writers.proofs.put_structure.Tie as tie
+use Rattle.writers.proofs.put_structure.Reads as reads
+use Rattle.writers.proofs.put_structure.Lts as lts
+use Rattle.stores.proofs.put_part.Reads as put-part-reads
+use Rattle.stores.proofs.put_words.Reads as put-words-reads
+
+mul-words : tie.Need-mul-words
+mul-words c = search needs
+
+add-t11 : tie.Need-add-t11
+add-t11 c = search needs
+
+cast-t12 : tie.Need-cast-t12
+cast-t12 c = search needs
+
+slice-aggregate-put-words : tie.Need-slice-aggregate-put-words
+slice-aggregate-put-words c = search needs
+
+put-words-requires : tie.Need-put-words-requires
+put-words-requires c κs = search needs
+
+put-words-requires-2 : tie.Need-put-words-requires-2
+put-words-requires-2 c κs = search needs
+
+add-put-part : tie.Need-add-put-part
+add-put-part c = search needs
+
+put-part-requires : tie.Need-put-part-requires
+put-part-requires c κs = search needs
+
+same-length : tie.Need-same-length
+same-length c = search needs
+
+returns : tie.Need-returns
+returns c =
+    let a = c .before .before .before .before .before .before .before .before .before .before .before .before .before .before .before .before .args in
+    let last = c .before .before .put-part in
+    let middle = c .before .before .before .before .before .before .put-words2 in
+    let first = c .before .before .before .before .before .before .before .before .before .before .put-words in
+    last .ensures
+    ∙ ap (λ (l : List ℕ). sets l (8 + 4 * length (now (a .ws))) (now (a .bytes))) (middle .ensures ∙ ap (λ (l : List ℕ). sets l 8 (words (now (a .ws)))) (first .ensures))
+    ∙ structured-stored (a .kind) (now (a .ws)) (now (a .bytes)) (now (a .part)) _ refl
+
+pub put-structure-spec : {M : Type 1} → statement M
+put-structure-spec =
+    tie.close
+    (tie.spec
+    mul-words
+    add-t11
+    cast-t12
+    slice-aggregate-put-words
+    put-words-requires
+    put-words-requires-2
+    add-put-part
+    put-part-requires
+    same-length
+    returns)

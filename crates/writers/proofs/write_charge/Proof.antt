@@ -1,0 +1,92 @@
+-- `writers::write_charge` meets its contract: the words handed on are the fields'.
+-- The idea: a structure of those words is the kind's own, and computes to it.
+use Rattle.theory.specs.Words.{bytes, put, puts}
+use Rattle.stores.proofs.WriterLaws.{bytes-unasked}
+use Rattle.writers.specs.Structures.{structured}
+use mathlib.Core.Path.{_≡_, ap, _∙_}
+use mathlib.Core.List.{[], _∷_}
+use Rattle.note.specs.Charge.{chargeBytes, chargeFault}
+use Rattle.note.specs.Writers.{chargeWritten}
+use Rattle.writers.proofs.SignedLaws.{handed-on}
+use borrow.Author.Needs.{needs}
+use Rattle.writers.proofs.write_charge.Statement.{statement}
+use Rattle.writers.proofs.write_charge.Tie as tie
+use Rattle.writers.proofs.write_charge.Reads as reads
+use Rattle.writers.proofs.write_charge.Lts as lts
+use Rattle.fields.proofs.from_signed.Reads as from-signed-reads
+use Rattle.rules.proofs.charge_fault.Reads as charge-fault-reads
+use Rattle.writers.proofs.write_structure.Reads as write-structure-reads
+
+from-signed-requires : tie.Need-from-signed-requires
+from-signed-requires c κs = search needs
+
+charge-fault-requires : tie.Need-charge-fault-requires
+charge-fault-requires c κs = search needs
+
+from-signed-requires-2 : tie.Need-from-signed-requires-2
+from-signed-requires-2 c κs = search needs
+
+from-signed-requires-3 : tie.Need-from-signed-requires-3
+from-signed-requires-3 c κs = search needs
+
+from-signed-requires-4 : tie.Need-from-signed-requires-4
+from-signed-requires-4 c κs = search needs
+
+from-signed-requires-5 : tie.Need-from-signed-requires-5
+from-signed-requires-5 c κs = search needs
+
+from-signed-requires-6 : tie.Need-from-signed-requires-6
+from-signed-requires-6 c κs = search needs
+
+from-signed-requires-7 : tie.Need-from-signed-requires-7
+from-signed-requires-7 c κs = search needs
+
+from-signed-requires-8 : tie.Need-from-signed-requires-8
+from-signed-requires-8 c κs = search needs
+
+slice-aggregate-write-structure : tie.Need-slice-aggregate-write-structure
+slice-aggregate-write-structure c = search needs
+
+slice-aggregate-write-structure-2 : tie.Need-slice-aggregate-write-structure-2
+slice-aggregate-write-structure-2 c = search needs
+
+write-structure-requires : tie.Need-write-structure-requires
+write-structure-requires c κs = search needs
+
+same-length : tie.Need-same-length
+same-length c = search needs
+
+returns : tie.Need-returns
+unfolding structured chargeWritten chargeBytes puts put bytes
+returns c =
+    let s = c .before .before .before .before .before .before .before .before .before .before .before .before .before .before .before .before in
+    let e0 = handed-on (s .args .code) (s .fits .code) (c .before .before .before .before .before .before .before .before .before .before .before .before .before .before .from-signed .ensures) in
+    let e1 = handed-on (s .args .tower) (s .fits .tower) (c .before .before .before .before .before .before .before .before .before .before .before .from-signed2 .ensures) in
+    let e2 = handed-on (s .args .gain) (s .fits .gain) (c .before .before .before .before .before .before .before .before .before .before .from-signed3 .ensures) in
+    let e3 = handed-on (s .args .bias) (s .fits .bias) (c .before .before .before .before .before .before .before .before .before .from-signed4 .ensures) in
+    let e4 = handed-on (s .args .rtf) (s .fits .rtf) (c .before .before .before .before .before .before .before .before .from-signed5 .ensures) in
+    let e5 = handed-on (s .args .delta) (s .fits .delta) (c .before .before .before .before .before .before .before .from-signed6 .ensures) in
+    let e6 = handed-on (s .args .t0) (s .fits .t0) (c .before .before .before .before .before .before .from-signed7 .ensures) in
+    let e7 = handed-on (s .args .trace) (s .fits .trace) (c .before .before .before .before .before .from-signed8 .ensures) in
+    bytes-unasked _ _ _ _ _ _ _ (c .before .before .before .before .before .before .before .before .before .before .before .before .charge-fault .ensures ∙ ap chargeFault e0)
+    (λ z. λ i. structured 0x00010002 (e0 i ∷ e1 i ∷ e2 i ∷ e3 i ∷ e4 i ∷ e5 i ∷ e6 i ∷ e7 i ∷ []) [])
+    (c .before .before .write-structure .ensures)
+
+pub write-charge-spec : {M : Type 1} → statement M
+write-charge-spec =
+    tie.close
+    (tie.spec
+    from-signed-requires
+    charge-fault-requires
+    from-signed-requires-2
+    from-signed-requires-3
+    from-signed-requires-4
+    from-signed-requires-5
+    from-signed-requires-6
+    from-signed-requires-7
+    from-signed-requires-8
+    slice-aggregate-write-structure
+    slice-aggregate-write-structure-2
+    write-structure-requires
+    same-length
+    returns)

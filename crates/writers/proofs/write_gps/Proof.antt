@@ -1,0 +1,90 @@
+-- `writers::write_gps` meets its contract: the words handed on are the fields' where these have no fault.
+-- The idea: a status without a fault is its own lowest four bits; the rest computes.
+use Prim.Native.Nat.{ℕ, _+_, _*_, _%_}
+use mathlib.Core.Path.{_≡_, refl, sym, ap, _∙_}
+use mathlib.Core.List.{[], _∷_}
+use native.Mathlib.Omega.{arith}
+use borrow.Author.Tests.{leb-true}
+use Rattle.theory.specs.Words.{bytes, put, puts}
+use Rattle.theory.proofs.TestLaws.{holds-at}
+use Rattle.note.specs.Gps.{Gps, bcd, gpsBytes, gpsFault}
+use Rattle.note.specs.Writers.{gpsWritten}
+use Rattle.stores.proofs.WriterLaws.{bytes-unasked}
+use Rattle.writers.specs.Structures.{structured}
+use borrow.Author.Needs.{needs}
+use Rattle.writers.proofs.write_gps.Statement.{statement}
+use Rattle.writers.proofs.write_gps.Tie as tie
+use Rattle.writers.proofs.write_gps.Reads as reads
+use Rattle.writers.proofs.write_gps.Lts as lts
+use Rattle.fields.proofs.gps_fault.Reads as gps-fault-reads
+use Rattle.writers.proofs.eight_digits.Reads as eight-digits-reads
+use Rattle.writers.proofs.four_digits.Reads as four-digits-reads
+use Rattle.writers.proofs.gps_clock.Reads as gps-clock-reads
+use Rattle.writers.proofs.write_structure.Reads as write-structure-reads
+
+status-kept : (f : Gps) → gpsFault f ≡ 0 → f .status % 16 ≡ f .status
+unfolding gpsFault
+status-kept f fine = omega (arith, leb-true (f .status) 15 (holds-at _ fine 2 _ 9 refl))
+
+four-digits-requires : tie.Need-four-digits-requires
+four-digits-requires c κs = search needs
+
+mul-date : tie.Need-mul-date
+mul-date c = search needs
+
+four-digits-requires-2 : tie.Need-four-digits-requires-2
+four-digits-requires-2 c κs = search needs
+
+add-date : tie.Need-add-date
+add-date c = search needs
+
+gps-fault-requires : tie.Need-gps-fault-requires
+gps-fault-requires c κs = search needs
+
+gps-clock-requires : tie.Need-gps-clock-requires
+gps-clock-requires c κs = search needs
+
+eight-digits-requires : tie.Need-eight-digits-requires
+eight-digits-requires c κs = search needs
+
+slice-aggregate-write-structure : tie.Need-slice-aggregate-write-structure
+slice-aggregate-write-structure c = search needs
+
+slice-aggregate-write-structure-2 : tie.Need-slice-aggregate-write-structure-2
+slice-aggregate-write-structure-2 c = search needs
+
+write-structure-requires : tie.Need-write-structure-requires
+write-structure-requires c κs = search needs
+
+same-length : tie.Need-same-length
+same-length c = search needs
+
+returns : tie.Need-returns
+unfolding structured gpsWritten gpsBytes puts put bytes
+returns c =
+    let a = c .before .before .before .before .before .before .before .before .before .before .before .before .args in
+    let year = c .before .before .before .before .before .before .before .before .before .before .four-digits .ensures .0 in
+    let day = c .before .before .before .before .before .before .before .before .before .four-digits2 .ensures .0 in
+    let fault = c .before .before .before .before .before .before .before .before .gps-fault .ensures in
+    let tenths = c .before .before .before .before .before .eight-digits .ensures in
+    let clock : ℕ → ℕ = λ s. s * 268435456 + bcd 2 (a .hour) * 65536 + bcd 2 (a .minute) * 256 + bcd 2 (a .second) in
+    bytes-unasked _ _ _ _ _ _ _ fault
+    (λ z. λ i. structured 0x60 ((year i * 65536 + day i) ∷ (c .before .before .before .before .before .before .gps-clock .ensures ∙ ap clock (status-kept _ (sym fault ∙ z))) i ∷ tenths i ∷ []) [])
+    (c .before .before .write-structure .ensures)
+
+pub write-gps-spec : {M : Type 1} → statement M
+write-gps-spec =
+    tie.close
+    (tie.spec
+    four-digits-requires
+    mul-date
+    four-digits-requires-2
+    add-date
+    gps-fault-requires
+    gps-clock-requires
+    eight-digits-requires
+    slice-aggregate-write-structure
+    slice-aggregate-write-structure-2
+    write-structure-requires
+    same-length
+    returns)

@@ -1,0 +1,107 @@
+-- `writers::write_phonon` meets its contract: the words handed on are the fields'.
+-- The idea: a structure of those words is the kind's own, and computes to it.
+use Rattle.theory.specs.Words.{bytes, put, puts}
+use Rattle.stores.proofs.WriterLaws.{bytes-unasked}
+use Rattle.writers.specs.Structures.{structured}
+use mathlib.Core.Path.{_≡_, ap, _∙_}
+use mathlib.Core.List.{[], _∷_}
+use Rattle.note.specs.Phonon.{phononBytes, phononFault}
+use Rattle.note.specs.Writers.{phononWritten}
+use Rattle.writers.proofs.SignedLaws.{handed-on}
+use borrow.Author.Needs.{needs}
+use Rattle.writers.proofs.write_phonon.Statement.{statement}
+use Rattle.writers.proofs.write_phonon.Tie as tie
+use Rattle.writers.proofs.write_phonon.Reads as reads
+use Rattle.writers.proofs.write_phonon.Lts as lts
+use Rattle.fields.proofs.from_signed.Reads as from-signed-reads
+use Rattle.rules.proofs.phonon_fault.Reads as phonon-fault-reads
+use Rattle.writers.proofs.write_structure.Reads as write-structure-reads
+
+from-signed-requires : tie.Need-from-signed-requires
+from-signed-requires c κs = search needs
+
+phonon-fault-requires : tie.Need-phonon-fault-requires
+phonon-fault-requires c κs = search needs
+
+from-signed-requires-2 : tie.Need-from-signed-requires-2
+from-signed-requires-2 c κs = search needs
+
+from-signed-requires-3 : tie.Need-from-signed-requires-3
+from-signed-requires-3 c κs = search needs
+
+from-signed-requires-4 : tie.Need-from-signed-requires-4
+from-signed-requires-4 c κs = search needs
+
+from-signed-requires-5 : tie.Need-from-signed-requires-5
+from-signed-requires-5 c κs = search needs
+
+from-signed-requires-6 : tie.Need-from-signed-requires-6
+from-signed-requires-6 c κs = search needs
+
+from-signed-requires-7 : tie.Need-from-signed-requires-7
+from-signed-requires-7 c κs = search needs
+
+from-signed-requires-8 : tie.Need-from-signed-requires-8
+from-signed-requires-8 c κs = search needs
+
+from-signed-requires-9 : tie.Need-from-signed-requires-9
+from-signed-requires-9 c κs = search needs
+
+from-signed-requires-10 : tie.Need-from-signed-requires-10
+from-signed-requires-10 c κs = search needs
+
+from-signed-requires-11 : tie.Need-from-signed-requires-11
+from-signed-requires-11 c κs = search needs
+
+slice-aggregate-write-structure : tie.Need-slice-aggregate-write-structure
+slice-aggregate-write-structure c = search needs
+
+slice-aggregate-write-structure-2 : tie.Need-slice-aggregate-write-structure-2
+slice-aggregate-write-structure-2 c = search needs
+
+write-structure-requires : tie.Need-write-structure-requires
+write-structure-requires c κs = search needs
+
+same-length : tie.Need-same-length
+same-length c = search needs
+
+returns : tie.Need-returns
+unfolding structured phononWritten phononBytes puts put bytes
+returns c =
+    let s = c .before .before .before .before .before .before .before .before .before .before .before .before .before .before .before .before .before .before .before in
+    let e0 = handed-on (s .args .code) (s .fits .code) (c .before .before .before .before .before .before .before .before .before .before .before .before .before .before .before .before .before .from-signed .ensures) in
+    let e1 = handed-on (s .args .tower) (s .fits .tower) (c .before .before .before .before .before .before .before .before .before .before .before .before .before .before .from-signed2 .ensures) in
+    let e2 = handed-on (s .args .gain) (s .fits .gain) (c .before .before .before .before .before .before .before .before .before .before .before .before .before .from-signed3 .ensures) in
+    let e3 = handed-on (s .args .qet) (s .fits .qet) (c .before .before .before .before .before .before .before .before .before .before .before .before .from-signed4 .ensures) in
+    let e4 = handed-on (s .args .squid) (s .fits .squid) (c .before .before .before .before .before .before .before .before .before .before .before .from-signed5 .ensures) in
+    let e5 = handed-on (s .args .lockpoint) (s .fits .lockpoint) (c .before .before .before .before .before .before .before .before .before .before .from-signed6 .ensures) in
+    let e6 = handed-on (s .args .rtf) (s .fits .rtf) (c .before .before .before .before .before .before .before .before .before .from-signed7 .ensures) in
+    let e7 = handed-on (s .args .variable) (s .fits .variable) (c .before .before .before .before .before .before .before .before .from-signed8 .ensures) in
+    let e8 = handed-on (s .args .delta) (s .fits .delta) (c .before .before .before .before .before .before .before .from-signed9 .ensures) in
+    let e9 = handed-on (s .args .t0) (s .fits .t0) (c .before .before .before .before .before .before .from-signed10 .ensures) in
+    let e10 = handed-on (s .args .trace) (s .fits .trace) (c .before .before .before .before .before .from-signed11 .ensures) in
+    bytes-unasked _ _ _ _ _ _ _ (c .before .before .before .before .before .before .before .before .before .before .before .before .before .before .before .phonon-fault .ensures ∙ ap phononFault e0)
+    (λ z. λ i. structured 0x00010001 (e0 i ∷ e1 i ∷ e2 i ∷ e3 i ∷ e4 i ∷ e5 i ∷ e6 i ∷ e7 i ∷ e8 i ∷ e9 i ∷ e10 i ∷ []) [])
+    (c .before .before .write-structure .ensures)
+
+pub write-phonon-spec : {M : Type 1} → statement M
+write-phonon-spec =
+    tie.close
+    (tie.spec
+    from-signed-requires
+    phonon-fault-requires
+    from-signed-requires-2
+    from-signed-requires-3
+    from-signed-requires-4
+    from-signed-requires-5
+    from-signed-requires-6
+    from-signed-requires-7
+    from-signed-requires-8
+    from-signed-requires-9
+    from-signed-requires-10
+    from-signed-requires-11
+    slice-aggregate-write-structure
+    slice-aggregate-write-structure-2
+    write-structure-requires
+    same-length
+    returns)
