@@ -1,2 +1,3 @@
 pub mod StoreLaws
 pub mod WriterLaws
+pub mod StructureLaws

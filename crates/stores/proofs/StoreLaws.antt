@@ -21,8 +21,23 @@ sets-append l i (x ∷ a) b =
     ap (λ (k : ℕ). sets (sets (set l i x) (suc i) a) k b) e ∙ sets-append (set l i x) (suc i) a b
 
 -- Stores from the place behind those before them.
-pub stored-next : (l : List ℕ) (at next : ℕ) (a b : List ℕ) → at + length a ≡ next → sets (sets l at a) next b ≡ sets l at (a ++ b)
+stored-next : (l : List ℕ) (at next : ℕ) (a b : List ℕ) → at + length a ≡ next → sets (sets l at a) next b ≡ sets l at (a ++ b)
 stored-next l at next a b e = ap (λ (k : ℕ). sets (sets l at a) k b) (sym e) ∙ sets-append l at a b
+
+-- Several lists stored in a row are one list stored.
+abbrev pub storedInRow : List ℕ → ℕ → List (List ℕ) → List ℕ
+storedInRow l at [] = l
+storedInRow l at (x ∷ xs) = storedInRow (sets l at x) (at + length x) xs
+
+abbrev pub joined : List (List ℕ) → List ℕ
+joined [] = []
+joined (x ∷ []) = x
+joined (x ∷ (y ∷ ys)) = x ++ joined (y ∷ ys)
+
+pub in-a-row : (l : List ℕ) (at : ℕ) (xs : List (List ℕ)) → storedInRow l at xs ≡ sets l at (joined xs)
+in-a-row l at [] = refl
+in-a-row l at (x ∷ []) = refl
+in-a-row l at (x ∷ (y ∷ ys)) = in-a-row (sets l at x) (at + length x) (y ∷ ys) ∙ sets-append l at x (joined (y ∷ ys))
 
 -- One byte more of a part, and one word more of a list of words.
 pub byte-more : (l s : List ℕ) (at i : ℕ) → i < length s → set (sets l at (take i s)) (at + i) (getD s i 0) ≡ sets l at (take (i + 1) s)

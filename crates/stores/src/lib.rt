@@ -9,7 +9,8 @@ ghost use lib.ListN.{length};
 ghost use lib.Seq.{sets};
 ghost use Rattle.note.specs.Words.{words};
 ghost use Rattle.note.specs.Answers.{givenWriter};
-ghost use Rattle.note.specs.Writers.{wrote, writerGiven};
+ghost use Rattle.note.specs.Writers.{wrote, writerGiven, recordWrote, recordOutput};
+ghost use Rattle.stores.specs.Structures.{structured, structureWritten};
 
 /// The answer of a writer of `size` bytes from a place on, over an output of `room` bytes: 1 for an output over the limit, the fault of the
 /// fields (0 for none), 13 for too little room, or the next place.
@@ -71,5 +72,40 @@ pub fn put_part(out: &mut [u8], at: usize, part: &[u8])
     while i < part.len() {
         out[at + i] = part[i];
         i += 1;
+    }
+}
+
+// ---- structures
+
+// Stores a structure from the part's first byte on: its kind word, its length word, its body's words, and the bytes behind them.
+fn put_structure(part: &mut [u8], kind: u32, ws: &[u32], bytes: &[u8])
+    requires { ⌜ (8 + (4 * length (now ws) + length (now bytes)) ≤ length (now part)) × (length (now part) ≤ 0xFFFFFFFF) ⌝ }
+    ensures { λ _. ⌜ now (part .exit) ≡ sets (now (part .entry)) 0 (structured kind (now (ws .entry)) (now (bytes .entry))) ⌝ }
+{
+    let words = 4 * ws.len();
+    put_words(part, 0, &[kind, (words + bytes.len()) as u32]);
+    put_words(part, 8, ws);
+    put_part(part, 8 + words, bytes);
+}
+
+/// Writes a structure, of fields with this fault, into the rest of the output from the place on, which is lent on (document 01).
+pub fn write_structure(
+    out: &mut [u8],
+    place: usize,
+    fault: u32,
+    kind: u32,
+    ws: &[u32],
+    bytes: &[u8],
+) -> WriterAnswer
+    requires { ⌜ length (now ws) ≤ 12 ⌝ }
+    ensures answer { λ r. ⌜ givenWriter r ≡ writerGiven (recordWrote (now (out .entry)) place (structureWritten fault kind (now (ws .entry)) (now (bytes .entry)))) ⌝ }
+    ensures output { λ _. ⌜ now (out .exit) ≡ recordOutput (now (out .entry)) place (structureWritten fault kind (now (ws .entry)) (now (bytes .entry))) ⌝ }
+{
+    match admitted(out.len(), place, fault, 8 + (4 * ws.len() + bytes.len())) {
+        WriterAnswer::Refused { number, place } => WriterAnswer::Refused { number, place },
+        WriterAnswer::Next { place: next } => {
+            put_structure(&mut out[place..], kind, ws, bytes);
+            WriterAnswer::Next { place: next }
+        }
     }
 }

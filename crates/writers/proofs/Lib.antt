@@ -1,3 +1,3 @@
-pub mod StructureLaws
 pub mod FaultLaws
 pub mod SignedLaws
+pub mod HistoryLaws

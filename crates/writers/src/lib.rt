@@ -5,11 +5,13 @@ use fields::administrative_fault;
 use fields::count_fault;
 use fields::from_signed;
 use fields::gps_fault;
+use fields::is_width;
 use fields::tlb_fault;
 use note::WriterAnswer;
 use rules::ADMINISTRATIVE;
 use rules::CHARGE;
 use rules::GPS;
+use rules::HISTORY;
 use rules::PHONON;
 use rules::TLB;
 use rules::TRACE;
@@ -19,6 +21,7 @@ use rules::phonon_fault;
 use stores::admitted;
 use stores::put_part;
 use stores::put_words;
+use stores::write_structure;
 ghost use mathlib.Core.Path.{_≡_};
 ghost use mathlib.Core.Bool.{_&&_};
 ghost use mathlib.Core.List.{[], _∷_};
@@ -29,44 +32,12 @@ ghost use lib.Seq.{sets};
 ghost use Rattle.theory.specs.Tests.{unless, first};
 ghost use Rattle.note.specs.Answers.{givenWriter};
 ghost use Rattle.note.specs.Gps.{bcd};
+ghost use Rattle.note.specs.History.{sectionBytes, sectionFault};
 ghost use Rattle.note.specs.Trace.{channelFault, codeFault, deltaFault, countFault};
-ghost use Rattle.note.specs.Writers.{writerGiven, recordWrote, recordOutput, phononWritten, chargeWritten, administrativeWritten, traceWritten, gpsWritten, triggerWritten, tlbWritten};
-ghost use Rattle.writers.specs.Structures.{structured, structureWritten};
+ghost use Rattle.note.specs.Writers.{writerGiven, recordWrote, recordOutput, phononWritten, chargeWritten, administrativeWritten, traceWritten, historyWritten, gpsWritten, triggerWritten, tlbWritten};
 
-// ---- structures
-
-// Stores a structure from the part's first byte on: its kind word, its length word, its body's words, and the bytes behind them.
-fn put_structure(part: &mut [u8], kind: u32, ws: &[u32], bytes: &[u8])
-    requires { ⌜ (8 + (4 * length (now ws) + length (now bytes)) ≤ length (now part)) × (length (now part) ≤ 0xFFFFFFFF) ⌝ }
-    ensures { λ _. ⌜ now (part .exit) ≡ sets (now (part .entry)) 0 (structured kind (now (ws .entry)) (now (bytes .entry))) ⌝ }
-{
-    let words = 4 * ws.len();
-    put_words(part, 0, &[kind, (words + bytes.len()) as u32]);
-    put_words(part, 8, ws);
-    put_part(part, 8 + words, bytes);
-}
-
-// Writes a structure, of fields with this fault, into the rest of the output from the place on, which is lent on (document 01).
-fn write_structure(
-    out: &mut [u8],
-    place: usize,
-    fault: u32,
-    kind: u32,
-    ws: &[u32],
-    bytes: &[u8],
-) -> WriterAnswer
-    requires { ⌜ length (now ws) ≤ 12 ⌝ }
-    ensures answer { λ r. ⌜ givenWriter r ≡ writerGiven (recordWrote (now (out .entry)) place (structureWritten fault kind (now (ws .entry)) (now (bytes .entry)))) ⌝ }
-    ensures output { λ _. ⌜ now (out .exit) ≡ recordOutput (now (out .entry)) place (structureWritten fault kind (now (ws .entry)) (now (bytes .entry))) ⌝ }
-{
-    match admitted(out.len(), place, fault, 8 + (4 * ws.len() + bytes.len())) {
-        WriterAnswer::Refused { number, place } => WriterAnswer::Refused { number, place },
-        WriterAnswer::Next { place: next } => {
-            put_structure(&mut out[place..], kind, ws, bytes);
-            WriterAnswer::Next { place: next }
-        }
-    }
-}
+// "Signed and not negative": a word up to this.
+const GREATEST_SIGNED: u32 = 0x7FFF_FFFF;
 
 // ---- entries
 
@@ -317,6 +288,179 @@ pub fn write_trace(
         ],
         samples,
     )
+}
+
+// ---- history
+
+// Whether a part's size is that of so many words.
+fn is_filled(size: usize, words: usize) -> bool
+    ensures { λ r. ⌜ r ≡ eqb size (4 * words) ⌝ }
+{
+    size % 4 == 0 && size / 4 == words
+}
+
+// The first fault of a history section's fields, in word order.
+fn section_fault(trigger: bool, count: u32, times: &[u8], width: u32, masks: &[u8]) -> u32
+    ensures { λ r. ⌜ r ≡ sectionFault trigger (record {
+      count = count;
+      times = now (times .entry);
+      width = width;
+      masks = now (masks .entry);
+    }) ⌝ }
+{
+    let filled = is_filled(times.len(), count as usize);
+    let timed = earlier(unless(count <= GREATEST_SIGNED, 10), unless(filled, 6));
+    let signed = earlier(timed, unless(width <= GREATEST_SIGNED, 10));
+    let wide = earlier(signed, unless(is_width(trigger, count, width), 10));
+    let masked = is_filled(masks.len(), count as usize * width as usize);
+    earlier(wide, unless(masked, 6))
+}
+
+// A history's size, from the sizes of its parts: asked only where its fields have no fault.
+fn history_size(fault: u32, a: usize, b: usize, c: usize, d: usize) -> usize
+    requires { ⌜ (fault ≡ 0 → 24 + ((a + b) + (c + d)) < 0x10000000000000000) ⌝ }
+    ensures { λ r. ⌜ (fault ≡ 0 → r ≡ 24 + ((a + b) + (c + d))) ⌝ }
+{
+    if fault != 0 {
+        return 0;
+    }
+    24 + ((a + b) + (c + d))
+}
+
+// Stores a history section from a place on.
+fn put_section(part: &mut [u8], at: usize, count: u32, times: &[u8], width: u32, masks: &[u8])
+    requires { ⌜ at + (8 + (length (now times) + length (now masks))) ≤ length (now part) ⌝ }
+    ensures { λ _. ⌜ now (part .exit) ≡ sets (now (part .entry)) at (sectionBytes (record {
+      count = count;
+      times = now (times .entry);
+      width = width;
+      masks = now (masks .entry);
+    })) ⌝ }
+{
+    let middle = at + 4 + times.len();
+    put_words(part, at, &[count]);
+    put_part(part, at + 4, times);
+    put_words(part, middle, &[width]);
+    put_part(part, middle + 4, masks);
+}
+
+// Stores a history from the part's first byte on.
+fn put_history(
+    part: &mut [u8],
+    veto_count: u32,
+    veto_times: &[u8],
+    veto_width: u32,
+    veto_masks: &[u8],
+    trigger_count: u32,
+    trigger_times: &[u8],
+    trigger_width: u32,
+    trigger_masks: &[u8],
+)
+    requires { ⌜ (24 + ((length (now «veto_times») + length (now «veto_masks»)) + (length (now «trigger_times») + length (now «trigger_masks»))) ≤ length (now part)) × (length (now part) ≤ 0xFFFFFFFF) ⌝ }
+    ensures { λ _. ⌜ now (part .exit) ≡ sets (now (part .entry)) 0 (historyWritten (record {
+      veto = record {
+        count = «veto_count»;
+        times = now («veto_times» .entry);
+        width = «veto_width»;
+        masks = now («veto_masks» .entry);
+      };
+      trigger = record {
+        count = «trigger_count»;
+        times = now («trigger_times» .entry);
+        width = «trigger_width»;
+        masks = now («trigger_masks» .entry);
+      };
+    }) .bytes) ⌝ }
+{
+    let veto = 8 + (veto_times.len() + veto_masks.len());
+    let trigger = 8 + (trigger_times.len() + trigger_masks.len());
+    put_words(part, 0, &[HISTORY, (veto + trigger) as u32]);
+    put_section(part, 8, veto_count, veto_times, veto_width, veto_masks);
+    put_section(
+        part,
+        8 + veto,
+        trigger_count,
+        trigger_times,
+        trigger_width,
+        trigger_masks,
+    );
+}
+
+/// Writes a history: of each section the count of times, the part of bytes that holds them, the width, and the part that holds the masks.
+pub fn write_history(
+    out: &mut [u8],
+    place: usize,
+    veto_count: u32,
+    veto_times: &[u8],
+    veto_width: u32,
+    veto_masks: &[u8],
+    trigger_count: u32,
+    trigger_times: &[u8],
+    trigger_width: u32,
+    trigger_masks: &[u8],
+) -> WriterAnswer
+    ensures answer { λ r. ⌜ givenWriter r ≡ writerGiven (recordWrote (now (out .entry)) place (historyWritten (record {
+      veto = record {
+        count = «veto_count»;
+        times = now («veto_times» .entry);
+        width = «veto_width»;
+        masks = now («veto_masks» .entry);
+      };
+      trigger = record {
+        count = «trigger_count»;
+        times = now («trigger_times» .entry);
+        width = «trigger_width»;
+        masks = now («trigger_masks» .entry);
+      };
+    }))) ⌝ }
+    ensures output { λ _. ⌜ now (out .exit) ≡ recordOutput (now (out .entry)) place (historyWritten (record {
+      veto = record {
+        count = «veto_count»;
+        times = now («veto_times» .entry);
+        width = «veto_width»;
+        masks = now («veto_masks» .entry);
+      };
+      trigger = record {
+        count = «trigger_count»;
+        times = now («trigger_times» .entry);
+        width = «trigger_width»;
+        masks = now («trigger_masks» .entry);
+      };
+    })) ⌝ }
+{
+    let veto = section_fault(false, veto_count, veto_times, veto_width, veto_masks);
+    let trigger = section_fault(
+        true,
+        trigger_count,
+        trigger_times,
+        trigger_width,
+        trigger_masks,
+    );
+    let fault = earlier(veto, trigger);
+    let size = history_size(
+        fault,
+        veto_times.len(),
+        veto_masks.len(),
+        trigger_times.len(),
+        trigger_masks.len(),
+    );
+    match admitted(out.len(), place, fault, size) {
+        WriterAnswer::Refused { number, place } => WriterAnswer::Refused { number, place },
+        WriterAnswer::Next { place: next } => {
+            put_history(
+                &mut out[place..],
+                veto_count,
+                veto_times,
+                veto_width,
+                veto_masks,
+                trigger_count,
+                trigger_times,
+                trigger_width,
+                trigger_masks,
+            );
+            WriterAnswer::Next { place: next }
+        }
+    }
 }
 
 // ---- GPS

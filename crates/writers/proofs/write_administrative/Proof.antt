@@ -5,14 +5,14 @@ use Rattle.theory.specs.Words.{bytes, put, puts}
 use Rattle.note.specs.Administrative.{administrativeBytes}
 use Rattle.note.specs.Writers.{administrativeWritten}
 use Rattle.stores.proofs.WriterLaws.{bytes-unasked}
-use Rattle.writers.specs.Structures.{structured}
+use Rattle.stores.specs.Structures.{structured}
 use borrow.Author.Needs.{needs}
 use Rattle.writers.proofs.write_administrative.Statement.{statement}
 use Rattle.writers.proofs.write_administrative.Tie as tie
 use Rattle.writers.proofs.write_administrative.Reads as reads
 use Rattle.writers.proofs.write_administrative.Lts as lts
 use Rattle.fields.proofs.administrative_fault.Reads as administrative-fault-reads
-use Rattle.writers.proofs.write_structure.Reads as write-structure-reads
+use Rattle.stores.proofs.write_structure.Reads as write-structure-reads
 
 administrative-fault-requires : tie.Need-administrative-fault-requires
 administrative-fault-requires c κs = search needs

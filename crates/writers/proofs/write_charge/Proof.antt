@@ -2,7 +2,7 @@
 -- The idea: a structure of those words is the kind's own, and computes to it.
 use Rattle.theory.specs.Words.{bytes, put, puts}
 use Rattle.stores.proofs.WriterLaws.{bytes-unasked}
-use Rattle.writers.specs.Structures.{structured}
+use Rattle.stores.specs.Structures.{structured}
 use mathlib.Core.Path.{_≡_, ap, _∙_}
 use mathlib.Core.List.{[], _∷_}
 use Rattle.note.specs.Charge.{chargeBytes, chargeFault}
@@ -15,7 +15,7 @@ use Rattle.writers.proofs.write_charge.Reads as reads
 use Rattle.writers.proofs.write_charge.Lts as lts
 use Rattle.fields.proofs.from_signed.Reads as from-signed-reads
 use Rattle.rules.proofs.charge_fault.Reads as charge-fault-reads
-use Rattle.writers.proofs.write_structure.Reads as write-structure-reads
+use Rattle.stores.proofs.write_structure.Reads as write-structure-reads
 
 from-signed-requires : tie.Need-from-signed-requires
 from-signed-requires c κs = search needs

@@ -10,7 +10,7 @@ use Rattle.theory.proofs.TestLaws.{holds-at}
 use Rattle.note.specs.Gps.{Gps, bcd, gpsBytes, gpsFault}
 use Rattle.note.specs.Writers.{gpsWritten}
 use Rattle.stores.proofs.WriterLaws.{bytes-unasked}
-use Rattle.writers.specs.Structures.{structured}
+use Rattle.stores.specs.Structures.{structured}
 use borrow.Author.Needs.{needs}
 use Rattle.writers.proofs.write_gps.Statement.{statement}
 use Rattle.writers.proofs.write_gps.Tie as tie
@@ -20,7 +20,7 @@ use Rattle.fields.proofs.gps_fault.Reads as gps-fault-reads
 use Rattle.writers.proofs.eight_digits.Reads as eight-digits-reads
 use Rattle.writers.proofs.four_digits.Reads as four-digits-reads
 use Rattle.writers.proofs.gps_clock.Reads as gps-clock-reads
-use Rattle.writers.proofs.write_structure.Reads as write-structure-reads
+use Rattle.stores.proofs.write_structure.Reads as write-structure-reads
 
 status-kept : (f : Gps) → gpsFault f ≡ 0 → f .status % 16 ≡ f .status
 unfolding gpsFault

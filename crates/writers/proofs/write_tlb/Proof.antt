@@ -5,14 +5,14 @@ use Rattle.theory.specs.Words.{bytes, put, puts}
 use Rattle.note.specs.Tlb.{tlbBytes}
 use Rattle.note.specs.Writers.{tlbWritten}
 use Rattle.stores.proofs.WriterLaws.{bytes-unasked}
-use Rattle.writers.specs.Structures.{structured}
+use Rattle.stores.specs.Structures.{structured}
 use borrow.Author.Needs.{needs}
 use Rattle.writers.proofs.write_tlb.Statement.{statement}
 use Rattle.writers.proofs.write_tlb.Tie as tie
 use Rattle.writers.proofs.write_tlb.Reads as reads
 use Rattle.writers.proofs.write_tlb.Lts as lts
 use Rattle.fields.proofs.tlb_fault.Reads as tlb-fault-reads
-use Rattle.writers.proofs.write_structure.Reads as write-structure-reads
+use Rattle.stores.proofs.write_structure.Reads as write-structure-reads
 
 tlb-fault-requires : tie.Need-tlb-fault-requires
 tlb-fault-requires c κs = search needs

@@ -4,7 +4,7 @@ use denote.Ref.{now}
 use mathlib.Core.List.{[], _∷_}
 use Rattle.theory.specs.Words.{bytes, put, puts}
 use Rattle.stores.proofs.WriterLaws.{bytes-unasked}
-use Rattle.writers.specs.Structures.{structured}
+use Rattle.stores.specs.Structures.{structured}
 use Rattle.note.specs.Trace.{traceBytes, traceFault}
 use Rattle.note.specs.Writers.{traceWritten}
 use Rattle.writers.proofs.SignedLaws.{handed-on}
@@ -15,7 +15,7 @@ use Rattle.writers.proofs.write_trace.Reads as reads
 use Rattle.writers.proofs.write_trace.Lts as lts
 use Rattle.fields.proofs.from_signed.Reads as from-signed-reads
 use Rattle.writers.proofs.trace_fault.Reads as trace-fault-reads
-use Rattle.writers.proofs.write_structure.Reads as write-structure-reads
+use Rattle.stores.proofs.write_structure.Reads as write-structure-reads
 
 trace-fault-requires : tie.Need-trace-fault-requires
 trace-fault-requires c κs = search needs

@@ -3,13 +3,13 @@
 use Rattle.theory.specs.Words.{bytes, put, puts}
 use Rattle.note.specs.Trigger.{triggerBytes}
 use Rattle.note.specs.Writers.{triggerWritten}
-use Rattle.writers.specs.Structures.{structured}
+use Rattle.stores.specs.Structures.{structured}
 use borrow.Author.Needs.{needs}
 use Rattle.writers.proofs.write_trigger.Statement.{statement}
 use Rattle.writers.proofs.write_trigger.Tie as tie
 use Rattle.writers.proofs.write_trigger.Reads as reads
 use Rattle.writers.proofs.write_trigger.Lts as lts
-use Rattle.writers.proofs.write_structure.Reads as write-structure-reads
+use Rattle.stores.proofs.write_structure.Reads as write-structure-reads
 
 slice-aggregate-write-structure : tie.Need-slice-aggregate-write-structure
 slice-aggregate-write-structure c = search needs

@@ -1,4 +1,4 @@
--- `writers::write_structure` meets its contract: a refusal of `admitted` is its own, and the next place tells that there is room.
+-- `stores::write_structure` meets its contract: a refusal of `admitted` is its own, and the next place tells that there is room.
 -- The idea: what is stored into the lent rest of the output is the structure, and the laws of writers say the rest.
 use Prim.Native.Nat.{_+_, _*_, _≤_}
 use mathlib.Core.Path.{_≡_, refl, sym, ap, _∙_}
@@ -9,15 +9,15 @@ use lib.ListN.{length}
 use Rattle.note.specs.Limits.{fileLimit}
 use Rattle.note.specs.Answers.{givenWriter, accepted, counts}
 use Rattle.note.specs.Writers.{writerGiven, wrote}
 use Rattle.stores.proofs.WriterLaws.{room-told, refuses, writes}
-use Rattle.writers.proofs.StructureLaws.{structured-size}
+use Rattle.stores.proofs.StructureLaws.{structured-size}
 use borrow.Author.Needs.{needs}
-use Rattle.writers.proofs.write_structure.Statement.{statement}
-use Rattle.writers.proofs.write_structure.Tie as tie
-use Rattle.writers.proofs.write_structure.Reads as reads
-use Rattle.writers.proofs.write_structure.Lts as lts
+use Rattle.stores.proofs.write_structure.Statement.{statement}
+use Rattle.stores.proofs.write_structure.Tie as tie
+use Rattle.stores.proofs.write_structure.Reads as reads
+use Rattle.stores.proofs.write_structure.Lts as lts
 use Rattle.stores.proofs.admitted.Reads as admitted-reads
-use Rattle.writers.proofs.put_structure.Reads as put-structure-reads
+use Rattle.stores.proofs.put_structure.Reads as put-structure-reads
 
 -- Where the next place was answered: what `admitted` said, and what that tells.
 abbrev start : tie.After-next → tie.Start

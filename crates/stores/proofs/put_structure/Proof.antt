@@ -6,14 +6,14 @@ use Prim.Native.Nat.{ℕ}
 use lib.ListN.{length}
 use lib.Seq.{sets}
 use Rattle.note.specs.Words.{words}
-use Rattle.writers.proofs.StructureLaws.{structured-stored}
+use Rattle.stores.proofs.StructureLaws.{structured-stored}
 use borrow.Author.Needs.{needs}
-use Rattle.writers.proofs.put_structure.Statement.{statement}
-use Rattle.writers.proofs.put_structure.Tie as tie
-use Rattle.writers.proofs.put_structure.Reads as reads
-use Rattle.writers.proofs.put_structure.Lts as lts
+use Rattle.stores.proofs.put_structure.Statement.{statement}
+use Rattle.stores.proofs.put_structure.Tie as tie
+use Rattle.stores.proofs.put_structure.Reads as reads
+use Rattle.stores.proofs.put_structure.Lts as lts
 use Rattle.stores.proofs.put_part.Reads as put-part-reads
 use Rattle.stores.proofs.put_words.Reads as put-words-reads
 
 mul-words : tie.Need-mul-words
 mul-words c = search needs

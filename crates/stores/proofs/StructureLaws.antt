@@ -9,8 +9,8 @@ use lib.Seq.{sets}
 use Rattle.theory.specs.Words.{bytes, put, puts}
 use Rattle.theory.proofs.WordLaws.{length-puts}
 use Rattle.note.specs.Words.{order, words}
-use Rattle.stores.proofs.StoreLaws.{stored-next}
-use Rattle.writers.specs.Structures.{structured}
+use Rattle.stores.proofs.StoreLaws.{in-a-row}
+use Rattle.stores.specs.Structures.{structured}
 
 module _ (kind : ℕ) (ws rest : List ℕ) where
   body-size : length (words ws ++ rest) ≡ 4 * length ws + length rest
@@ -25,7 +25,7 @@ module _ (kind : ℕ) (ws rest : List ℕ) where
   unfolding structured puts put bytes
   structured-stored l n e =
       let head : List ℕ = words (kind ∷ n ∷ []) in
-      let size : 0 + length (head ++ words ws) ≡ 8 + 4 * length ws = omega (arith, length-append head (words ws), length-puts order 4 ws) in
-      ap (λ (m : List ℕ). sets m (8 + 4 * length ws) rest) (stored-next l 0 8 head (words ws) refl)
-      ∙ stored-next l 0 (8 + 4 * length ws) (head ++ words ws) rest size
+      let size : 4 * length ws ≡ length (words ws) = omega (arith, length-puts order 4 ws) in
+      ap (λ (k : ℕ). sets (sets (sets l 0 head) 8 (words ws)) (8 + k) rest) size
+      ∙ in-a-row l 0 (head ∷ words ws ∷ rest ∷ [])
       ∙ ap (λ (k : ℕ). sets l 0 (put order 4 kind ++ (put order 4 k ++ (words ws ++ rest)))) (e ∙ sym body-size)

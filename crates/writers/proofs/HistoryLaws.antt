@@ -1,0 +1,91 @@
+-- A history's parts: their sizes, and the stores of a section and of the two sections behind kind and length.
+-- The idea: words and parts stand in a row; of fields without a fault only the veto's masks can be long.
+use Prim.Native.Nat.{ℕ, zero, suc, _+_, _*_, _/_, _%_, _≤_, _<_}
+use mathlib.Core.Path.{_≡_, refl, sym, ap, _∙_}
+use mathlib.Core.Bool.{Bool, true, false}
+use mathlib.Core.List.{List, [], _∷_, _++_}
+use native.Mathlib.Nat.{zero-mul}
+use native.Mathlib.Omega.{arith}
+use borrow.Author.Tests.{eq-eqb, ne-eqb, eqb-true, eqb-false}
+use lib.Dec.{eqb, eqb·suc-zero}
+use lib.ListN.{length, length-append}
+use lib.Seq.{sets}
+use Rattle.theory.specs.Words.{bytes, put, puts}
+use Rattle.theory.specs.Tests.{first}
+use Rattle.theory.proofs.TestLaws.{first-at, holds-at, equal-passed, most-passed}
+use Rattle.note.specs.Words.{words, greatestSigned}
+use Rattle.note.specs.History.{Section, History, isWidth, sectionBytes, sectionFault, historyBytes, historyFault}
+use Rattle.note.specs.Writers.{historyWritten}
+use Rattle.stores.proofs.StoreLaws.{in-a-row}
+
+-- ---- a part of so many words
+
+pub filled : (size n : ℕ) → size % 4 ≡ 0 → eqb (size / 4) n ≡ eqb size (4 * n)
+filled size n h = go (eqb (size / 4) n) refl
+  where
+    go : (b : Bool) → eqb (size / 4) n ≡ b → b ≡ eqb size (4 * n)
+    go true e = let q : size / 4 ≡ n = eqb-true (size / 4) n e in sym (eq-eqb size (4 * n) (omega arith))
+    go false e = sym (ne-eqb size (4 * n) (λ q. eqb-false (size / 4) n e (omega arith)))
+
+pub not-filled : (size n : ℕ) → (size % 4 ≡ 0 → ⊥) → false ≡ eqb size (4 * n)
+not-filled size n h = sym (ne-eqb size (4 * n) (λ q. h (omega arith)))
+
+-- ---- a section
+
+pub section-size : (s : Section) → length (sectionBytes s) ≡ 8 + (length (s .times) + length (s .masks))
+unfolding sectionBytes puts put bytes
+section-size s = simp length-append (omega arith)
+
+pub section-stored : (l : List ℕ) (at : ℕ) (s : Section)
+    → sets (sets (sets (sets l at (words (s .count ∷ []))) (at + 4) (s .times)) (at + 4 + length (s .times)) (words (s .width ∷ []))) (at + 4 + length (s .times) + 4) (s .masks) ≡ sets l at (sectionBytes s)
+unfolding sectionBytes puts put bytes
+section-stored l at s = in-a-row l at (words (s .count ∷ []) ∷ s .times ∷ words (s .width ∷ []) ∷ s .masks ∷ [])
+
+-- Without a fault, the times and the trigger's masks are few.
+few-times : (trigger : Bool) (s : Section) → sectionFault trigger s ≡ 0 → length (s .times) ≤ 4 * greatestSigned
+unfolding sectionFault
+few-times trigger s e =
+    let n : s .count ≤ greatestSigned = most-passed (s .count) greatestSigned 9 (first-at _ e 0) in
+    omega (arith, equal-passed (length (s .times)) (4 * s .count) 5 (first-at _ e 1))
+
+six-each : (n w : ℕ) → isWidth true n w ≡ true → n * w ≡ n * 6
+unfolding isWidth
+six-each zero w e = omega (arith, zero-mul w)
+six-each (suc n) w e = ap (λ (k : ℕ). suc n * k) (eqb-true w 6 (rw (eqb·suc-zero n) at e))
+
+few-masks : (s : Section) → sectionFault true s ≡ 0 → length (s .masks) ≤ 24 * greatestSigned
+unfolding sectionFault
+few-masks s e =
+    let n : s .count ≤ greatestSigned = most-passed (s .count) greatestSigned 9 (first-at _ e 0) in
+    let w : s .count * s .width ≡ s .count * 6 = six-each (s .count) (s .width) (holds-at _ e 3 (isWidth true (s .count) (s .width)) 9 refl) in
+    omega (arith, equal-passed (length (s .masks)) (4 * (s .count * s .width)) 5 (first-at _ e 4))
+
+-- ---- both
+
+module _ (h : History) where
+  abbrev pub partsSize : ℕ
+  partsSize = (length (h .veto .times) + length (h .veto .masks)) + (length (h .trigger .times) + length (h .trigger .masks))
+
+  pub history-size : length (historyWritten h .bytes) ≡ 24 + partsSize
+  unfolding historyWritten historyBytes put bytes
+  history-size = omega (arith, length-append (sectionBytes (h .veto)) (sectionBytes (h .trigger)), section-size (h .veto), section-size (h .trigger))
+
+  -- The masks of a veto section are a slice, so the sum is a machine number.
+  pub size-fits : historyFault h ≡ 0 → length (h .veto .masks) < 0x8000000000000000 → 24 + partsSize < 0x10000000000000000
+  unfolding historyFault
+  size-fits e l =
+      let veto = first-at _ e 0 in
+      let trigger = first-at _ e 1 in
+      omega (arith, few-times false (h .veto) veto, few-times true (h .trigger) trigger, few-masks (h .trigger) trigger)
+
+  pub history-stored : (l : List ℕ) (n : ℕ) → n ≡ (8 + (length (h .veto .times) + length (h .veto .masks))) + (8 + (length (h .trigger .times) + length (h .trigger .masks)))
+      → sets (sets (sets l 0 (words (0x21 ∷ n ∷ []))) 8 (sectionBytes (h .veto))) (8 + (8 + (length (h .veto .times) + length (h .veto .masks)))) (sectionBytes (h .trigger)) ≡ sets l 0 (historyWritten h .bytes)
+  unfolding historyWritten historyBytes puts put bytes
+  history-stored l n e =
+      let head : List ℕ = words (0x21 ∷ n ∷ []) in
+      let veto : List ℕ = sectionBytes (h .veto) in
+      let trigger : List ℕ = sectionBytes (h .trigger) in
+      let size : n ≡ length (veto ++ trigger) = omega (arith, length-append veto trigger, section-size (h .veto), section-size (h .trigger)) in
+      ap (λ (k : ℕ). sets (sets (sets l 0 head) 8 veto) (8 + k) trigger) (sym (section-size (h .veto)))
+      ∙ in-a-row l 0 (head ∷ veto ∷ trigger ∷ [])
+      ∙ ap (λ (k : ℕ). sets l 0 (words (0x21 ∷ k ∷ []) ++ (veto ++ trigger))) size

@@ -1,0 +1,83 @@
+-- `writers::put_history` meets its contract: kind and length, the veto section and the trigger section are stored in a row.
+-- The idea: stores in a row are one store of the history's bytes.
+use Prim.Native.Nat.{ℕ, _+_}
+use mathlib.Core.Path.{_≡_, refl, ap, _∙_}
+use mathlib.Core.List.{List}
+use denote.Ref.{now}
+use lib.ListN.{length}
+use lib.Seq.{sets}
+use Rattle.note.specs.History.{History, sectionBytes}
+use Rattle.writers.proofs.HistoryLaws.{history-stored}
+use borrow.Author.Needs.{needs}
+use Rattle.writers.proofs.put_history.Statement.{statement}
+use Rattle.writers.proofs.put_history.Tie as tie
+use Rattle.writers.proofs.put_history.Reads as reads
+use Rattle.writers.proofs.put_history.Lts as lts
+use Rattle.stores.proofs.put_words.Reads as put-words-reads
+use Rattle.writers.proofs.put_section.Reads as put-section-reads
+
+add-veto : tie.Need-add-veto
+add-veto c = search needs
+
+add-veto-2 : tie.Need-add-veto-2
+add-veto-2 c = search needs
+
+add-trigger : tie.Need-add-trigger
+add-trigger c = search needs
+
+add-trigger-2 : tie.Need-add-trigger-2
+add-trigger-2 c = search needs
+
+add-t12 : tie.Need-add-t12
+add-t12 c = search needs
+
+cast-t19 : tie.Need-cast-t19
+cast-t19 c = search needs
+
+slice-aggregate-put-words : tie.Need-slice-aggregate-put-words
+slice-aggregate-put-words c = search needs
+
+put-words-requires : tie.Need-put-words-requires
+put-words-requires c κs = search needs
+
+put-section-requires : tie.Need-put-section-requires
+put-section-requires c κs = search needs
+
+add-put-section : tie.Need-add-put-section
+add-put-section c = search needs
+
+put-section-requires-2 : tie.Need-put-section-requires-2
+put-section-requires-2 c κs = search needs
+
+same-length : tie.Need-same-length
+same-length c = search needs
+
+returns : tie.Need-returns
+returns c =
+    let a = c .before .before .before .before .before .before .before .before .before .before .before .before .before .before .before .before .before .before .args in
+    let h : History = record {
+      veto = record { count = a .veto-count; times = now (a .veto-times); width = a .veto-width; masks = now (a .veto-masks) };
+      trigger = record { count = a .trigger-count; times = now (a .trigger-times); width = a .trigger-width; masks = now (a .trigger-masks) };
+    } in
+    c .before .before .put-section2 .ensures
+    ∙ ap (λ (l : List ℕ). sets l (8 + (8 + (length (h .veto .times) + length (h .veto .masks)))) (sectionBytes (h .trigger))) (c .before .before .before .before .before .before .put-section .ensures
+    ∙ ap (λ (l : List ℕ). sets l 8 (sectionBytes (h .veto))) (c .before .before .before .before .before .before .before .before .before .before .put-words .ensures))
+    ∙ history-stored h (now (a .part)) _ refl
+
+pub put-history-spec : {M : Type 1} → statement M
+put-history-spec =
+    tie.close
+    (tie.spec
+    add-veto
+    add-veto-2
+    add-trigger
+    add-trigger-2
+    add-t12
+    cast-t19
+    slice-aggregate-put-words
+    put-words-requires
+    put-section-requires
+    add-put-section
+    put-section-requires-2
+    same-length
+    returns)
