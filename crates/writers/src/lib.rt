@@ -49,40 +49,40 @@ pub fn write_phonon(
     code: i32,
     tower: i32,
     gain: i32,
-    qet: i32,
-    squid: i32,
+    qet_bias: i32,
+    squid_bias: i32,
     lockpoint: i32,
-    rtf: i32,
-    variable: i32,
-    delta: i32,
+    rtf_offset: i32,
+    variable_gain: i32,
+    delta_t: i32,
     t0: i32,
-    trace: i32,
+    trace_length: i32,
 ) -> WriterAnswer
     ensures answer { λ r. ⌜ givenWriter r ≡ writerGiven (recordWrote (now (out .entry)) place (phononWritten (record {
       code = code;
       tower = tower;
       gain = gain;
-      qetBias = qet;
-      squidBias = squid;
+      qetBias = «qet_bias»;
+      squidBias = «squid_bias»;
       lockpoint = lockpoint;
-      rtfOffset = rtf;
-      variableGain = variable;
-      deltaT = delta;
+      rtfOffset = «rtf_offset»;
+      variableGain = «variable_gain»;
+      deltaT = «delta_t»;
       t0 = t0;
-      traceLength = trace;
+      traceLength = «trace_length»;
     }))) ⌝ }
     ensures output { λ _. ⌜ now (out .exit) ≡ recordOutput (now (out .entry)) place (phononWritten (record {
       code = code;
       tower = tower;
       gain = gain;
-      qetBias = qet;
-      squidBias = squid;
+      qetBias = «qet_bias»;
+      squidBias = «squid_bias»;
       lockpoint = lockpoint;
-      rtfOffset = rtf;
-      variableGain = variable;
-      deltaT = delta;
+      rtfOffset = «rtf_offset»;
+      variableGain = «variable_gain»;
+      deltaT = «delta_t»;
       t0 = t0;
-      traceLength = trace;
+      traceLength = «trace_length»;
     })) ⌝ }
 {
     let word = from_signed(code);
@@ -95,14 +95,14 @@ pub fn write_phonon(
             word,
             from_signed(tower),
             from_signed(gain),
-            from_signed(qet),
-            from_signed(squid),
+            from_signed(qet_bias),
+            from_signed(squid_bias),
             from_signed(lockpoint),
-            from_signed(rtf),
-            from_signed(variable),
-            from_signed(delta),
+            from_signed(rtf_offset),
+            from_signed(variable_gain),
+            from_signed(delta_t),
             from_signed(t0),
-            from_signed(trace),
+            from_signed(trace_length),
         ],
         &[],
     )
@@ -116,30 +116,30 @@ pub fn write_charge(
     tower: i32,
     gain: i32,
     bias: i32,
-    rtf: i32,
-    delta: i32,
+    rtf_offset: i32,
+    delta_t: i32,
     t0: i32,
-    trace: i32,
+    trace_length: i32,
 ) -> WriterAnswer
     ensures answer { λ r. ⌜ givenWriter r ≡ writerGiven (recordWrote (now (out .entry)) place (chargeWritten (record {
       code = code;
       tower = tower;
       gain = gain;
       bias = bias;
-      rtfOffset = rtf;
-      deltaT = delta;
+      rtfOffset = «rtf_offset»;
+      deltaT = «delta_t»;
       t0 = t0;
-      traceLength = trace;
+      traceLength = «trace_length»;
     }))) ⌝ }
     ensures output { λ _. ⌜ now (out .exit) ≡ recordOutput (now (out .entry)) place (chargeWritten (record {
       code = code;
       tower = tower;
       gain = gain;
       bias = bias;
-      rtfOffset = rtf;
-      deltaT = delta;
+      rtfOffset = «rtf_offset»;
+      deltaT = «delta_t»;
       t0 = t0;
-      traceLength = trace;
+      traceLength = «trace_length»;
     })) ⌝ }
 {
     let word = from_signed(code);
@@ -153,10 +153,10 @@ pub fn write_charge(
             from_signed(tower),
             from_signed(gain),
             from_signed(bias),
-            from_signed(rtf),
-            from_signed(delta),
+            from_signed(rtf_offset),
+            from_signed(delta_t),
             from_signed(t0),
-            from_signed(trace),
+            from_signed(trace_length),
         ],
         &[],
     )
@@ -243,7 +243,7 @@ pub fn write_trace(
     channel: u32,
     code: u32,
     t0: i32,
-    delta: u32,
+    delta_t: u32,
     n: u32,
     samples: &[u8],
 ) -> WriterAnswer
@@ -252,7 +252,7 @@ pub fn write_trace(
       channel = channel;
       code = code;
       t0 = t0;
-      delta = delta;
+      delta = «delta_t»;
       n = n;
       samples = now (samples .entry);
     }))) ⌝ }
@@ -261,12 +261,12 @@ pub fn write_trace(
       channel = channel;
       code = code;
       t0 = t0;
-      delta = delta;
+      delta = «delta_t»;
       n = n;
       samples = now (samples .entry);
     })) ⌝ }
 {
-    let fault = trace_fault(channel, code, delta, n, samples.len());
+    let fault = trace_fault(channel, code, delta_t, n, samples.len());
     write_structure(
         out,
         place,
@@ -281,7 +281,7 @@ pub fn write_trace(
             0x12,
             12,
             from_signed(t0),
-            delta,
+            delta_t,
             n,
             0x13,
             n,

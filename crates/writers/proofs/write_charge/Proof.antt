@@ -64,10 +64,10 @@ returns c =
     let e1 = handed-on (s .args .tower) (s .fits .tower) (c .before .before .before .before .before .before .before .before .before .before .before .from-signed2 .ensures) in
     let e2 = handed-on (s .args .gain) (s .fits .gain) (c .before .before .before .before .before .before .before .before .before .before .from-signed3 .ensures) in
     let e3 = handed-on (s .args .bias) (s .fits .bias) (c .before .before .before .before .before .before .before .before .before .from-signed4 .ensures) in
-    let e4 = handed-on (s .args .rtf) (s .fits .rtf) (c .before .before .before .before .before .before .before .before .from-signed5 .ensures) in
-    let e5 = handed-on (s .args .delta) (s .fits .delta) (c .before .before .before .before .before .before .before .from-signed6 .ensures) in
+    let e4 = handed-on (s .args .rtf-offset) (s .fits .rtf-offset) (c .before .before .before .before .before .before .before .before .from-signed5 .ensures) in
+    let e5 = handed-on (s .args .delta-t) (s .fits .delta-t) (c .before .before .before .before .before .before .before .from-signed6 .ensures) in
     let e6 = handed-on (s .args .t0) (s .fits .t0) (c .before .before .before .before .before .before .from-signed7 .ensures) in
-    let e7 = handed-on (s .args .trace) (s .fits .trace) (c .before .before .before .before .before .from-signed8 .ensures) in
+    let e7 = handed-on (s .args .trace-length) (s .fits .trace-length) (c .before .before .before .before .before .from-signed8 .ensures) in
     bytes-unasked _ _ _ _ _ _ _ (c .before .before .before .before .before .before .before .before .before .before .before .before .charge-fault .ensures ∙ ap chargeFault e0)
     (λ z. λ i. structured 0x00010002 (e0 i ∷ e1 i ∷ e2 i ∷ e3 i ∷ e4 i ∷ e5 i ∷ e6 i ∷ e7 i ∷ []) [])
     (c .before .before .write-structure .ensures)

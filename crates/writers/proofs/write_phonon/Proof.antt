@@ -72,14 +72,14 @@ returns c =
     let e0 = handed-on (s .args .code) (s .fits .code) (c .before .before .before .before .before .before .before .before .before .before .before .before .before .before .before .before .before .from-signed .ensures) in
     let e1 = handed-on (s .args .tower) (s .fits .tower) (c .before .before .before .before .before .before .before .before .before .before .before .before .before .before .from-signed2 .ensures) in
     let e2 = handed-on (s .args .gain) (s .fits .gain) (c .before .before .before .before .before .before .before .before .before .before .before .before .before .from-signed3 .ensures) in
-    let e3 = handed-on (s .args .qet) (s .fits .qet) (c .before .before .before .before .before .before .before .before .before .before .before .before .from-signed4 .ensures) in
-    let e4 = handed-on (s .args .squid) (s .fits .squid) (c .before .before .before .before .before .before .before .before .before .before .before .from-signed5 .ensures) in
+    let e3 = handed-on (s .args .qet-bias) (s .fits .qet-bias) (c .before .before .before .before .before .before .before .before .before .before .before .before .from-signed4 .ensures) in
+    let e4 = handed-on (s .args .squid-bias) (s .fits .squid-bias) (c .before .before .before .before .before .before .before .before .before .before .before .from-signed5 .ensures) in
     let e5 = handed-on (s .args .lockpoint) (s .fits .lockpoint) (c .before .before .before .before .before .before .before .before .before .before .from-signed6 .ensures) in
-    let e6 = handed-on (s .args .rtf) (s .fits .rtf) (c .before .before .before .before .before .before .before .before .before .from-signed7 .ensures) in
-    let e7 = handed-on (s .args .variable) (s .fits .variable) (c .before .before .before .before .before .before .before .before .from-signed8 .ensures) in
-    let e8 = handed-on (s .args .delta) (s .fits .delta) (c .before .before .before .before .before .before .before .from-signed9 .ensures) in
+    let e6 = handed-on (s .args .rtf-offset) (s .fits .rtf-offset) (c .before .before .before .before .before .before .before .before .before .from-signed7 .ensures) in
+    let e7 = handed-on (s .args .variable-gain) (s .fits .variable-gain) (c .before .before .before .before .before .before .before .before .from-signed8 .ensures) in
+    let e8 = handed-on (s .args .delta-t) (s .fits .delta-t) (c .before .before .before .before .before .before .before .from-signed9 .ensures) in
     let e9 = handed-on (s .args .t0) (s .fits .t0) (c .before .before .before .before .before .before .from-signed10 .ensures) in
-    let e10 = handed-on (s .args .trace) (s .fits .trace) (c .before .before .before .before .before .from-signed11 .ensures) in
+    let e10 = handed-on (s .args .trace-length) (s .fits .trace-length) (c .before .before .before .before .before .from-signed11 .ensures) in
     bytes-unasked _ _ _ _ _ _ _ (c .before .before .before .before .before .before .before .before .before .before .before .before .before .before .before .phonon-fault .ensures ∙ ap phononFault e0)
     (λ z. λ i. structured 0x00010001 (e0 i ∷ e1 i ∷ e2 i ∷ e3 i ∷ e4 i ∷ e5 i ∷ e6 i ∷ e7 i ∷ e8 i ∷ e9 i ∷ e10 i ∷ []) [])
     (c .before .before .write-structure .ensures)

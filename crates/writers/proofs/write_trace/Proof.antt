@@ -39,7 +39,7 @@ returns c =
     let a = s .args in
     let t0 = handed-on (a .t0) (s .fits .t0) (c .before .before .before .before .from-signed .ensures) in
     bytes-unasked _ _ _ _ _ _ _ (c .before .before .before .before .before .before .trace-fault .ensures)
-    (λ z. λ i. structured 0x11 (0x11 ∷ 12 ∷ a .address ∷ a .channel ∷ a .code ∷ 0x12 ∷ 12 ∷ t0 i ∷ a .delta ∷ a .n ∷ 0x13 ∷ a .n ∷ []) (now (a .samples)))
+    (λ z. λ i. structured 0x11 (0x11 ∷ 12 ∷ a .address ∷ a .channel ∷ a .code ∷ 0x12 ∷ 12 ∷ t0 i ∷ a .delta-t ∷ a .n ∷ 0x13 ∷ a .n ∷ []) (now (a .samples)))
     (c .before .before .write-structure .ensures)
 
 pub write-trace-spec : {M : Type 1} → statement M
