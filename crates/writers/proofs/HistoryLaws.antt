@@ -1,34 +1,21 @@
 -- A history's parts: their sizes, and the stores of a section and of the two sections behind kind and length.
 -- The idea: words and parts stand in a row; of fields without a fault only the veto's masks can be long.
-use Prim.Native.Nat.{ℕ, zero, suc, _+_, _*_, _/_, _%_, _≤_, _<_}
+use Prim.Native.Nat.{ℕ, zero, suc, _+_, _*_, _≤_, _<_}
 use mathlib.Core.Path.{_≡_, refl, sym, ap, _∙_}
 use mathlib.Core.Bool.{Bool, true, false}
 use mathlib.Core.List.{List, [], _∷_, _++_}
 use native.Mathlib.Nat.{zero-mul}
 use native.Mathlib.Omega.{arith}
-use borrow.Author.Tests.{eq-eqb, ne-eqb, eqb-true, eqb-false}
-use lib.Dec.{eqb, eqb·suc-zero}
+use borrow.Author.Tests.{eqb-true}
+use lib.Dec.{eqb·suc-zero}
 use lib.ListN.{length, length-append}
 use lib.Seq.{sets}
 use Rattle.theory.specs.Words.{bytes, put, puts}
-use Rattle.theory.specs.Tests.{first}
 use Rattle.theory.proofs.TestLaws.{first-at, holds-at, equal-passed, most-passed}
 use Rattle.note.specs.Words.{words, greatestSigned}
 use Rattle.note.specs.History.{Section, History, isWidth, sectionBytes, sectionFault, historyBytes, historyFault}
 use Rattle.note.specs.Writers.{historyWritten}
 use Rattle.stores.proofs.StoreLaws.{in-a-row}
-
--- ---- a part of so many words
-
-pub filled : (size n : ℕ) → size % 4 ≡ 0 → eqb (size / 4) n ≡ eqb size (4 * n)
-filled size n h = go (eqb (size / 4) n) refl
-  where
-    go : (b : Bool) → eqb (size / 4) n ≡ b → b ≡ eqb size (4 * n)
-    go true e = let q : size / 4 ≡ n = eqb-true (size / 4) n e in sym (eq-eqb size (4 * n) (omega arith))
-    go false e = sym (ne-eqb size (4 * n) (λ q. eqb-false (size / 4) n e (omega arith)))
-
-pub not-filled : (size n : ℕ) → (size % 4 ≡ 0 → ⊥) → false ≡ eqb size (4 * n)
-not-filled size n h = sym (ne-eqb size (4 * n) (λ q. h (omega arith)))
 
 -- ---- a section
 

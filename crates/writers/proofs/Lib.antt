@@ -1,3 +1,2 @@
-pub mod FaultLaws
 pub mod SignedLaws
 pub mod HistoryLaws

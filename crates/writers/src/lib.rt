@@ -1,11 +1,10 @@
 // The eight record and entry writers. Each hands its fields' fault, its kind word and its body to `write_structure`, which is admitted or
 // refused before the first store.
-use channels::is_named;
+use faults::history_fault;
+use faults::trace_fault;
 use fields::administrative_fault;
-use fields::count_fault;
 use fields::from_signed;
 use fields::gps_fault;
-use fields::is_width;
 use fields::tlb_fault;
 use note::WriterAnswer;
 use rules::ADMINISTRATIVE;
@@ -23,21 +22,13 @@ use stores::put_part;
 use stores::put_words;
 use stores::write_structure;
 ghost use mathlib.Core.Path.{_≡_};
-ghost use mathlib.Core.Bool.{_&&_};
-ghost use mathlib.Core.List.{[], _∷_};
 ghost use Prim.Native.Nat.{_+_, _*_, _%_, _≤_, _<_};
-ghost use lib.Dec.{leb, eqb};
 ghost use lib.ListN.{length};
 ghost use lib.Seq.{sets};
-ghost use Rattle.theory.specs.Tests.{unless, first};
 ghost use Rattle.note.specs.Answers.{givenWriter};
 ghost use Rattle.note.specs.Gps.{bcd};
-ghost use Rattle.note.specs.History.{sectionBytes, sectionFault};
-ghost use Rattle.note.specs.Trace.{channelFault, codeFault, deltaFault, countFault};
+ghost use Rattle.note.specs.History.{sectionBytes};
 ghost use Rattle.note.specs.Writers.{writerGiven, recordWrote, recordOutput, phononWritten, chargeWritten, administrativeWritten, traceWritten, historyWritten, gpsWritten, triggerWritten, tlbWritten};
-
-// "Signed and not negative": a word up to this.
-const GREATEST_SIGNED: u32 = 0x7FFF_FFFF;
 
 // ---- entries
 
@@ -204,37 +195,6 @@ pub fn write_administrative(
 
 // ---- trace
 
-// The fault of a test: none where it holds.
-fn unless(holds: bool, fault: u32) -> u32
-    ensures { λ r. ⌜ r ≡ unless holds fault ⌝ }
-{
-    if holds { 0 } else { fault }
-}
-
-// The first of two faults.
-fn earlier(one: u32, two: u32) -> u32
-    ensures { λ r. ⌜ r ≡ first (one ∷ two ∷ []) ⌝ }
-{
-    if one != 0 { one } else { two }
-}
-
-// Whether a digitizer has this channel.
-fn is_channel(channel: u32) -> bool
-    ensures { λ r. ⌜ r ≡ (leb 1 channel && leb channel 8) ⌝ }
-{
-    1 <= channel && channel <= 8
-}
-
-// The first fault of a trace's fields, in word order; last its part of samples, which has two bytes for each.
-fn trace_fault(channel: u32, code: u32, delta: u32, n: u32, samples: usize) -> u32
-    ensures { λ r. ⌜ r ≡ first (channelFault channel ∷ codeFault code ∷ deltaFault delta ∷ countFault n ∷ unless (eqb samples (2 * n)) 6 ∷ []) ⌝ }
-{
-    let wired = earlier(unless(is_channel(channel), 10), unless(is_named(code), 10));
-    let timed = earlier(wired, unless(1 <= delta, 10));
-    let counted = earlier(timed, count_fault(n));
-    earlier(counted, unless(samples == 2 * n as usize, 6))
-}
-
 /// Writes a trace: base address, digitizer channel, detector code, t0, delta t, n, and the part of bytes that holds its n samples.
 pub fn write_trace(
     out: &mut [u8],
@@ -291,30 +251,6 @@ pub fn write_trace(
 }
 
 // ---- history
-
-// Whether a part's size is that of so many words.
-fn is_filled(size: usize, words: usize) -> bool
-    ensures { λ r. ⌜ r ≡ eqb size (4 * words) ⌝ }
-{
-    size % 4 == 0 && size / 4 == words
-}
-
-// The first fault of a history section's fields, in word order.
-fn section_fault(trigger: bool, count: u32, times: &[u8], width: u32, masks: &[u8]) -> u32
-    ensures { λ r. ⌜ r ≡ sectionFault trigger (record {
-      count = count;
-      times = now (times .entry);
-      width = width;
-      masks = now (masks .entry);
-    }) ⌝ }
-{
-    let filled = is_filled(times.len(), count as usize);
-    let timed = earlier(unless(count <= GREATEST_SIGNED, 10), unless(filled, 6));
-    let signed = earlier(timed, unless(width <= GREATEST_SIGNED, 10));
-    let wide = earlier(signed, unless(is_width(trigger, count, width), 10));
-    let masked = is_filled(masks.len(), count as usize * width as usize);
-    earlier(wide, unless(masked, 6))
-}
 
 // A history's size, from the sizes of its parts: asked only where its fields have no fault.
 fn history_size(fault: u32, a: usize, b: usize, c: usize, d: usize) -> usize
@@ -428,15 +364,16 @@ pub fn write_history(
       };
     })) ⌝ }
 {
-    let veto = section_fault(false, veto_count, veto_times, veto_width, veto_masks);
-    let trigger = section_fault(
-        true,
+    let fault = history_fault(
+        veto_count,
+        veto_times,
+        veto_width,
+        veto_masks,
         trigger_count,
         trigger_times,
         trigger_width,
         trigger_masks,
     );
-    let fault = earlier(veto, trigger);
     let size = history_size(
         fault,
         veto_times.len(),

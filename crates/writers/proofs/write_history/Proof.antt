@@ -8,7 +8,7 @@ use denote.Ref.{now}
 use lib.ListN.{length}
 use Rattle.note.specs.Limits.{fileLimit}
 use Rattle.note.specs.Answers.{givenWriter, accepted, counts}
-use Rattle.note.specs.History.{History, historyFault}
+use Rattle.note.specs.History.{History}
 use Rattle.note.specs.Writers.{writerGiven, wrote, historyWritten}
 use Rattle.stores.proofs.WriterLaws.{room-told, refuses, writes}
 use Rattle.writers.proofs.HistoryLaws.{partsSize, history-size, size-fits}
@@ -17,31 +17,26 @@ use Rattle.writers.proofs.write_history.Statement.{statement}
 use Rattle.writers.proofs.write_history.Tie as tie
 use Rattle.writers.proofs.write_history.Reads as reads
 use Rattle.writers.proofs.write_history.Lts as lts
+use Rattle.faults.proofs.history_fault.Reads as history-fault-reads
 use Rattle.stores.proofs.admitted.Reads as admitted-reads
-use Rattle.writers.proofs.earlier.Reads as earlier-reads
 use Rattle.writers.proofs.history_size.Reads as history-size-reads
 use Rattle.writers.proofs.put_history.Reads as put-history-reads
-use Rattle.writers.proofs.section_fault.Reads as section-fault-reads
 
--- The fields handed over; their fault and their size as the code has them.
+-- The fields handed over, and their size as the code has it.
 abbrev fields : tie.Start → History
 fields s = record {
   veto = record { count = s .args .veto-count; times = now (s .args .veto-times); width = s .args .veto-width; masks = now (s .args .veto-masks) };
   trigger = record { count = s .args .trigger-count; times = now (s .args .trigger-times); width = s .args .trigger-width; masks = now (s .args .trigger-masks) };
 }
 
-fault-is : (c : tie.After-earlier) → c .earlier .result ≡ historyFault (fields (c .before .before .before .before .before .before .before .before))
-unfolding historyFault
-fault-is c = rw (c .earlier .ensures, c .before .section-fault2 .ensures, c .before .before .section-fault .ensures)
-
-size-is : (c : tie.After-history-size) → c .before .earlier .result ≡ 0 → length (historyWritten (fields (c .before .before .before .before .before .before .before .before .before)) .bytes) ≡ c .history-size .result
-size-is c z = history-size (fields (c .before .before .before .before .before .before .before .before .before)) ∙ sym (c .history-size .ensures z)
+size-is : (c : tie.After-history-size) → c .before .history-fault .result ≡ 0 → length (historyWritten (fields (c .before .before .before .before .before .before .before)) .bytes) ≡ c .history-size .result
+size-is c z = history-size (fields (c .before .before .before .before .before .before .before)) ∙ sym (c .history-size .ensures z)
 
 -- Where the next place was answered: what `admitted` said, and what that tells.
 abbrev start : tie.After-next → tie.Start
-start c = c .before .before .before .before .before .before .before .before .before .before .before .before
+start c = c .before .before .before .before .before .before .before .before .before .before
 
-said : (c : tie.After-next) → accepted (counts (c .next .given .0 .0 ∷ [])) ≡ writerGiven (wrote (length (now (start c .args .out))) (start c .args .place) (c .before .before .before .before .earlier .result) (c .before .before .before .history-size .result))
+said : (c : tie.After-next) → accepted (counts (c .next .given .0 .0 ∷ [])) ≡ writerGiven (wrote (length (now (start c .args .out))) (start c .args .place) (c .before .before .before .before .history-fault .result) (c .before .before .before .history-size .result))
 unfolding givenWriter
 said c = ap givenWriter (sym (c .next .given .1)) ∙ c .before .before .admitted .ensures
 
@@ -50,20 +45,14 @@ told c =
     let h = room-told _ _ _ _ _ (said c) in
     (h .0, omega (arith, h .2, c .before .before .before .history-size .ensures (h .1)))
 
-section-fault-requires : tie.Need-section-fault-requires
-section-fault-requires c κs = search needs
-
-section-fault-requires-2 : tie.Need-section-fault-requires-2
-section-fault-requires-2 c κs = search needs
-
-earlier-requires : tie.Need-earlier-requires
-earlier-requires c κs = search needs
+history-fault-requires : tie.Need-history-fault-requires
+history-fault-requires c κs = search needs
 
 history-size-requires : tie.Need-history-size-requires
 history-size-requires c κs =
-    let s = c .before .before .before .before .before .before .before .before in
+    let s = c .before .before .before .before .before .before in
     let l : length (now (s .args .veto-masks)) < 0x8000000000000000 = search needs in
-    λ z. size-fits (fields s) (sym (fault-is c) ∙ z) l
+    λ z. size-fits (fields s) (sym (c .history-fault .ensures) ∙ z) l
 
 admitted-requires : tie.Need-admitted-requires
 admitted-requires c κs = search needs
@@ -88,22 +77,20 @@ put-history-requires c κs = (omega (arith, told (c .before .before) .1, c .put-
 
 returns : tie.Need-returns
 unfolding givenWriter historyWritten
-returns c = refuses _ _ (historyWritten (fields (c .before .before .before .before .before .before .before .before .before .before .before .before .before))) _ _ (fault-is (c .before .before .before .before .before)) (size-is (c .before .before .before .before)) _ _ (ap givenWriter (sym (c .before .number .given .1)) ∙ c .before .before .before .admitted .ensures)
+returns c = refuses _ _ (historyWritten (fields (c .before .before .before .before .before .before .before .before .before .before .before))) _ _ (c .before .before .before .before .before .history-fault .ensures) (size-is (c .before .before .before .before)) _ _ (ap givenWriter (sym (c .before .number .given .1)) ∙ c .before .before .before .admitted .ensures)
 
 same-length : tie.Need-same-length
 same-length c = search needs
 
 returns-2 : tie.Need-returns-2
 unfolding givenWriter historyWritten
-returns-2 c = writes _ _ (historyWritten (fields (c .before .before .before .before .before .before .before .before .before .before .before .before .before .before .before .before .before))) _ _ (fault-is (c .before .before .before .before .before .before .before .before .before)) (size-is (c .before .before .before .before .before .before .before .before)) _ (said (c .before .before .before .before .before)) _ (c .before .before .put-history .ensures)
+returns-2 c = writes _ _ (historyWritten (fields (c .before .before .before .before .before .before .before .before .before .before .before .before .before .before .before))) _ _ (c .before .before .before .before .before .before .before .before .before .history-fault .ensures) (size-is (c .before .before .before .before .before .before .before .before)) _ (said (c .before .before .before .before .before)) _ (c .before .before .put-history .ensures)
 
 pub write-history-spec : {M : Type 1} → statement M
 write-history-spec =
     tie.close
     (tie.spec
-    section-fault-requires
-    section-fault-requires-2
-    earlier-requires
+    history-fault-requires
     history-size-requires
     admitted-requires
     enum-known-number

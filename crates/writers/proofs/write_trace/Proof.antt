@@ -14,7 +14,7 @@ use Rattle.writers.proofs.write_trace.Tie as tie
 use Rattle.writers.proofs.write_trace.Reads as reads
 use Rattle.writers.proofs.write_trace.Lts as lts
 use Rattle.fields.proofs.from_signed.Reads as from-signed-reads
-use Rattle.writers.proofs.trace_fault.Reads as trace-fault-reads
+use Rattle.faults.proofs.trace_fault.Reads as trace-fault-reads
 use Rattle.stores.proofs.write_structure.Reads as write-structure-reads
 
 trace-fault-requires : tie.Need-trace-fault-requires

@@ -1,16 +1,16 @@
--- `writers::trace_fault` meets its contract: its tests in order, each asked after the first fault of those before it.
+-- `faults::trace_fault` meets its contract: its tests in order, each asked after the first fault of those before it.
 -- The idea: one more at a time they are the definition's list.
-use Rattle.writers.proofs.FaultLaws.{one-more}
+use Rattle.faults.proofs.FaultLaws.{one-more}
 use borrow.Author.Needs.{needs}
-use Rattle.writers.proofs.trace_fault.Statement.{statement}
-use Rattle.writers.proofs.trace_fault.Tie as tie
-use Rattle.writers.proofs.trace_fault.Reads as reads
-use Rattle.writers.proofs.trace_fault.Lts as lts
+use Rattle.faults.proofs.trace_fault.Statement.{statement}
+use Rattle.faults.proofs.trace_fault.Tie as tie
+use Rattle.faults.proofs.trace_fault.Reads as reads
+use Rattle.faults.proofs.trace_fault.Lts as lts
 use Rattle.channels.proofs.is_named.Reads as is-named-reads
 use Rattle.fields.proofs.count_fault.Reads as count-fault-reads
-use Rattle.writers.proofs.earlier.Reads as earlier-reads
-use Rattle.writers.proofs.is_channel.Reads as is-channel-reads
-use Rattle.writers.proofs.unless.Reads as unless-reads
+use Rattle.faults.proofs.earlier.Reads as earlier-reads
+use Rattle.faults.proofs.is_channel.Reads as is-channel-reads
+use Rattle.faults.proofs.unless.Reads as unless-reads
 
 is-channel-requires : tie.Need-is-channel-requires
 is-channel-requires c κs = search needs

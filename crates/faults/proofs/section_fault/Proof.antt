@@ -1,19 +1,19 @@
--- `writers::section_fault` meets its contract: its tests in order, each asked after the first fault of those before it.
+-- `faults::section_fault` meets its contract: its tests in order, each asked after the first fault of those before it.
 -- The idea: one more at a time they are the definition's list; two words' product fits a machine number.
 use Prim.Native.Nat.{_*_, _≤_}
 use native.Mathlib.Nat.{mul-le-mul}
 use native.Mathlib.Omega.{arith}
 use Rattle.note.specs.History.{sectionFault}
-use Rattle.writers.proofs.FaultLaws.{one-more}
+use Rattle.faults.proofs.FaultLaws.{one-more}
 use borrow.Author.Needs.{needs}
-use Rattle.writers.proofs.section_fault.Statement.{statement}
-use Rattle.writers.proofs.section_fault.Tie as tie
-use Rattle.writers.proofs.section_fault.Reads as reads
-use Rattle.writers.proofs.section_fault.Lts as lts
+use Rattle.faults.proofs.section_fault.Statement.{statement}
+use Rattle.faults.proofs.section_fault.Tie as tie
+use Rattle.faults.proofs.section_fault.Reads as reads
+use Rattle.faults.proofs.section_fault.Lts as lts
 use Rattle.fields.proofs.is_width.Reads as is-width-reads
-use Rattle.writers.proofs.earlier.Reads as earlier-reads
-use Rattle.writers.proofs.is_filled.Reads as is-filled-reads
-use Rattle.writers.proofs.unless.Reads as unless-reads
+use Rattle.faults.proofs.earlier.Reads as earlier-reads
+use Rattle.faults.proofs.is_filled.Reads as is-filled-reads
+use Rattle.faults.proofs.unless.Reads as unless-reads
 
 is-filled-requires : tie.Need-is-filled-requires
 is-filled-requires c κs = search needs
