@@ -1,5 +1,5 @@
-// The eight record and entry writers. Each hands its fields' fault, its kind word and its body to `write_structure`, which is admitted or
-// refused before the first store.
+// The eight record and entry writers. Each hands its fields' fault, its kind word, its body's words and the bytes behind them to
+// `write_structure`; a history, which has several parts, is stored by `put_history`. All is known before the first store.
 use faults::history_fault;
 use faults::trace_fault;
 use fields::administrative_fault;

@@ -61,7 +61,19 @@ earlier-requires-4 c κs = search needs
 
 returns : tie.Need-returns
 unfolding sectionFault
-returns c = rw (c .earlier4 .ensures, c .before .unless5 .ensures, c .before .before .is-filled2 .ensures, c .before .before .before .earlier3 .ensures, c .before .before .before .before .unless4 .ensures, c .before .before .before .before .before .is-width .ensures, c .before .before .before .before .before .before .earlier2 .ensures, c .before .before .before .before .before .before .before .unless3 .ensures, c .before .before .before .before .before .before .before .before .earlier .ensures, c .before .before .before .before .before .before .before .before .before .unless2 .ensures, c .before .before .before .before .before .before .before .before .before .before .unless .ensures, c .before .before .before .before .before .before .before .before .before .before .before .is-filled .ensures) (simp one-more)
+returns c =
+    let at1 = c .before in
+    let at2 = at1 .before in
+    let at3 = at2 .before in
+    let at4 = at3 .before in
+    let at5 = at4 .before in
+    let at6 = at5 .before in
+    let at7 = at6 .before in
+    let at8 = at7 .before in
+    let at9 = at8 .before in
+    let at10 = at9 .before in
+    let at11 = at10 .before in
+    rw (c .earlier4 .ensures, at1 .unless5 .ensures, at2 .is-filled2 .ensures, at3 .earlier3 .ensures, at4 .unless4 .ensures, at5 .is-width .ensures, at6 .earlier2 .ensures, at7 .unless3 .ensures, at8 .earlier .ensures, at9 .unless2 .ensures, at10 .unless .ensures, at11 .is-filled .ensures) (simp one-more)
 
 pub section-fault-spec : {M : Type 1} → statement M
 section-fault-spec =

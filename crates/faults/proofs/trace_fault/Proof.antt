@@ -49,7 +49,18 @@ earlier-requires-4 : tie.Need-earlier-requires-4
 earlier-requires-4 c κs = search needs
 
 returns : tie.Need-returns
-returns c = rw (c .earlier4 .ensures, c .before .unless4 .ensures, c .before .before .earlier3 .ensures, c .before .before .before .count-fault .ensures, c .before .before .before .before .earlier2 .ensures, c .before .before .before .before .before .unless3 .ensures, c .before .before .before .before .before .before .earlier .ensures, c .before .before .before .before .before .before .before .unless2 .ensures, c .before .before .before .before .before .before .before .before .is-named .ensures, c .before .before .before .before .before .before .before .before .before .unless .ensures, c .before .before .before .before .before .before .before .before .before .before .is-channel .ensures) (simp one-more)
+returns c =
+    let at1 = c .before in
+    let at2 = at1 .before in
+    let at3 = at2 .before in
+    let at4 = at3 .before in
+    let at5 = at4 .before in
+    let at6 = at5 .before in
+    let at7 = at6 .before in
+    let at8 = at7 .before in
+    let at9 = at8 .before in
+    let at10 = at9 .before in
+    rw (c .earlier4 .ensures, at1 .unless4 .ensures, at2 .earlier3 .ensures, at3 .count-fault .ensures, at4 .earlier2 .ensures, at5 .unless3 .ensures, at6 .earlier .ensures, at7 .unless2 .ensures, at8 .is-named .ensures, at9 .unless .ensures, at10 .is-channel .ensures) (simp one-more)
 
 pub trace-fault-spec : {M : Type 1} → statement M
 trace-fault-spec =

@@ -1,7 +1,6 @@
 -- `stores::admitted` meets its contract: each return is a way through `wrote`.
 -- The idea: a law for each way, over the tests that led there.
 use native.Mathlib.Omega.{arith}
-use Rattle.note.specs.Answers.{givenWriter}
 use Rattle.stores.proofs.WriterLaws.{over, faulty, no-room, room}
 use borrow.Author.Needs.{needs}
 use Rattle.stores.proofs.admitted.Statement.{statement}
@@ -10,25 +9,21 @@ use Rattle.stores.proofs.admitted.Reads as reads
 use Rattle.stores.proofs.admitted.Lts as lts
 
 returns : tie.Need-returns
-unfolding givenWriter
 returns c =
     let a = c .before .args in
     over (a .room) (a .place) (a .fault) (a .size) (c .if1 .taken)
 
 returns-2 : tie.Need-returns-2
-unfolding givenWriter
 returns-2 c =
     let a = c .before .before .args in
     faulty (a .room) (a .place) (a .fault) (a .size) (c .before .if1 .left) (c .if2 .taken)
 
 returns-3 : tie.Need-returns-3
-unfolding givenWriter
 returns-3 c =
     let a = c .before .before .before .args in
     no-room (a .room) (a .place) (a .fault) (a .size) (c .before .before .if1 .left) (c .before .if2 .left) (omega arith)
 
 returns-4 : tie.Need-returns-4
-unfolding givenWriter
 returns-4 c =
     let a = c .before .before .before .before .args in
     no-room (a .room) (a .place) (a .fault) (a .size) (c .before .before .before .if1 .left) (c .before .before .if2 .left) (omega arith)
@@ -37,7 +32,6 @@ add-t6 : tie.Need-add-t6
 add-t6 c = search needs
 
 returns-5 : tie.Need-returns-5
-unfolding givenWriter
 returns-5 c =
     let a = c .before .before .before .before .args in
     room (a .room) (a .place) (a .fault) (a .size) (c .before .before .before .if1 .left) (c .before .before .if2 .left) (omega arith)

@@ -1,8 +1,9 @@
-use Prim.Native.Nat.{_+_, _*_}
+-- `stores::put_structure` meets its contract: kind and length, the words and the bytes are stored in a row.
+-- The idea: stores in a row are one store of the structure.
 use mathlib.Core.Path.{_≡_, refl, ap, _∙_}
 use mathlib.Core.List.{List}
 use denote.Ref.{now}
-use Prim.Native.Nat.{ℕ}
+use Prim.Native.Nat.{ℕ, _+_, _*_}
 use lib.ListN.{length}
 use lib.Seq.{sets}
 use Rattle.note.specs.Words.{words}

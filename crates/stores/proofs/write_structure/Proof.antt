@@ -1,14 +1,7 @@
 -- `stores::write_structure` meets its contract: a refusal of `admitted` is its own, and the next place tells that there is room.
 -- The idea: what is stored into the lent rest of the output is the structure, and the laws of writers say the rest.
-use Prim.Native.Nat.{_+_, _*_, _≤_}
-use mathlib.Core.Path.{_≡_, refl, sym, ap, _∙_}
-use mathlib.Core.List.{[], _∷_}
+use mathlib.Core.Path.{refl}
 use native.Mathlib.Omega.{arith}
-use denote.Ref.{now}
-use lib.ListN.{length}
-use Rattle.note.specs.Limits.{fileLimit}
-use Rattle.note.specs.Answers.{givenWriter, accepted, counts}
-use Rattle.note.specs.Writers.{writerGiven, wrote}
 use Rattle.stores.proofs.WriterLaws.{room-told, refuses, writes}
 use Rattle.stores.proofs.StructureLaws.{structured-size}
 use borrow.Author.Needs.{needs}
@@ -18,17 +11,6 @@ use Rattle.stores.proofs.write_structure.Reads as reads
 use Rattle.stores.proofs.write_structure.Lts as lts
 use Rattle.stores.proofs.admitted.Reads as admitted-reads
 use Rattle.stores.proofs.put_structure.Reads as put-structure-reads
-
--- Where the next place was answered: what `admitted` said, and what that tells.
-abbrev start : tie.After-next → tie.Start
-start c = c .before .before .before .before .before .before
-
-said : (c : tie.After-next) → accepted (counts (c .next .given .0 .0 ∷ [])) ≡ writerGiven (wrote (length (now (start c .args .out))) (start c .args .place) (start c .args .fault) (8 + (4 * length (now (start c .args .ws)) + length (now (start c .args .bytes)))))
-unfolding givenWriter
-said c = ap givenWriter (sym (c .next .given .1)) ∙ c .before .before .admitted .ensures
-
-told : (c : tie.After-next) → (length (now (start c .args .out)) ≤ fileLimit) × (start c .args .fault ≡ 0) × (start c .args .place + (8 + (4 * length (now (start c .args .ws)) + length (now (start c .args .bytes)))) ≤ length (now (start c .args .out)))
-told c = room-told _ _ _ _ _ (said c)
 
 mul-admitted : tie.Need-mul-admitted
 mul-admitted c = search needs
@@ -49,27 +31,25 @@ enum-known-next : tie.Need-enum-known-next
 enum-known-next c = search needs
 
 sub-put-structure : tie.Need-sub-put-structure
-sub-put-structure c = omega (arith, told (c .before) .2)
+sub-put-structure c = let told = room-told _ _ _ _ (c .before .next .given .1) (c .before .before .before .admitted .ensures) in omega (arith, told .2)
 
 part-put-structure-start : tie.Need-part-put-structure-start
-part-put-structure-start c = omega (arith, told (c .before) .2)
+part-put-structure-start c = let told = room-told _ _ _ _ (c .before .next .given .1) (c .before .before .before .admitted .ensures) in omega (arith, told .2)
 
 part-put-structure-end : tie.Need-part-put-structure-end
 part-put-structure-end c = search needs
 
 put-structure-requires : tie.Need-put-structure-requires
-put-structure-requires c κs = (omega (arith, told (c .before .before) .2, c .put-structure-arg .given), omega (arith, told (c .before .before) .0, c .put-structure-arg .given))
+put-structure-requires c κs = let told = room-told _ _ _ _ (c .before .before .next .given .1) (c .before .before .before .before .admitted .ensures) in (omega (arith, told .2, c .put-structure-arg .given), omega (arith, told .0, c .put-structure-arg .given))
 
 returns : tie.Need-returns
-unfolding givenWriter
-returns c = refuses _ _ _ _ _ refl (λ z. structured-size _ _ _) _ _ (ap givenWriter (sym (c .before .number .given .1)) ∙ c .before .before .before .admitted .ensures)
+returns c = refuses _ _ _ _ _ refl (λ z. structured-size _ _ _) _ (c .before .before .before .admitted .ensures) (c .before .number .given .1)
 
 same-length : tie.Need-same-length
 same-length c = search needs
 
 returns-2 : tie.Need-returns-2
-unfolding givenWriter
-returns-2 c = writes _ _ _ _ _ refl (λ z. structured-size _ _ _) _ (said (c .before .before .before .before .before)) _ (c .before .before .put-structure .ensures)
+returns-2 c = writes _ _ _ _ _ refl (λ z. structured-size _ _ _) _ (c .before .before .before .before .before .before .before .admitted .ensures) (c .before .before .before .before .before .next .given .1) _ (c .before .before .put-structure .ensures)
 
 pub write-structure-spec : {M : Type 1} → statement M
 write-structure-spec =

@@ -1,15 +1,13 @@
 -- `writers::write_history` meets its contract: fault and size are the history's, and `put_history` stores its bytes.
 -- The idea: the size is known where there is no fault, and no more is asked; the laws of writers say the rest.
 use Prim.Native.Nat.{_+_, _≤_, _<_}
-use mathlib.Core.Path.{_≡_, sym, ap, _∙_}
-use mathlib.Core.List.{[], _∷_}
+use mathlib.Core.Path.{_≡_, sym, _∙_}
 use native.Mathlib.Omega.{arith}
 use denote.Ref.{now}
 use lib.ListN.{length}
 use Rattle.note.specs.Limits.{fileLimit}
-use Rattle.note.specs.Answers.{givenWriter, accepted, counts}
 use Rattle.note.specs.History.{History}
-use Rattle.note.specs.Writers.{writerGiven, wrote, historyWritten}
+use Rattle.note.specs.Writers.{historyWritten}
 use Rattle.stores.proofs.WriterLaws.{room-told, refuses, writes}
 use Rattle.writers.proofs.HistoryLaws.{partsSize, history-size, size-fits}
 use borrow.Author.Needs.{needs}
@@ -32,17 +30,13 @@ fields s = record {
 size-is : (c : tie.After-history-size) → c .before .history-fault .result ≡ 0 → length (historyWritten (fields (c .before .before .before .before .before .before .before)) .bytes) ≡ c .history-size .result
 size-is c z = history-size (fields (c .before .before .before .before .before .before .before)) ∙ sym (c .history-size .ensures z)
 
--- Where the next place was answered: what `admitted` said, and what that tells.
 abbrev start : tie.After-next → tie.Start
 start c = c .before .before .before .before .before .before .before .before .before .before
 
-said : (c : tie.After-next) → accepted (counts (c .next .given .0 .0 ∷ [])) ≡ writerGiven (wrote (length (now (start c .args .out))) (start c .args .place) (c .before .before .before .before .history-fault .result) (c .before .before .before .history-size .result))
-unfolding givenWriter
-said c = ap givenWriter (sym (c .next .given .1)) ∙ c .before .before .admitted .ensures
-
+-- Where the next place was answered: the limit, and room for the parts.
 told : (c : tie.After-next) → (length (now (start c .args .out)) ≤ fileLimit) × (start c .args .place + (24 + partsSize (fields (start c))) ≤ length (now (start c .args .out)))
 told c =
-    let h = room-told _ _ _ _ _ (said c) in
+    let h = room-told _ _ _ _ (c .next .given .1) (c .before .before .admitted .ensures) in
     (h .0, omega (arith, h .2, c .before .before .before .history-size .ensures (h .1)))
 
 history-fault-requires : tie.Need-history-fault-requires
@@ -76,15 +70,15 @@ put-history-requires : tie.Need-put-history-requires
 put-history-requires c κs = (omega (arith, told (c .before .before) .1, c .put-history-arg .given), omega (arith, told (c .before .before) .0, c .put-history-arg .given))
 
 returns : tie.Need-returns
-unfolding givenWriter historyWritten
-returns c = refuses _ _ (historyWritten (fields (c .before .before .before .before .before .before .before .before .before .before .before))) _ _ (c .before .before .before .before .before .history-fault .ensures) (size-is (c .before .before .before .before)) _ _ (ap givenWriter (sym (c .before .number .given .1)) ∙ c .before .before .before .admitted .ensures)
+unfolding historyWritten
+returns c = refuses _ _ (historyWritten (fields (c .before .before .before .before .before .before .before .before .before .before .before))) _ _ (c .before .before .before .before .before .history-fault .ensures) (size-is (c .before .before .before .before)) _ (c .before .before .before .admitted .ensures) (c .before .number .given .1)
 
 same-length : tie.Need-same-length
 same-length c = search needs
 
 returns-2 : tie.Need-returns-2
-unfolding givenWriter historyWritten
-returns-2 c = writes _ _ (historyWritten (fields (c .before .before .before .before .before .before .before .before .before .before .before .before .before .before .before))) _ _ (c .before .before .before .before .before .before .before .before .before .history-fault .ensures) (size-is (c .before .before .before .before .before .before .before .before)) _ (said (c .before .before .before .before .before)) _ (c .before .before .put-history .ensures)
+unfolding historyWritten
+returns-2 c = writes _ _ (historyWritten (fields (c .before .before .before .before .before .before .before .before .before .before .before .before .before .before .before))) _ _ (c .before .before .before .before .before .before .before .before .before .history-fault .ensures) (size-is (c .before .before .before .before .before .before .before .before)) _ (c .before .before .before .before .before .before .before .admitted .ensures) (c .before .before .before .before .before .next .given .1) _ (c .before .before .put-history .ensures)
 
 pub write-history-spec : {M : Type 1} → statement M
 write-history-spec =
