@@ -144,7 +144,7 @@ module _ (head : Unit {0} → ℕ → ℕ) (late : Unit {0} → ℕ → ℕ → 
 -- ---- the two kinds of container
 
 -- 13 is "place or end past the output, an end below place plus 8": what is known where neither 1 nor 13 was given.
-within-ok : (n place end : ℕ) (r : Res ℕ) (next : ℕ) → within n place end r ≡ ok next
+pub within-ok : (n place end : ℕ) (r : Res ℕ) (next : ℕ) → within n place end r ≡ ok next
     → (n ≤ fileLimit) × (end ≤ n) × (place + 8 ≤ end) × (r ≡ ok next)
 within-ok n place end r next e =
     let (l, e1) = need-ok (unless (leb n fileLimit) 1) 0 _ e in
@@ -166,7 +166,7 @@ configuration-checked out place end next e =
 
 -- The word of an admitted class, category and type is an event's first word.
 module _ (class category type : ℕ) (e : eventFault class category type ≡ 0) where
-  admitted : (class ≤ 2) × (category ≤ 6) × (type ≤ 10)
+  pub admitted : (class ≤ 2) × (category ≤ 6) × (type ≤ 10)
   unfolding eventFault
   admitted = (
     one-up-to 2 (0 ∷ 2 ∷ []) class refl (among-tells (0 ∷ 2 ∷ []) class .0 (holds-at _ e 0 (among class (0 ∷ 2 ∷ [])) 6 refl)),

@@ -1,0 +1,71 @@
+-- Each way through a closing's answer before its contents are asked, and what the end tells that was answered there.
+-- The idea: one law for the three ways to 13, and one for each test behind it.
+use Prim.Native.Nat.{ℕ, _+_, _≤_, _<_}
+use mathlib.Core.Path.{_≡_, refl, sym, ap, _∙_}
+use mathlib.Core.Bool.{Bool, true, false}
+use mathlib.Core.List.{[], _∷_}
+use native.Mathlib.Omega.{arith}
+use lib.Dec.{leb}
+use borrow.Author.Tests.{le-leb, lt-leb, leb-true}
+use Rattle.theory.specs.Tests.{Res, ok, bad, need, unless}
+use Rattle.theory.proofs.TestLaws.{need-ok, ok-inj, positive}
+use Rattle.note.specs.Limits.{fileLimit}
+use Rattle.note.specs.Answers.{Given, accepted, refused, counts}
+use Rattle.note.specs.Writers.{writerGiven}
+use Rattle.demands.proofs.ClosingLaws.{within-ok}
+use Rattle.closings.specs.Closing.{bounded}
+
+-- A place or an end that doesn't lie as it must, by whichever test.
+outside-one : (place : ℕ) (r : Res ℕ) (a b c : Bool) → (b ≡ true → c ≡ true → ⊥)
+    → need (unless a 13) place (need (unless b 13) place (need (unless c 13) place r)) ≡ bad 13 place
+outside-one place r false b c h = refl
+outside-one place r true false c h = refl
+outside-one place r true true false h = refl
+outside-one place r true true true h = absurd (h refl refl)
+
+module _ (n place end fault least : ℕ) where
+  abbrev answer : Given
+  answer = writerGiven (bounded n place end fault least)
+
+  pub over : fileLimit < n → refused 1 0 ≡ answer
+  unfolding bounded writerGiven
+  over h = rw (lt-leb n fileLimit h)
+
+  module _ (limit : n ≤ fileLimit) where
+    pub outside : (end ≤ n → place + 8 ≤ end → ⊥) → refused 13 place ≡ answer
+    unfolding bounded writerGiven
+    outside h =
+        rw (le-leb n fileLimit limit)
+        (ap writerGiven (sym (outside-one place _ (leb place n) (leb end n) (leb (place + 8) end) (λ b c. h (leb-true end n b) (leb-true (place + 8) end c)))))
+
+    module _ (room : end ≤ n) (wide : place + 8 ≤ end) where
+      inside : place ≤ n
+      inside = omega arith
+
+      pub faulty : (fault ≡ 0 → ⊥) → refused fault place ≡ answer
+      unfolding bounded writerGiven
+      faulty h = rw (le-leb n fileLimit limit, le-leb place n inside, le-leb end n room, le-leb (place + 8) end wide, positive fault h)
+
+      pub few : fault ≡ 0 → end < place + (8 + least) → refused 9 place ≡ answer
+      unfolding bounded writerGiven
+      few e h = rw (le-leb n fileLimit limit, le-leb place n inside, le-leb end n room, le-leb (place + 8) end wide, e, lt-leb (place + (8 + least)) end h)
+
+      pub fine : fault ≡ 0 → place + (8 + least) ≤ end → accepted (counts (end ∷ [])) ≡ answer
+      unfolding bounded writerGiven
+      fine e h = rw (le-leb n fileLimit limit, le-leb place n inside, le-leb end n room, le-leb (place + 8) end wide, e, le-leb (place + (8 + least)) end h)
+
+  -- What is known where nothing stood against the closing.
+  pub record Bounds (next : ℕ) : Type 0 where
+    pub limit : n ≤ fileLimit
+    pub room : end ≤ n
+    pub wide : place + 8 ≤ end
+    pub clean : fault ≡ 0
+    pub is : end ≡ next
+
+  pub bounds : (next : ℕ) → bounded n place end fault least ≡ ok next → Bounds next
+  unfolding bounded
+  bounds next e =
+      let (limit, room, wide, e1) = within-ok n place end _ next e in
+      let (f, e2) = need-ok fault place _ e1 in
+      let (m, e3) = need-ok (unless (leb (place + (8 + least)) end) 9) place _ e2 in
+      record { limit = limit; room = room; wide = wide; clean = f; is = ok-inj e3 }

@@ -1,0 +1,160 @@
+// The file header's writer and the closings of the two containers. All is known before the first store: a refusal changes no byte.
+use containers::Count;
+use containers::records_in;
+use fields::EVENT_MARK;
+use fields::event_fault;
+use note::WriterAnswer;
+use record::Context;
+use record::FILE_LIMIT;
+use record::fresh;
+use stores::admitted;
+use stores::put_words;
+ghost use mathlib.Core.Path.{_≡_};
+ghost use Prim.Native.Nat.{_+_, _*_, _%_, _^_, _≤_, _<_};
+ghost use lib.ListN.{length};
+ghost use Rattle.note.specs.Answers.{givenWriter};
+ghost use Rattle.note.specs.Events.{eventWord};
+ghost use Rattle.note.specs.Files.{versionWord};
+ghost use Rattle.note.specs.Writers.{writerGiven, written, closingBytes, headerWrote, headerOutput, configurationClosed, configurationOutput, eventClosed, eventOutput};
+ghost use Rattle.record.specs.Steps.{contextOf};
+ghost use Rattle.closings.specs.Closing.{bounded, closed};
+
+// The bits of a number with the lowest `k` of another below them. By shift and mask (document 01).
+fn above(high: u32, k: u32, low: u32) -> u32
+    requires { ⌜ (k < 32) × (high * 2 ^ k ≤ 0xFFFFFFFF) × (low < 2 ^ k) ⌝ }
+    ensures { λ r. ⌜ r ≡ high * 2 ^ k + low ⌝ }
+{
+    (high << k) | low
+}
+
+// ---- the header
+
+const FILE_MARK: u32 = 0x0102_0304;
+
+const FORMAT: u32 = 0x0200;
+
+// The header's second word.
+fn version_word(major: u8, minor: u8) -> u32
+    ensures { λ r. ⌜ r ≡ versionWord major minor ⌝ }
+{
+    above(above(major as u32, 8, minor as u32), 16, FORMAT)
+}
+
+/// Writes the file header with these two DAQ bytes, from byte 0 on.
+pub fn write_header(out: &mut [u8], major: u8, minor: u8) -> WriterAnswer
+    ensures answer { λ r. ⌜ givenWriter r ≡ writerGiven (headerWrote (now (out .entry))) ⌝ }
+    ensures output { λ _. ⌜ now (out .exit) ≡ headerOutput (now (out .entry)) major minor ⌝ }
+{
+    match admitted(out.len(), 0, 0, 8) {
+        WriterAnswer::Refused { number, place } => WriterAnswer::Refused { number, place },
+        WriterAnswer::Next { place } => {
+            put_words(out, 0, &[FILE_MARK, version_word(major, minor)]);
+            WriterAnswer::Next { place }
+        }
+    }
+}
+
+// ---- any container
+
+// What a closing answers before it asks its contents, over an output of `room` bytes: 1, 13, the fault of the container's own word, 9 for
+// contents of fewer bytes than `least`, or the end.
+fn bounded(room: usize, place: usize, end: usize, fault: u32, least: usize) -> WriterAnswer
+    ensures { λ r. ⌜ givenWriter r ≡ writerGiven (bounded room place end fault least) ⌝ }
+{
+    if room > FILE_LIMIT {
+        return WriterAnswer::Refused {
+            number: 1,
+            place: 0,
+        };
+    }
+    if end > room {
+        return WriterAnswer::Refused { number: 13, place };
+    }
+    if place > end {
+        return WriterAnswer::Refused { number: 13, place };
+    }
+    if end - place < 8 {
+        return WriterAnswer::Refused { number: 13, place };
+    }
+    if fault != 0 {
+        return WriterAnswer::Refused {
+            number: fault,
+            place,
+        };
+    }
+    if end - place - 8 < least {
+        return WriterAnswer::Refused { number: 9, place };
+    }
+    WriterAnswer::Next { place: end }
+}
+
+// Closes a container, whose own word has this fault: its contents are read in their context, where they stand; then its two words are stored.
+fn close(
+    out: &mut [u8],
+    place: usize,
+    end: usize,
+    fault: u32,
+    least: usize,
+    word: u32,
+    context: Context,
+) -> WriterAnswer
+    ensures answer { λ r. ⌜ givenWriter r ≡ writerGiven (closed (now (out .entry)) place end fault least (contextOf context)) ⌝ }
+    ensures output { λ _. ⌜ now (out .exit) ≡ written (closed (now (out .entry)) place end fault least (contextOf context)) (now (out .entry)) place (closingBytes word place end) ⌝ }
+{
+    match bounded(out.len(), place, end, fault, least) {
+        WriterAnswer::Refused { number, place } => WriterAnswer::Refused { number, place },
+        WriterAnswer::Next { place: next } => {
+            let from = place + 8;
+            match records_in(&out[from..end], from, context) {
+                Count::Bad { number, place } => WriterAnswer::Refused { number, place },
+                Count::Good { count: _ } => {
+                    put_words(out, place, &[word, (end - from) as u32]);
+                    WriterAnswer::Next { place: next }
+                }
+            }
+        }
+    }
+}
+
+// ---- the two containers
+
+const CONFIGURATION: u32 = 0x0001_0000;
+
+/// Closes a configuration over the entries written between its first eight bytes and the end.
+pub fn close_configuration(out: &mut [u8], place: usize, end: usize) -> WriterAnswer
+    ensures answer { λ r. ⌜ givenWriter r ≡ writerGiven (configurationClosed (now (out .entry)) place end) ⌝ }
+    ensures output { λ _. ⌜ now (out .exit) ≡ configurationOutput (now (out .entry)) place end ⌝ }
+{
+    close(out, place, end, 0, 0, CONFIGURATION, Context::Entry)
+}
+
+// An event's first word, of the bits that it has room for.
+fn event_word(class: u32, category: u32, kind: u32) -> u32
+    ensures { λ r. ⌜ r ≡ eventWord (class % 16) (category % 16) (kind % 256) ⌝ }
+{
+    let front = above(above(EVENT_MARK, 4, class & 15), 4, category & 15);
+    above(front, 8, kind & 255)
+}
+
+/// Closes an event of this class, category and type over the records written between its first eight bytes and the end.
+pub fn close_event(
+    out: &mut [u8],
+    place: usize,
+    end: usize,
+    class: u32,
+    category: u32,
+    kind: u32,
+) -> WriterAnswer
+    ensures answer { λ r. ⌜ givenWriter r ≡ writerGiven (eventClosed (now (out .entry)) place end class category kind) ⌝ }
+    ensures output { λ _. ⌜ now (out .exit) ≡ eventOutput (now (out .entry)) place end class category kind ⌝ }
+{
+    close(
+        out,
+        place,
+        end,
+        event_fault(class, category, kind),
+        1,
+        event_word(class, category, kind),
+        fresh(),
+    )
+}
