@@ -47,10 +47,10 @@ add-from : tie.Need-add-from
 add-from c = let k = told (c .before) in omega (arith, k .limit, k .room, k .wide)
 
 sub-records-in : tie.Need-sub-records-in
-sub-records-in c = told (c .before) .wide
+sub-records-in c = let k = told (c .before) in omega (arith, k .wide)
 
 part-records-in-start : tie.Need-part-records-in-start
-part-records-in-start c = told (c .before .before) .wide
+part-records-in-start c = let k = told (c .before .before) in omega (arith, k .wide)
 
 part-records-in-end : tie.Need-part-records-in-end
 part-records-in-end c = told (c .before .before) .room
@@ -68,7 +68,7 @@ enum-told : tie.Need-enum-told
 enum-told c = search needs
 
 sub-t27 : tie.Need-sub-t27
-sub-t27 c = told (c .before .before .before .before .before .before .before) .wide
+sub-t27 c = let k = told (c .before .before .before .before .before .before .before) in omega (arith, k .wide)
 
 cast-t28 : tie.Need-cast-t28
 cast-t28 c = let k = told (c .before .before .before .before .before .before .before) in omega (arith, k .limit, k .room)
