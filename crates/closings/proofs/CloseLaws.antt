@@ -13,13 +13,15 @@ use Rattle.theory.specs.Tests.{Res, ok, bad, need, bind, unless}
 use Rattle.theory.proofs.WordLaws.{length-puts}
 use Rattle.theory.proofs.TestLaws.{bind-ok}
 use Rattle.note.specs.Words.{order, words}
-use Rattle.note.specs.Answers.{Given, accepted, refused, counts}
+use Rattle.note.specs.Answers.{Given, accepted, refused, counts, givenWriter}
 use Rattle.note.specs.Records.{Record, Context, entry, event, none, readRecords}
 use Rattle.note.specs.Events.{eventWord, eventFault}
 use Rattle.note.specs.Files.{fileMark, versionWord, headerBytes, configurationWord}
 use Rattle.note.specs.Writers.{writerGiven, written, contentsOf, ended, closingBytes, headerWrote, headerOutput, configurationClosed, configurationOutput, eventClosed, eventOutput}
 use Rattle.demands.proofs.ClosingLaws.{admitted}
-use Rattle.stores.proofs.WriterLaws.{next-told, refusal-told, kept}
+use Rattle.note.specs.declared.WriterAnswer.{WriterAnswer}
+use Rattle.note.specs.declared.WriterAnswer.the-variants.{Next, Refused}
+use Rattle.stores.proofs.WriterLaws.{next-told, refusal-told, kept, stored}
 use Rattle.containers.specs.declared.Count.the-variants.{Good, Bad}
 use Rattle.containers.specs.Counts.{recordCount}
 use Rattle.containers.proofs.ContainerLaws.{count-good, count-bad}
@@ -28,19 +30,12 @@ use Rattle.closings.proofs.BoundLaws.{bounds}
 
 -- ---- the output
 
--- Bytes stored from the place on, where the next place was answered.
-pub stored-here : (out : List ℕ) (place : ℕ) (w : Res ℕ) (bytes : List ℕ) (next : ℕ) → accepted (counts (next ∷ [])) ≡ writerGiven w
-    → place + length bytes ≤ length out → sets out place bytes ≡ written w out place bytes
-unfolding written
-stored-here out place w bytes next h l =
-    rw (next-told w next h) (sets-eq bytes out place l ∙ append-assoc (take place out) bytes (drop (place + length bytes) out))
-
 -- The header's two words.
-pub header-stored : (out : List ℕ) (major minor version next : ℕ) → version ≡ versionWord major minor → accepted (counts (next ∷ [])) ≡ writerGiven (headerWrote out)
-    → 8 ≤ length out → sets out 0 (words (fileMark ∷ version ∷ [])) ≡ headerOutput out major minor
+pub header-stored : (out : List ℕ) (major minor version : ℕ) {r : WriterAnswer} {next : ℕ} → version ≡ versionWord major minor → r ≡ Next next
+    → givenWriter r ≡ writerGiven (headerWrote out) → 8 ≤ length out → sets out 0 (words (fileMark ∷ version ∷ [])) ≡ headerOutput out major minor
 unfolding headerOutput puts put bytes
-header-stored out major minor version next e h l =
-    ap (λ (v : ℕ). sets out 0 (words (fileMark ∷ v ∷ []))) e ∙ stored-here out 0 (headerWrote out) (headerBytes (versionWord major minor)) next h l
+header-stored out major minor version e n h l =
+    ap (λ (v : ℕ). sets out 0 (words (fileMark ∷ v ∷ []))) e ∙ stored out 0 (headerWrote out) (headerBytes (versionWord major minor)) n h l
 
 -- ---- any container
 
@@ -56,28 +51,29 @@ module _ (out : List ℕ) (place end fault least : ℕ) (c : Context) where
   Ends given after word = (given ≡ writerGiven (closed out place end fault least c)) × (after ≡ written (closed out place end fault least c) out place (closingBytes word place end))
 
   ends-refused : (word x p : ℕ) → refused x p ≡ writerGiven (closed out place end fault least c) → Ends (refused x p) out word
-  ends-refused word x p h = (h, kept out place (closed out place end fault least c) (closingBytes word place end) x p h)
+  unfolding givenWriter
+  ends-refused word x p h = (h, kept out place (closed out place end fault least c) (closingBytes word place end) {r = Refused x p} refl h)
 
   -- Refused before the contents are asked.
   pub refuses : (word x p : ℕ) → refused x p ≡ first → Ends (refused x p) out word
-  unfolding closed writerGiven
-  refuses word x p h = ends-refused word x p (rw (refusal-told (bounded (length out) place end fault least) x p h))
+  unfolding closed writerGiven givenWriter
+  refuses word x p h = ends-refused word x p (rw (refusal-told {r = Refused x p} (bounded (length out) place end fault least) refl h))
 
   -- Refused by the contents.
   pub contents-refuse : (word next x p : ℕ) → accepted (counts (next ∷ [])) ≡ first → Bad x p ≡ recordCount contents → Ends (refused x p) out word
-  unfolding closed writerGiven
+  unfolding closed writerGiven givenWriter
   contents-refuse word next x p h e =
-      ends-refused word x p (rw (next-told (bounded (length out) place end fault least) next h, count-bad contents x p e))
+      ends-refused word x p (rw (next-told {r = Next next} (bounded (length out) place end fault least) refl h, count-bad contents x p e))
 
   -- Closed.
   pub shuts : (word next m : ℕ) → accepted (counts (next ∷ [])) ≡ first → Good m ≡ recordCount contents → place + 8 ≤ length out
       → Ends (accepted (counts (next ∷ []))) (sets out place (closingBytes word place end)) word
-  unfolding closed writerGiven
+  unfolding closed writerGiven givenWriter
   shuts word next m h e l =
       let own : accepted (counts (next ∷ [])) ≡ writerGiven (closed out place end fault least c) =
-      rw (next-told (bounded (length out) place end fault least) next h, count-good contents m e .1) in
+      rw (next-told {r = Next next} (bounded (length out) place end fault least) refl h, count-good contents m e .1) in
       let size : length (closingBytes word place end) ≡ 8 = length-puts order 4 (word ∷ (end - (place + 8)) ∷ []) in
-      (own, stored-here out place (closed out place end fault least c) (closingBytes word place end) next own (omega (arith, size, l)))
+      (own, stored out place (closed out place end fault least c) (closingBytes word place end) {r = Next next} refl own (omega (arith, size, l)))
 
 -- ---- the two containers
 

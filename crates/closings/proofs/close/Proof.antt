@@ -32,7 +32,7 @@ said c = ap givenWriter (sym (c .next .given .1)) ∙ c .before .before .bounded
 
 told : (c : tie.After-next)
     → Bounds (length (now (start c .args .out))) (start c .args .place) (start c .args .end) (start c .args .fault) (start c .args .least) (c .next .given .0 .0)
-told c = bounds _ _ _ _ _ _ (next-told _ _ (said c))
+told c = bounds _ _ _ _ _ _ (next-told _ (c .next .given .1) (c .before .before .bounded .ensures))
 
 bounded-requires : tie.Need-bounded-requires
 bounded-requires c κs = search needs

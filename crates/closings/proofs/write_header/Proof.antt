@@ -28,7 +28,7 @@ unfolding givenWriter
 said c = ap givenWriter (sym (c .place .given .1)) ∙ c .before .before .admitted .ensures
 
 told : (c : tie.After-place) → 8 ≤ length (now (start c .args .out))
-told c = room-told _ _ _ _ _ (said c) .2
+told c = room-told _ _ _ _ (c .place .given .1) (c .before .before .admitted .ensures) .2
 
 admitted-requires : tie.Need-admitted-requires
 admitted-requires c κs = search needs
@@ -52,7 +52,7 @@ returns : tie.Need-returns
 unfolding givenWriter headerWrote headerOutput
 returns c =
     let own = ap givenWriter (sym (c .before .number .given .1)) ∙ c .before .before .before .admitted .ensures in
-    (own, kept _ _ _ _ _ _ own)
+    (own, kept _ _ _ _ (c .before .number .given .1) (c .before .before .before .admitted .ensures))
 
 same-length : tie.Need-same-length
 same-length c = search needs
@@ -61,7 +61,7 @@ returns-2 : tie.Need-returns-2
 unfolding givenWriter headerWrote
 returns-2 c =
     let next = c .before .before .before .before .before .before .before in
-    (said next, c .before .before .put-words .ensures ∙ header-stored _ _ _ _ _ (c .before .before .before .before .version-word .ensures) (said next) (told next))
+    (said next, c .before .before .put-words .ensures ∙ header-stored _ _ _ _ (c .before .before .before .before .version-word .ensures) (next .place .given .1) (next .before .before .admitted .ensures) (told next))
 
 pub write-header-spec : {M : Type 1} → statement M
 write-header-spec =
