@@ -1,4 +1,4 @@
-/* The reader's calls for C. Every call takes any bytes and any numbers and ends.
+/* The reader's and the writers' calls for C. Every call takes any bytes and any numbers and ends.
  *
  * A call's result is 0 where it is accepted, or one of the refusal numbers
  *
@@ -104,6 +104,43 @@ uint32_t dwj_code(uint32_t type, uint32_t number, const uint8_t *name, size_t na
 
 /* ZIP: 1 where the bit of a ZIP, from 1 to 24, is set in a TLB word, else 0. */
 uint32_t dwj_zip(uint32_t word, uint32_t zip);
+
+/* Writers: each writes one record or entry into an output, from a place on. On 0 the record's bytes stand there, every other byte of the
+ * output is unchanged, *next is the place behind it and *refused_at is unchanged. On a refusal no byte is changed, *next is unchanged
+ * and *refused_at is its place: 1 for an output longer than 16,777,216 bytes, at place 0; else at the place given, the first of the
+ * fields in the order of their words (as Record would refuse it; 6 for lent bytes that are not as many as their count asks), then
+ * 13 where the record does not fit from there on. Lent bytes stand as in a file, big-endian words and all, and must not overlap the
+ * output.
+ */
+
+/* An entry's words in Record's order, those x100 as they stand in the file. */
+uint32_t dwj_write_phonon(uint8_t *out, size_t out_length, size_t place, const int32_t fields[11], uint64_t *next, uint64_t *refused_at);
+uint32_t dwj_write_charge(uint8_t *out, size_t out_length, size_t place, const int32_t fields[8], uint64_t *next, uint64_t *refused_at);
+
+/* A record's fields in Record's order. */
+uint32_t dwj_write_administrative(uint8_t *out, size_t out_length, size_t place, const uint32_t fields[6], uint64_t *next, uint64_t *refused_at);
+uint32_t dwj_write_gps(uint8_t *out, size_t out_length, size_t place, const uint32_t fields[7], uint64_t *next, uint64_t *refused_at);
+uint32_t dwj_write_trigger(uint8_t *out, size_t out_length, size_t place, const uint32_t fields[6], uint64_t *next, uint64_t *refused_at);
+uint32_t dwj_write_tlb(uint8_t *out, size_t out_length, size_t place, const uint32_t fields[6], uint64_t *next, uint64_t *refused_at);
+
+/* A trace with the bytes of its n samples. */
+uint32_t dwj_write_trace(uint8_t *out, size_t out_length, size_t place, uint32_t address, uint32_t channel, uint32_t code, int32_t t0, uint32_t delta_t, uint32_t n, const uint8_t *samples, size_t samples_length, uint64_t *next, uint64_t *refused_at);
+
+/* A history: of the veto, and then of the trigger, the count of times, the bytes of the times, the words of a mask, the bytes of the
+ * masks.
+ */
+uint32_t dwj_write_history(uint8_t *out, size_t out_length, size_t place, uint32_t veto_times, const uint8_t *veto_times_bytes, size_t veto_times_length, uint32_t veto_width, const uint8_t *veto_masks, size_t veto_masks_length, uint32_t trigger_times, const uint8_t *trigger_times_bytes, size_t trigger_times_length, uint32_t trigger_width, const uint8_t *trigger_masks, size_t trigger_masks_length, uint64_t *next, uint64_t *refused_at);
+
+/* The file header, 8 bytes from byte 0 on: the two DAQ bytes. */
+uint32_t dwj_write_header(uint8_t *out, size_t out_length, uint8_t major, uint8_t minor, uint64_t *next, uint64_t *refused_at);
+
+/* Closings: a container from place to end, over the contents already written from place + 8 on. 1; 13 at place, where place or end is
+ * past the output or end below place + 8; an event's class, category and type (7, 8), then 9 where it has no contents, at place; then
+ * the contents as the reader refuses them, at their places. On 0 the eight bytes from place on are written, all else is unchanged, and
+ * *next is end.
+ */
+uint32_t dwj_close_configuration(uint8_t *out, size_t out_length, size_t place, size_t end, uint64_t *next, uint64_t *refused_at);
+uint32_t dwj_close_event(uint8_t *out, size_t out_length, size_t place, size_t end, uint32_t event_class, uint32_t category, uint32_t type, uint64_t *next, uint64_t *refused_at);
 
 #ifdef __cplusplus
 }

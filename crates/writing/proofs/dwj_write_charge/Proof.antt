@@ -1,0 +1,69 @@
+-- The writer's own contract, of the fields in the array; its answer told in lent numbers.
+use Rattle.note.specs.Charge.{Charge}
+use Rattle.note.specs.Writers.{chargeWritten}
+use denote.Ref.{now}
+use lib.IntN.{pos}
+use lib.ListN.{getD}
+use Rattle.writing.proofs.ToldLaws.{kept, handed}
+use Rattle.writing.specs.Handed.{chargeFrom}
+use borrow.Author.Needs.{needs}
+use Rattle.writing.proofs.dwj_write_charge.Statement.{statement}
+use Rattle.writing.proofs.dwj_write_charge.Tie as tie
+use Rattle.writing.proofs.dwj_write_charge.Reads as reads
+use Rattle.writing.proofs.dwj_write_charge.Lts as lts
+use Rattle.dwejrasq.proofs.write_charge.Reads as write-charge-reads
+use Rattle.writing.proofs.told.Reads as told-reads
+
+element-copy-out-write-charge : tie.Need-element-copy-out-write-charge
+element-copy-out-write-charge c = search needs
+
+element-copy-out-write-charge-2 : tie.Need-element-copy-out-write-charge-2
+element-copy-out-write-charge-2 c = search needs
+
+element-copy-out-write-charge-3 : tie.Need-element-copy-out-write-charge-3
+element-copy-out-write-charge-3 c = search needs
+
+element-copy-out-write-charge-4 : tie.Need-element-copy-out-write-charge-4
+element-copy-out-write-charge-4 c = search needs
+
+element-copy-out-write-charge-5 : tie.Need-element-copy-out-write-charge-5
+element-copy-out-write-charge-5 c = search needs
+
+element-copy-out-write-charge-6 : tie.Need-element-copy-out-write-charge-6
+element-copy-out-write-charge-6 c = search needs
+
+element-copy-out-write-charge-7 : tie.Need-element-copy-out-write-charge-7
+element-copy-out-write-charge-7 c = search needs
+
+element-copy-out-write-charge-8 : tie.Need-element-copy-out-write-charge-8
+element-copy-out-write-charge-8 c = search needs
+
+write-charge-requires : tie.Need-write-charge-requires
+write-charge-requires c κs = search needs
+
+told-requires : tie.Need-told-requires
+told-requires c κs = search needs
+
+same-length : tie.Need-same-length
+same-length c = search needs
+
+returns : tie.Need-returns
+unfolding chargeFrom
+returns c = let zs = now (c .before .before .before .before .before .before .before .before .before .before .before .before .before .before .before .before .args .fields) in let w = handed chargeWritten (now (c .before .before .before .before .before .before .before .before .before .before .before .before .before .before .before .before .args .out)) (c .before .before .before .before .before .before .before .before .before .before .before .before .before .before .before .before .args .place) (λ i. record { code = kept (getD zs 0 (pos 0)) (c .before .before .before .before .before .before .before .before .before .before .before .before .before .write-charge-arg2 .given) i; tower = kept (getD zs 1 (pos 0)) (c .before .before .before .before .before .before .before .before .before .before .before .before .write-charge-arg3 .given) i; gain = kept (getD zs 2 (pos 0)) (c .before .before .before .before .before .before .before .before .before .before .before .write-charge-arg4 .given) i; bias = kept (getD zs 3 (pos 0)) (c .before .before .before .before .before .before .before .before .before .before .write-charge-arg5 .given) i; rtfOffset = kept (getD zs 4 (pos 0)) (c .before .before .before .before .before .before .before .before .before .write-charge-arg6 .given) i; deltaT = kept (getD zs 5 (pos 0)) (c .before .before .before .before .before .before .before .before .write-charge-arg7 .given) i; t0 = kept (getD zs 6 (pos 0)) (c .before .before .before .before .before .before .before .write-charge-arg8 .given) i; traceLength = kept (getD zs 7 (pos 0)) (c .before .before .before .before .before .before .write-charge-arg9 .given) i }) (c .before .before .before .before .before .write-charge .ensures) in let t = c .told .ensures _ (w .0) in (t .0, (w .1, (t .1, t .2)))
+
+pub dwj-write-charge-spec : {M : Type 1} → statement M
+dwj-write-charge-spec =
+    tie.close
+    (tie.spec
+    element-copy-out-write-charge
+    element-copy-out-write-charge-2
+    element-copy-out-write-charge-3
+    element-copy-out-write-charge-4
+    element-copy-out-write-charge-5
+    element-copy-out-write-charge-6
+    element-copy-out-write-charge-7
+    element-copy-out-write-charge-8
+    write-charge-requires
+    told-requires
+    same-length
+    returns)

@@ -1,0 +1,81 @@
+-- The writer's own contract, of the fields in the array; its answer told in lent numbers.
+use Rattle.note.specs.Phonon.{Phonon}
+use Rattle.note.specs.Writers.{phononWritten}
+use denote.Ref.{now}
+use lib.IntN.{pos}
+use lib.ListN.{getD}
+use Rattle.writing.proofs.ToldLaws.{kept, handed}
+use Rattle.writing.specs.Handed.{phononFrom}
+use borrow.Author.Needs.{needs}
+use Rattle.writing.proofs.dwj_write_phonon.Statement.{statement}
+use Rattle.writing.proofs.dwj_write_phonon.Tie as tie
+use Rattle.writing.proofs.dwj_write_phonon.Reads as reads
+use Rattle.writing.proofs.dwj_write_phonon.Lts as lts
+use Rattle.dwejrasq.proofs.write_phonon.Reads as write-phonon-reads
+use Rattle.writing.proofs.told.Reads as told-reads
+
+element-copy-out-write-phonon : tie.Need-element-copy-out-write-phonon
+element-copy-out-write-phonon c = search needs
+
+element-copy-out-write-phonon-2 : tie.Need-element-copy-out-write-phonon-2
+element-copy-out-write-phonon-2 c = search needs
+
+element-copy-out-write-phonon-3 : tie.Need-element-copy-out-write-phonon-3
+element-copy-out-write-phonon-3 c = search needs
+
+element-copy-out-write-phonon-4 : tie.Need-element-copy-out-write-phonon-4
+element-copy-out-write-phonon-4 c = search needs
+
+element-copy-out-write-phonon-5 : tie.Need-element-copy-out-write-phonon-5
+element-copy-out-write-phonon-5 c = search needs
+
+element-copy-out-write-phonon-6 : tie.Need-element-copy-out-write-phonon-6
+element-copy-out-write-phonon-6 c = search needs
+
+element-copy-out-write-phonon-7 : tie.Need-element-copy-out-write-phonon-7
+element-copy-out-write-phonon-7 c = search needs
+
+element-copy-out-write-phonon-8 : tie.Need-element-copy-out-write-phonon-8
+element-copy-out-write-phonon-8 c = search needs
+
+element-copy-out-write-phonon-9 : tie.Need-element-copy-out-write-phonon-9
+element-copy-out-write-phonon-9 c = search needs
+
+element-copy-out-write-phonon-10 : tie.Need-element-copy-out-write-phonon-10
+element-copy-out-write-phonon-10 c = search needs
+
+element-copy-out-write-phonon-11 : tie.Need-element-copy-out-write-phonon-11
+element-copy-out-write-phonon-11 c = search needs
+
+write-phonon-requires : tie.Need-write-phonon-requires
+write-phonon-requires c κs = search needs
+
+told-requires : tie.Need-told-requires
+told-requires c κs = search needs
+
+same-length : tie.Need-same-length
+same-length c = search needs
+
+returns : tie.Need-returns
+unfolding phononFrom
+returns c = let zs = now (c .before .before .before .before .before .before .before .before .before .before .before .before .before .before .before .before .before .before .before .args .fields) in let w = handed phononWritten (now (c .before .before .before .before .before .before .before .before .before .before .before .before .before .before .before .before .before .before .before .args .out)) (c .before .before .before .before .before .before .before .before .before .before .before .before .before .before .before .before .before .before .before .args .place) (λ i. record { code = kept (getD zs 0 (pos 0)) (c .before .before .before .before .before .before .before .before .before .before .before .before .before .before .before .before .write-phonon-arg2 .given) i; tower = kept (getD zs 1 (pos 0)) (c .before .before .before .before .before .before .before .before .before .before .before .before .before .before .before .write-phonon-arg3 .given) i; gain = kept (getD zs 2 (pos 0)) (c .before .before .before .before .before .before .before .before .before .before .before .before .before .before .write-phonon-arg4 .given) i; qetBias = kept (getD zs 3 (pos 0)) (c .before .before .before .before .before .before .before .before .before .before .before .before .before .write-phonon-arg5 .given) i; squidBias = kept (getD zs 4 (pos 0)) (c .before .before .before .before .before .before .before .before .before .before .before .before .write-phonon-arg6 .given) i; lockpoint = kept (getD zs 5 (pos 0)) (c .before .before .before .before .before .before .before .before .before .before .before .write-phonon-arg7 .given) i; rtfOffset = kept (getD zs 6 (pos 0)) (c .before .before .before .before .before .before .before .before .before .before .write-phonon-arg8 .given) i; variableGain = kept (getD zs 7 (pos 0)) (c .before .before .before .before .before .before .before .before .before .write-phonon-arg9 .given) i; deltaT = kept (getD zs 8 (pos 0)) (c .before .before .before .before .before .before .before .before .write-phonon-arg10 .given) i; t0 = kept (getD zs 9 (pos 0)) (c .before .before .before .before .before .before .before .write-phonon-arg11 .given) i; traceLength = kept (getD zs 10 (pos 0)) (c .before .before .before .before .before .before .write-phonon-arg12 .given) i }) (c .before .before .before .before .before .write-phonon .ensures) in let t = c .told .ensures _ (w .0) in (t .0, (w .1, (t .1, t .2)))
+
+pub dwj-write-phonon-spec : {M : Type 1} → statement M
+dwj-write-phonon-spec =
+    tie.close
+    (tie.spec
+    element-copy-out-write-phonon
+    element-copy-out-write-phonon-2
+    element-copy-out-write-phonon-3
+    element-copy-out-write-phonon-4
+    element-copy-out-write-phonon-5
+    element-copy-out-write-phonon-6
+    element-copy-out-write-phonon-7
+    element-copy-out-write-phonon-8
+    element-copy-out-write-phonon-9
+    element-copy-out-write-phonon-10
+    element-copy-out-write-phonon-11
+    write-phonon-requires
+    told-requires
+    same-length
+    returns)

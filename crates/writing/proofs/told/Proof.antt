@@ -1,0 +1,23 @@
+-- Each case of an answer, and the lent numbers that follow it.
+use denote.Ref.{now}
+use Rattle.writing.proofs.ToldLaws.{tells-next, tells-refusal}
+use borrow.Author.Needs.{needs}
+use Rattle.writing.proofs.told.Statement.{statement}
+use Rattle.writing.proofs.told.Tie as tie
+use Rattle.writing.proofs.told.Reads as reads
+use Rattle.writing.proofs.told.Lts as lts
+
+enum-known-answer : tie.Need-enum-known-answer
+enum-known-answer c = search needs
+
+enum-known-answer-2 : tie.Need-enum-known-answer-2
+enum-known-answer-2 c = search needs
+
+returns : tie.Need-returns
+returns c = tells-next (now (c .before .before .before .args .next)) (now (c .before .before .before .args .refusal)) (c .before .answer .given .1)
+
+returns-2 : tie.Need-returns-2
+returns-2 c = tells-refusal (now (c .before .before .before .args .next)) (now (c .before .before .before .args .refusal)) (c .before .answer2 .given .1)
+
+pub told-spec : {M : Type 1} → statement M
+told-spec = tie.close (tie.spec enum-known-answer enum-known-answer-2 returns returns-2)

@@ -1,0 +1,311 @@
+// Every writer for C: numbers, lent arrays and buffers alone. include/dwejrasq.h documents each.
+use note::WriterAnswer;
+ghost use mathlib.Core.Path.{_≡_};
+ghost use Rattle.theory.specs.Tests.{Res};
+ghost use Prim.Native.Nat.{ℕ};
+ghost use Rattle.note.specs.Answers.{givenWriter};
+ghost use Rattle.note.specs.Writers.{writerGiven, recordWrote, recordOutput, headerWrote, headerOutput, configurationClosed, configurationOutput, eventClosed, eventOutput, rewriteWrote, rewriteOutput, phononWritten, chargeWritten, administrativeWritten, traceWritten, historyWritten, gpsWritten, triggerWritten, tlbWritten};
+ghost use Rattle.writing.specs.Handed.{numberIn, nextAfter, refusedAfter, Told, phononFrom, chargeFrom, administrativeFrom, gpsFrom, triggerFrom, tlbFrom};
+
+// A writer's answer, for C: the number; the next place, or the refusal's place lent.
+fn told(answer: WriterAnswer, next: &mut u64, refusal: &mut u64) -> u32
+    ensures { λ n. ⌜ Told answer (now (next .entry)) (now (refusal .entry)) n (now (next .exit)) (now (refusal .exit)) ⌝ }
+{
+    match answer {
+        WriterAnswer::Next { place } => {
+            *next = place as u64;
+            0
+        }
+        WriterAnswer::Refused { number, place } => {
+            *refusal = place as u64;
+            number
+        }
+    }
+}
+
+/// A phonon entry: its eleven words in order.
+#[no_mangle]
+pub extern "C" fn dwj_write_phonon(
+    out: &mut [u8],
+    place: usize,
+    fields: &[i32; 11],
+    next: &mut u64,
+    refusal: &mut u64,
+) -> u32
+    ensures number { λ r. ⌜ r ≡ numberIn (recordWrote (now (out .entry)) place (phononWritten (phononFrom (now (fields .entry))))) ⌝ }
+    ensures output { λ _. ⌜ now (out .exit) ≡ recordOutput (now (out .entry)) place (phononWritten (phononFrom (now (fields .entry)))) ⌝ }
+    ensures next { λ _. ⌜ now (next .exit) ≡ nextAfter (now (next .entry)) (recordWrote (now (out .entry)) place (phononWritten (phononFrom (now (fields .entry))))) ⌝ }
+    ensures refusal { λ _. ⌜ now (refusal .exit) ≡ refusedAfter (now (refusal .entry)) (recordWrote (now (out .entry)) place (phononWritten (phononFrom (now (fields .entry))))) ⌝ }
+{
+    let answer = dwejrasq::write_phonon(
+        out,
+        place,
+        fields[0],
+        fields[1],
+        fields[2],
+        fields[3],
+        fields[4],
+        fields[5],
+        fields[6],
+        fields[7],
+        fields[8],
+        fields[9],
+        fields[10],
+    );
+    told(answer, next, refusal)
+}
+
+/// A charge entry: its eight words in order.
+#[no_mangle]
+pub extern "C" fn dwj_write_charge(
+    out: &mut [u8],
+    place: usize,
+    fields: &[i32; 8],
+    next: &mut u64,
+    refusal: &mut u64,
+) -> u32
+    ensures number { λ r. ⌜ r ≡ numberIn (recordWrote (now (out .entry)) place (chargeWritten (chargeFrom (now (fields .entry))))) ⌝ }
+    ensures output { λ _. ⌜ now (out .exit) ≡ recordOutput (now (out .entry)) place (chargeWritten (chargeFrom (now (fields .entry)))) ⌝ }
+    ensures next { λ _. ⌜ now (next .exit) ≡ nextAfter (now (next .entry)) (recordWrote (now (out .entry)) place (chargeWritten (chargeFrom (now (fields .entry))))) ⌝ }
+    ensures refusal { λ _. ⌜ now (refusal .exit) ≡ refusedAfter (now (refusal .entry)) (recordWrote (now (out .entry)) place (chargeWritten (chargeFrom (now (fields .entry))))) ⌝ }
+{
+    let answer = dwejrasq::write_charge(
+        out,
+        place,
+        fields[0],
+        fields[1],
+        fields[2],
+        fields[3],
+        fields[4],
+        fields[5],
+        fields[6],
+        fields[7],
+    );
+    told(answer, next, refusal)
+}
+
+/// An administrative record: its six words in order.
+#[no_mangle]
+pub extern "C" fn dwj_write_administrative(
+    out: &mut [u8],
+    place: usize,
+    fields: &[u32; 6],
+    next: &mut u64,
+    refusal: &mut u64,
+) -> u32
+    ensures number { λ r. ⌜ r ≡ numberIn (recordWrote (now (out .entry)) place (administrativeWritten (administrativeFrom (now (fields .entry))))) ⌝ }
+    ensures output { λ _. ⌜ now (out .exit) ≡ recordOutput (now (out .entry)) place (administrativeWritten (administrativeFrom (now (fields .entry)))) ⌝ }
+    ensures next { λ _. ⌜ now (next .exit) ≡ nextAfter (now (next .entry)) (recordWrote (now (out .entry)) place (administrativeWritten (administrativeFrom (now (fields .entry))))) ⌝ }
+    ensures refusal { λ _. ⌜ now (refusal .exit) ≡ refusedAfter (now (refusal .entry)) (recordWrote (now (out .entry)) place (administrativeWritten (administrativeFrom (now (fields .entry))))) ⌝ }
+{
+    let answer = dwejrasq::write_administrative(
+        out,
+        place,
+        fields[0],
+        fields[1],
+        fields[2],
+        fields[3],
+        fields[4],
+        fields[5],
+    );
+    told(answer, next, refusal)
+}
+
+/// A trace: base address, digitizer channel, detector code, t0, delta t, n, and the bytes of its n samples.
+#[no_mangle]
+pub extern "C" fn dwj_write_trace(
+    out: &mut [u8],
+    place: usize,
+    address: u32,
+    channel: u32,
+    code: u32,
+    t0: i32,
+    delta: u32,
+    n: u32,
+    samples: &[u8],
+    next: &mut u64,
+    refusal: &mut u64,
+) -> u32
+    ensures number { λ r. ⌜ r ≡ numberIn (recordWrote (now (out .entry)) place (traceWritten (record { address = address; channel = channel; code = code; t0 = t0; delta = delta; n = n; samples = now (samples .entry) }))) ⌝ }
+    ensures output { λ _. ⌜ now (out .exit) ≡ recordOutput (now (out .entry)) place (traceWritten (record { address = address; channel = channel; code = code; t0 = t0; delta = delta; n = n; samples = now (samples .entry) })) ⌝ }
+    ensures next { λ _. ⌜ now (next .exit) ≡ nextAfter (now (next .entry)) (recordWrote (now (out .entry)) place (traceWritten (record { address = address; channel = channel; code = code; t0 = t0; delta = delta; n = n; samples = now (samples .entry) }))) ⌝ }
+    ensures refusal { λ _. ⌜ now (refusal .exit) ≡ refusedAfter (now (refusal .entry)) (recordWrote (now (out .entry)) place (traceWritten (record { address = address; channel = channel; code = code; t0 = t0; delta = delta; n = n; samples = now (samples .entry) }))) ⌝ }
+{
+    let answer = dwejrasq::write_trace(out, place, address, channel, code, t0, delta, n, samples);
+    told(answer, next, refusal)
+}
+
+/// A history: of the veto and then of the trigger the count of times, their bytes, the width, the bytes of the masks.
+#[no_mangle]
+pub extern "C" fn dwj_write_history(
+    out: &mut [u8],
+    place: usize,
+    count: u32,
+    times: &[u8],
+    width: u32,
+    masks: &[u8],
+    triggers: u32,
+    instants: &[u8],
+    breadth: u32,
+    words: &[u8],
+    next: &mut u64,
+    refusal: &mut u64,
+) -> u32
+    ensures number { λ r. ⌜ r ≡ numberIn (recordWrote (now (out .entry)) place (historyWritten (record { veto = record { count = count; times = now (times .entry); width = width; masks = now (masks .entry) }; trigger = record { count = triggers; times = now (instants .entry); width = breadth; masks = now (words .entry) } }))) ⌝ }
+    ensures output { λ _. ⌜ now (out .exit) ≡ recordOutput (now (out .entry)) place (historyWritten (record { veto = record { count = count; times = now (times .entry); width = width; masks = now (masks .entry) }; trigger = record { count = triggers; times = now (instants .entry); width = breadth; masks = now (words .entry) } })) ⌝ }
+    ensures next { λ _. ⌜ now (next .exit) ≡ nextAfter (now (next .entry)) (recordWrote (now (out .entry)) place (historyWritten (record { veto = record { count = count; times = now (times .entry); width = width; masks = now (masks .entry) }; trigger = record { count = triggers; times = now (instants .entry); width = breadth; masks = now (words .entry) } }))) ⌝ }
+    ensures refusal { λ _. ⌜ now (refusal .exit) ≡ refusedAfter (now (refusal .entry)) (recordWrote (now (out .entry)) place (historyWritten (record { veto = record { count = count; times = now (times .entry); width = width; masks = now (masks .entry) }; trigger = record { count = triggers; times = now (instants .entry); width = breadth; masks = now (words .entry) } }))) ⌝ }
+{
+    let answer = dwejrasq::write_history(
+        out,
+        place,
+        count,
+        times,
+        width,
+        masks,
+        triggers,
+        instants,
+        breadth,
+        words,
+    );
+    told(answer, next, refusal)
+}
+
+/// A GPS record: year, day, status, hour, minute, second, tenths.
+#[no_mangle]
+pub extern "C" fn dwj_write_gps(
+    out: &mut [u8],
+    place: usize,
+    fields: &[u32; 7],
+    next: &mut u64,
+    refusal: &mut u64,
+) -> u32
+    ensures number { λ r. ⌜ r ≡ numberIn (recordWrote (now (out .entry)) place (gpsWritten (gpsFrom (now (fields .entry))))) ⌝ }
+    ensures output { λ _. ⌜ now (out .exit) ≡ recordOutput (now (out .entry)) place (gpsWritten (gpsFrom (now (fields .entry)))) ⌝ }
+    ensures next { λ _. ⌜ now (next .exit) ≡ nextAfter (now (next .entry)) (recordWrote (now (out .entry)) place (gpsWritten (gpsFrom (now (fields .entry))))) ⌝ }
+    ensures refusal { λ _. ⌜ now (refusal .exit) ≡ refusedAfter (now (refusal .entry)) (recordWrote (now (out .entry)) place (gpsWritten (gpsFrom (now (fields .entry))))) ⌝ }
+{
+    let answer = dwejrasq::write_gps(
+        out,
+        place,
+        fields[0],
+        fields[1],
+        fields[2],
+        fields[3],
+        fields[4],
+        fields[5],
+        fields[6],
+    );
+    told(answer, next, refusal)
+}
+
+/// A trigger record: its six masks.
+#[no_mangle]
+pub extern "C" fn dwj_write_trigger(
+    out: &mut [u8],
+    place: usize,
+    fields: &[u32; 6],
+    next: &mut u64,
+    refusal: &mut u64,
+) -> u32
+    ensures number { λ r. ⌜ r ≡ numberIn (recordWrote (now (out .entry)) place (triggerWritten (triggerFrom (now (fields .entry))))) ⌝ }
+    ensures output { λ _. ⌜ now (out .exit) ≡ recordOutput (now (out .entry)) place (triggerWritten (triggerFrom (now (fields .entry)))) ⌝ }
+    ensures next { λ _. ⌜ now (next .exit) ≡ nextAfter (now (next .entry)) (recordWrote (now (out .entry)) place (triggerWritten (triggerFrom (now (fields .entry))))) ⌝ }
+    ensures refusal { λ _. ⌜ now (refusal .exit) ≡ refusedAfter (now (refusal .entry)) (recordWrote (now (out .entry)) place (triggerWritten (triggerFrom (now (fields .entry))))) ⌝ }
+{
+    let answer = dwejrasq::write_trigger(
+        out,
+        place,
+        fields[0],
+        fields[1],
+        fields[2],
+        fields[3],
+        fields[4],
+        fields[5],
+    );
+    told(answer, next, refusal)
+}
+
+/// A TLB record: its six words, by tower.
+#[no_mangle]
+pub extern "C" fn dwj_write_tlb(
+    out: &mut [u8],
+    place: usize,
+    fields: &[u32; 6],
+    next: &mut u64,
+    refusal: &mut u64,
+) -> u32
+    ensures number { λ r. ⌜ r ≡ numberIn (recordWrote (now (out .entry)) place (tlbWritten (tlbFrom (now (fields .entry))))) ⌝ }
+    ensures output { λ _. ⌜ now (out .exit) ≡ recordOutput (now (out .entry)) place (tlbWritten (tlbFrom (now (fields .entry)))) ⌝ }
+    ensures next { λ _. ⌜ now (next .exit) ≡ nextAfter (now (next .entry)) (recordWrote (now (out .entry)) place (tlbWritten (tlbFrom (now (fields .entry))))) ⌝ }
+    ensures refusal { λ _. ⌜ now (refusal .exit) ≡ refusedAfter (now (refusal .entry)) (recordWrote (now (out .entry)) place (tlbWritten (tlbFrom (now (fields .entry))))) ⌝ }
+{
+    let answer = dwejrasq::write_tlb(
+        out,
+        place,
+        fields[0],
+        fields[1],
+        fields[2],
+        fields[3],
+        fields[4],
+        fields[5],
+    );
+    told(answer, next, refusal)
+}
+
+/// The file header, at byte 0: the two DAQ bytes.
+#[no_mangle]
+pub extern "C" fn dwj_write_header(
+    out: &mut [u8],
+    major: u8,
+    minor: u8,
+    next: &mut u64,
+    refusal: &mut u64,
+) -> u32
+    ensures number { λ r. ⌜ r ≡ numberIn (headerWrote (now (out .entry))) ⌝ }
+    ensures output { λ _. ⌜ now (out .exit) ≡ headerOutput (now (out .entry)) major minor ⌝ }
+    ensures next { λ _. ⌜ now (next .exit) ≡ nextAfter (now (next .entry)) (headerWrote (now (out .entry))) ⌝ }
+    ensures refusal { λ _. ⌜ now (refusal .exit) ≡ refusedAfter (now (refusal .entry)) (headerWrote (now (out .entry))) ⌝ }
+{
+    let answer = dwejrasq::write_header(out, major, minor);
+    told(answer, next, refusal)
+}
+
+/// Closes a configuration over its contents.
+#[no_mangle]
+pub extern "C" fn dwj_close_configuration(
+    out: &mut [u8],
+    place: usize,
+    end: usize,
+    next: &mut u64,
+    refusal: &mut u64,
+) -> u32
+    ensures number { λ r. ⌜ r ≡ numberIn (configurationClosed (now (out .entry)) place end) ⌝ }
+    ensures output { λ _. ⌜ now (out .exit) ≡ configurationOutput (now (out .entry)) place end ⌝ }
+    ensures next { λ _. ⌜ now (next .exit) ≡ nextAfter (now (next .entry)) (configurationClosed (now (out .entry)) place end) ⌝ }
+    ensures refusal { λ _. ⌜ now (refusal .exit) ≡ refusedAfter (now (refusal .entry)) (configurationClosed (now (out .entry)) place end) ⌝ }
+{
+    let answer = dwejrasq::close_configuration(out, place, end);
+    told(answer, next, refusal)
+}
+
+/// Closes an event of a class, a category and a type over its contents.
+#[no_mangle]
+pub extern "C" fn dwj_close_event(
+    out: &mut [u8],
+    place: usize,
+    end: usize,
+    class: u32,
+    category: u32,
+    kind: u32,
+    next: &mut u64,
+    refusal: &mut u64,
+) -> u32
+    ensures number { λ r. ⌜ r ≡ numberIn (eventClosed (now (out .entry)) place end class category kind) ⌝ }
+    ensures output { λ _. ⌜ now (out .exit) ≡ eventOutput (now (out .entry)) place end class category kind ⌝ }
+    ensures next { λ _. ⌜ now (next .exit) ≡ nextAfter (now (next .entry)) (eventClosed (now (out .entry)) place end class category kind) ⌝ }
+    ensures refusal { λ _. ⌜ now (refusal .exit) ≡ refusedAfter (now (refusal .entry)) (eventClosed (now (out .entry)) place end class category kind) ⌝ }
+{
+    let answer = dwejrasq::close_event(out, place, end, class, category, kind);
+    told(answer, next, refusal)
+}
