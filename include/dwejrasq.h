@@ -109,8 +109,7 @@ uint32_t dwj_zip(uint32_t word, uint32_t zip);
  * output is unchanged, *next is the place behind it and *refused_at is unchanged. On a refusal no byte is changed, *next is unchanged
  * and *refused_at is its place: 1 for an output longer than 16,777,216 bytes, at place 0; else at the place given, the first of the
  * fields in the order of their words (as Record would refuse it; 6 for lent bytes that are not as many as their count asks), then
- * 13 where the record does not fit from there on. Lent bytes stand as in a file, big-endian words and all, and must not overlap the
- * output.
+ * 13 where the record does not fit from there on. Lent bytes stand as in a file, in its byte order, and must not overlap the output.
  */
 
 /* An entry's words in Record's order, those x100 as they stand in the file. */
