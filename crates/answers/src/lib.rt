@@ -32,26 +32,26 @@ ghost use Rattle.answers.specs.Bodies.{bodyAt, kindGiven, sixNumbers, si
 
 // ---- fields of a body: no value of these kinds but a history's is a place, so their answers are those at place 0
 
-// The signed word at a place of the bytes.
-fn signed_at(s: &[u8], at: usize) -> i32
+/// The signed word at a place of the bytes.
+pub fn signed_at(s: &[u8], at: usize) -> i32
     requires { ⌜ at + 4 ≤ length (now s) ⌝ }
     ensures { λ r. ⌜ r ≡ signed (word at (now (s .entry))) ⌝ }
 {
     to_signed(word_at(s, at))
 }
 
-// Six words back to back, in order.
-struct Six {
-    first: u32,
-    second: u32,
-    third: u32,
-    fourth: u32,
-    fifth: u32,
-    sixth: u32,
+/// Six words back to back, in order.
+pub struct Six {
+    pub first: u32,
+    pub second: u32,
+    pub third: u32,
+    pub fourth: u32,
+    pub fifth: u32,
+    pub sixth: u32,
 }
 
-// The six words from a place of the bytes on.
-fn six_at(s: &[u8], at: usize) -> Six
+/// The six words from a place of the bytes on.
+pub fn six_at(s: &[u8], at: usize) -> Six
     requires { ⌜ at + 24 ≤ length (now s) ⌝ }
     ensures { λ r. ⌜ sixNumbers r ≡ sixFrom at (now (s .entry)) ⌝ }
 {

@@ -11,6 +11,7 @@ pub mod TraceRows
 pub mod EditLaws
 pub mod EditInFull
 pub mod RewriteLaws
+pub mod AgainLaws
 pub mod RefusalLaws
 pub mod OutputLaws
 pub mod WriterLaws

@@ -158,6 +158,16 @@ history-restored b h e =
     rw (← drop-of-length-le b past) (section-restored (triggerAt b) b (omega arith) h) in
     ap (λ (r : List ℕ). sectionBytes (sectionOf 0 b) ++ r) (sym (append-nil _) ∙ second) ∙ section-restored 0 b first h
 
+-- The fields of an accepted body have no fault.
+pub history-faultless : (b : List ℕ) → historyRule b ≡ 0 → historyFault (historyOf b) ≡ 0
+unfolding historyRule historyFault historyOf
+history-faultless b e =
+    let (room, end) = history-ends b e in
+    first-passes _ (
+      whole-fault false (sectionOf 0 b) (rule-whole false 0 b room (first-at _ e 2)),
+      (whole-fault true (sectionOf (triggerAt b) b) (rule-whole true (triggerAt b) b (omega arith) (first-at _ e 3)), tt),
+    )
+
 pub history-read-back : (f : History) → historyFault f ≡ 0 → (historyRule (historyBytes f) ≡ 0) × (historyOf (historyBytes f) ≡ f)
 unfolding historyFault historyRule historyBytes historyOf
 history-read-back f e =
