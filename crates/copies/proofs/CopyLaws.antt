@@ -1,0 +1,46 @@
+-- What a writer that is handed a body's own fields leaves: the record, where there is room for it. Once, for every kind.
+-- The idea: the fields have no fault and their bytes are the record, so the writer is granted and lays them.
+use mathlib.Core.Path.{_≡_, sym, ap, _∙_, subst}
+use mathlib.Core.List.{List}
+use Prim.Native.Nat.{ℕ, _+_}
+use lib.IntN.{ℤ}
+use lib.ListN.{length}
+use borrow.Author.Tests.{le-leb}
+use Rattle.theory.specs.Words.{Bytes}
+use Rattle.theory.specs.Tests.{ok}
+use Rattle.theory.proofs.StructureLaws.{length-structure}
+use Rattle.note.specs.Limits.{fileLimit}
+use Rattle.note.specs.Words.{order, signed, unsigned}
+use Rattle.note.specs.Kinds.{Kind}
+use Rattle.note.specs.Writers.{Written, wrapped, wrote, recordWrote, recordOutput}
+use Rattle.demands.specs.Outputs.{Laid}
+use Rattle.demands.proofs.AgainLaws.{Again}
+use Rattle.demands.proofs.WriterLaws.{record-laid}
+use Rattle.answers.proofs.SignedLaws.{kept}
+use Rattle.copies.specs.Copying.{Copyable, Copied}
+
+module _ (k : Kind) {F : Type 0} (write : F → Written) (of : List ℕ → F) (again : (b : List ℕ) → Bytes b → k .rule b ≡ 0 → Again k b (write (of b)))
+    (b old : List ℕ) (place : ℕ) (c : Copyable k b (length old) place) where
+  abbrev next : ℕ
+  next = place + (8 + length b)
+
+  same : write (of b) .bytes ≡ wrapped k b
+  same = again b (c .bytes) (c .follows) .same
+
+  granted : recordWrote old place (write (of b)) ≡ ok next
+  unfolding recordWrote wrote
+  granted =
+      let size : length (write (of b) .bytes) ≡ 8 + length b =
+      ap length same ∙ length-structure order (λ (x : List ℕ). x) (record { kind = k .word; body = b }) in
+      rw (le-leb (length old) fileLimit (c .limit), again b (c .bytes) (c .follows) .fine, size, le-leb next (length old) (c .room))
+
+  -- The fields that were handed on are the body's.
+  pub copied : (f : F) → f ≡ of b → (new : List ℕ) → new ≡ recordOutput old place (write f) → Copied k b old place new
+  copied f e new q =
+      let w : Written = write (of b) in
+      subst (λ (x : List ℕ). Laid old x place next (wrapped k b)) (sym (q ∙ ap (λ (g : F). recordOutput old place (write g)) e))
+      (subst (λ (bytes : List ℕ). Laid old (recordOutput old place w) place next bytes) same (record-laid old place next w granted))
+
+-- A signed word that was read and is handed on.
+pub handed : (w : ℕ) {z : ℤ} → z ≡ signed w → signed (unsigned z) ≡ signed w
+handed w e = ap (λ (x : ℤ). signed (unsigned x)) e ∙ kept w

@@ -1,0 +1,78 @@
+-- `copies::copy_charge` meets its contract: the fields handed on are the body's.
+-- The idea: each is read at its place, and the law of copies says the rest.
+use denote.Ref.{now}
+use Rattle.note.specs.Words.{word}
+use Rattle.note.specs.Charge.{chargeKind, chargeOf}
+use Rattle.note.specs.Writers.{chargeWritten}
+use Rattle.demands.proofs.AgainLaws.{charge-again}
+use Rattle.copies.proofs.CopyLaws.{copied, handed}
+use borrow.Author.Needs.{needs}
+use Rattle.copies.proofs.copy_charge.Statement.{statement}
+use Rattle.copies.proofs.copy_charge.Tie as tie
+use Rattle.copies.proofs.copy_charge.Reads as reads
+use Rattle.copies.proofs.copy_charge.Lts as lts
+use Rattle.answers.proofs.signed_at.Reads as signed-at-reads
+use Rattle.writers.proofs.write_charge.Reads as write-charge-reads
+
+signed-at-requires : tie.Need-signed-at-requires
+signed-at-requires c κs = search needs
+
+signed-at-requires-2 : tie.Need-signed-at-requires-2
+signed-at-requires-2 c κs = search needs
+
+signed-at-requires-3 : tie.Need-signed-at-requires-3
+signed-at-requires-3 c κs = search needs
+
+signed-at-requires-4 : tie.Need-signed-at-requires-4
+signed-at-requires-4 c κs = search needs
+
+signed-at-requires-5 : tie.Need-signed-at-requires-5
+signed-at-requires-5 c κs = search needs
+
+signed-at-requires-6 : tie.Need-signed-at-requires-6
+signed-at-requires-6 c κs = search needs
+
+signed-at-requires-7 : tie.Need-signed-at-requires-7
+signed-at-requires-7 c κs = search needs
+
+signed-at-requires-8 : tie.Need-signed-at-requires-8
+signed-at-requires-8 c κs = search needs
+
+write-charge-requires : tie.Need-write-charge-requires
+write-charge-requires c κs = search needs
+
+same-length : tie.Need-same-length
+same-length c = search needs
+
+returns : tie.Need-returns
+unfolding chargeOf
+returns c =
+    let s = c .before .before .before .before .before .before .before .before .before .before .before .before .before .before in
+    let b = now (s .args .body) in
+    copied chargeKind chargeWritten chargeOf charge-again _ _ _ (s .pre .1) _
+    (λ i. record {
+      code = handed (word 0 b) (c .before .before .before .before .before .before .before .before .before .before .signed-at .ensures) i;
+      tower = handed (word 4 b) (c .before .before .before .before .before .before .before .before .before .signed-at2 .ensures) i;
+      gain = handed (word 8 b) (c .before .before .before .before .before .before .before .before .signed-at3 .ensures) i;
+      bias = handed (word 12 b) (c .before .before .before .before .before .before .before .signed-at4 .ensures) i;
+      rtfOffset = handed (word 16 b) (c .before .before .before .before .before .before .signed-at5 .ensures) i;
+      deltaT = handed (word 20 b) (c .before .before .before .before .before .signed-at6 .ensures) i;
+      t0 = handed (word 24 b) (c .before .before .before .before .signed-at7 .ensures) i;
+      traceLength = handed (word 28 b) (c .before .before .before .signed-at8 .ensures) i;
+    }) _ (c .before .before .write-charge .ensures .1)
+
+pub copy-charge-spec : {M : Type 1} → statement M
+copy-charge-spec =
+    tie.close
+    (tie.spec
+    signed-at-requires
+    signed-at-requires-2
+    signed-at-requires-3
+    signed-at-requires-4
+    signed-at-requires-5
+    signed-at-requires-6
+    signed-at-requires-7
+    signed-at-requires-8
+    write-charge-requires
+    same-length
+    returns)

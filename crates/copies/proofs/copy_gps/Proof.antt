@@ -1,0 +1,82 @@
+-- `copies::copy_gps` meets its contract: the fields handed on are the body's.
+-- The idea: each is a part of a word that was read, and the law of copies says the rest.
+use Prim.Native.Nat.{ℕ, _/_}
+use mathlib.Core.Path.{ap, _∙_}
+use Rattle.note.specs.Gps.{decimal, gpsKind, gpsOf}
+use Rattle.note.specs.Writers.{gpsWritten}
+use Rattle.demands.proofs.AgainLaws.{gps-again}
+use Rattle.copies.proofs.CopyLaws.{copied}
+use borrow.Author.Needs.{needs}
+use Rattle.copies.proofs.copy_gps.Statement.{statement}
+use Rattle.copies.proofs.copy_gps.Tie as tie
+use Rattle.copies.proofs.copy_gps.Reads as reads
+use Rattle.copies.proofs.copy_gps.Lts as lts
+use Rattle.fields.proofs.decimal.Reads as decimal-reads
+use Rattle.words.proofs.word_at.Reads as word-at-reads
+use Rattle.writers.proofs.write_gps.Reads as write-gps-reads
+
+word-at-requires : tie.Need-word-at-requires
+word-at-requires c κs = search needs
+
+word-at-requires-2 : tie.Need-word-at-requires-2
+word-at-requires-2 c κs = search needs
+
+decimal-requires : tie.Need-decimal-requires
+decimal-requires c κs = search needs
+
+decimal-requires-2 : tie.Need-decimal-requires-2
+decimal-requires-2 c κs = search needs
+
+decimal-requires-3 : tie.Need-decimal-requires-3
+decimal-requires-3 c κs = search needs
+
+decimal-requires-4 : tie.Need-decimal-requires-4
+decimal-requires-4 c κs = search needs
+
+decimal-requires-5 : tie.Need-decimal-requires-5
+decimal-requires-5 c κs = search needs
+
+word-at-requires-3 : tie.Need-word-at-requires-3
+word-at-requires-3 c κs = search needs
+
+decimal-requires-6 : tie.Need-decimal-requires-6
+decimal-requires-6 c κs = search needs
+
+write-gps-requires : tie.Need-write-gps-requires
+write-gps-requires c κs = search needs
+
+same-length : tie.Need-same-length
+same-length c = search needs
+
+returns : tie.Need-returns
+unfolding gpsOf
+returns c =
+    let date = c .before .before .before .before .before .before .before .before .before .before .before .before .word-at .ensures in
+    let clock = c .before .before .before .before .before .before .before .before .before .before .before .word-at2 .ensures in
+    copied gpsKind gpsWritten gpsOf gps-again _ _ _ (c .before .before .before .before .before .before .before .before .before .before .before .before .before .before .before .pre .1) _
+    (λ i. record {
+      year = (c .before .before .before .before .before .before .before .before .before .decimal .ensures ∙ ap (λ (w : ℕ). decimal 4 (w / 65536)) date) i;
+      day = (c .before .before .before .before .before .before .before .before .decimal2 .ensures ∙ ap (λ (w : ℕ). decimal 4 w) date) i;
+      status = clock i / 268435456;
+      hour = (c .before .before .before .before .before .before .before .decimal3 .ensures ∙ ap (λ (w : ℕ). decimal 2 (w / 65536)) clock) i;
+      minute = (c .before .before .before .before .before .before .decimal4 .ensures ∙ ap (λ (w : ℕ). decimal 2 (w / 256)) clock) i;
+      second = (c .before .before .before .before .before .decimal5 .ensures ∙ ap (λ (w : ℕ). decimal 2 w) clock) i;
+      tenths = (c .before .before .before .decimal6 .ensures ∙ ap (λ (w : ℕ). decimal 8 w) (c .before .before .before .before .word-at3 .ensures)) i;
+    }) _ (c .before .before .write-gps .ensures .1)
+
+pub copy-gps-spec : {M : Type 1} → statement M
+copy-gps-spec =
+    tie.close
+    (tie.spec
+    word-at-requires
+    word-at-requires-2
+    decimal-requires
+    decimal-requires-2
+    decimal-requires-3
+    decimal-requires-4
+    decimal-requires-5
+    word-at-requires-3
+    decimal-requires-6
+    write-gps-requires
+    same-length
+    returns)
