@@ -1,1 +1,2 @@
 pub mod WideLaws
+pub mod WalkerLaws

@@ -1,10 +1,11 @@
 -- A walker for C: its numbers in a lent buffer, any of which are taken, and its yield in lent numbers.
-use Prim.Native.Nat.{ℕ, _%_}
+use Prim.Native.Nat.{ℕ, zero, suc, _%_, _<_}
 use mathlib.Core.List.{List, [], _∷_}
 use lib.ListN.{getD}
 use Rattle.note.specs.declared.WalkerYield.{WalkerYield}
 use Rattle.note.specs.declared.WalkerYield.the-variants.{Row, End, Refused}
 use Rattle.walk.specs.declared.Spot.{Spot}
+use Rattle.walk.specs.Steps.{stepOf, openedOf}
 
 -- The numbers of a spot, and the spot of numbers: those that are 32 bits wide count modulo 2^32.
 unfoldable pub numbersOf : Spot → List ℕ
@@ -29,3 +30,12 @@ unfoldable pub rowAfter : List ℕ → WalkerYield → List ℕ
 rowAfter old (Row kind start whole parent one two) = kind ∷ start ∷ whole ∷ parent ∷ one ∷ two ∷ []
 rowAfter old End = 0 ∷ 0 ∷ 0 ∷ 0 ∷ 0 ∷ 0 ∷ []
 rowAfter old (Refused number place) = old
+
+-- The numbers after opening a file and k steps.
+unfoldable pub walkerAfter : List ℕ → ℕ → List ℕ
+walkerAfter bs zero = numbersOf (openedOf bs)
+walkerAfter bs (suc k) = numbersOf (stepOf bs (spotOf (walkerAfter bs k)))
+
+-- A spot whose 32-bit numbers are such.
+abbrev pub Narrow : Spot → Type 0
+Narrow at = (at .number < 4294967296) × (at .parent < 4294967296) × (at .rows < 4294967296)

@@ -1,0 +1,79 @@
+-- A walker for C goes the walker's way: its numbers carry all that a step asks, so from opening its k-th yield is the table's k-th row,
+-- then the end.
+-- The idea: a step does not ask what was yielded last, and the numbers that are 32 bits wide fit them.
+use mathlib.Core.Path.{_≡_, refl, sym, ap, _∙_}
+use mathlib.Core.Bool.{Bool, true, false, cond, _&&_, and-eq-true-iff}
+use mathlib.Core.List.{List, [], _∷_}
+use Prim.Native.Nat.{ℕ, zero, suc, _+_, _-_, _%_, _≤_, _<_}
+use native.Mathlib.Omega.{arith}
+use lib.Dec.{leb, ltb, eqb}
+use lib.ListN.{length, take, drop}
+use borrow.Author.Tests.{leb-true}
+use Rattle.theory.specs.Words.{Bytes}
+use Rattle.note.specs.Limits.{fileLimit}
+use Rattle.note.specs.Words.{word}
+use Rattle.note.specs.Answers.{givenYield}
+use Rattle.note.specs.Rows.{yieldAt}
+use Rattle.note.specs.declared.WalkerYield.the-variants.{End}
+use Rattle.rows.specs.Values.{hasValues}
+use Rattle.walk.specs.declared.Spot.{Spot}
+use Rattle.walk.specs.Steps.{stands, bodyIn, stayed, ended, headerStep, recordStep, containerStep, usable, stepOf, openedOf, stepsFrom}
+use Rattle.walk.proofs.WalkLaws.{walk-yields, steps-more}
+use Rattle.exports.specs.Walkers.{numbersOf, narrow, spotOf, walkerAfter, Narrow}
+
+-- A step does not ask what was yielded last.
+last-unasked : (bs : List ℕ) (at : Spot) → stepOf bs (ended at) ≡ stepOf bs at
+unfolding stepOf usable stayed headerStep recordStep containerStep
+last-unasked bs at = refl
+
+narrow-is : (n : ℕ) → n < 4294967296 → narrow n ≡ n
+narrow-is n h = omega arith
+
+carried : (at : Spot) → Narrow at → spotOf (numbersOf at) ≡ ended at
+unfolding spotOf numbersOf stayed
+carried at h = rw (narrow-is (at .number) (h .0), narrow-is (at .parent) (h .1), narrow-is (at .rows) (h .2))
+
+-- What holds of both ways of a test, where it was taken and where not.
+both : (P : Spot → Type 0) (b : Bool) (x y : Spot) → (b ≡ true → P x) → P y → P (cond b x y)
+both P true x y f g = f refl
+both P false x y f g = g
+
+-- A step's numbers fit.
+step-narrow : (bs : List ℕ) (at : Spot) → Narrow at → Narrow (stepOf bs at)
+unfolding stepOf usable stayed headerStep recordStep containerStep
+step-narrow bs at h =
+    both Narrow (eqb (at .number) 0) _ _ (λ z.
+    both Narrow (leb (length bs) fileLimit && (leb (at .rows) fileLimit && (leb (at .end) (length bs) && leb (at .place) (length bs)))) _ _ (λ u.
+    let rest : leb (at .rows) fileLimit && (leb (at .end) (length bs) && leb (at .place) (length bs)) ≡ true = and-eq-true-iff (leb (length bs) fileLimit) _ .0 u .1 in
+    let r : at .rows ≤ fileLimit = leb-true (at .rows) fileLimit (and-eq-true-iff (leb (at .rows) fileLimit) _ .0 rest .0) in
+    both Narrow (eqb (at .place) 0) _ _ (λ p. both Narrow (leb 8 (length bs)) _ _ (λ l. (h .0, omega arith, omega (arith, r))) h)
+    (both Narrow (ltb (at .place) (at .end)) _ _
+    (λ i. both Narrow (stands (take (at .end - at .place) (drop (at .place) bs))) _ _
+    (λ s. both Narrow (hasValues (word 0 (take (at .end - at .place) (drop (at .place) bs))) (bodyIn (take (at .end - at .place) (drop (at .place) bs)))) _ _
+    (λ v. (h .0, h .1, omega (arith, r))) h) h)
+    (both Narrow (stands (drop (at .place) bs)) _ _ (λ s. (h .0, omega (arith, r), omega (arith, r))) h))) h) h
+
+steps-narrow : (bs : List ℕ) (k : ℕ) (at : Spot) → Narrow at → Narrow (stepsFrom bs k at)
+unfolding stepsFrom
+steps-narrow bs zero at h = h
+steps-narrow bs (suc k) at h = steps-narrow bs k (stepOf bs at) (step-narrow bs at h)
+
+-- The numbers after opening and k steps are those of the walk.
+numbers-follow : (bs : List ℕ) → Narrow (openedOf bs) → (k : ℕ) → walkerAfter bs k ≡ numbersOf (stepsFrom bs k (openedOf bs))
+unfolding walkerAfter stepsFrom
+numbers-follow bs h zero = refl
+numbers-follow bs h (suc k) =
+    let at : Spot = stepsFrom bs k (openedOf bs) in
+    ap (λ (ns : List ℕ). numbersOf (stepOf bs (spotOf ns))) (numbers-follow bs h k)
+    ∙ ap (λ (x : Spot). numbersOf (stepOf bs x)) (carried at (steps-narrow bs k (openedOf bs) h))
+    ∙ ap numbersOf (last-unasked bs at ∙ steps-more bs k (openedOf bs))
+
+-- The C walker's theorem: what dwj_next tells after opening and k calls before it is the definition's yield with the number k + 1. That
+-- the first numbers fit 32 bits is what the types of dwj_open's spot say.
+pub c-walker-yields : (bs : List ℕ) → Bytes bs → Narrow (openedOf bs) → (k : ℕ) → givenYield (stepOf bs (spotOf (walkerAfter bs k)) .last) ≡ yieldAt bs (suc k)
+c-walker-yields bs b h k =
+    let at : Spot = stepsFrom bs k (openedOf bs) in
+    ap (λ (ns : List ℕ). givenYield (stepOf bs (spotOf ns) .last)) (numbers-follow bs h k)
+    ∙ ap (λ (x : Spot). givenYield (stepOf bs x .last)) (carried at (steps-narrow bs k (openedOf bs) h))
+    ∙ ap (λ (x : Spot). givenYield (x .last)) (last-unasked bs at ∙ steps-more bs k (openedOf bs))
+    ∙ walk-yields bs (suc k) b
