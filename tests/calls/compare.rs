@@ -10,7 +10,7 @@ use super::answers;
 use super::files::likely_start;
 use super::interface;
 use super::random::Random;
-use super::reader::{self, table, table_within, Table};
+use super::reader::{self, table, table_within, Row, Table};
 use super::tally::Tally;
 
 /// A call whose two answers differ.
@@ -21,11 +21,11 @@ pub struct Difference {
 }
 
 /// Numbers before and after each lent part that are not lent.
-const MARGIN: usize = 8;
+pub const MARGIN: usize = 8;
 /// How much of a file is searched for likely starts.
 const SEARCHED: usize = 4_096;
 /// Places that no file has, some of them near the edge of a width.
-const FAR_PLACES: [u64; 10] = [
+pub const FAR_PLACES: [u64; 10] = [
     0x7FFF_FFFF,
     0x8000_0000,
     0xFFFF_FFF8,
@@ -66,6 +66,8 @@ struct SettingLeft {
 pub struct Comparison {
     pub random: Random,
     pub tally: Tally,
+    /// Where a walk over an earlier file stood.
+    pub earlier_walker: [u64; 6],
     around: Vec<u8>,
     rows: Vec<u32>,
     rows_after: Vec<u32>,
@@ -110,8 +112,8 @@ impl SettingLeft {
     }
 }
 
-// A lent part in words, and whether a number beside it has changed.
-fn part_shown<T: PartialEq + Debug>(left: &[T], before: &[T]) -> String {
+/// A lent part in words, and whether a number beside it has changed.
+pub fn part_shown<T: PartialEq + Debug>(left: &[T], before: &[T]) -> String {
     let lent = MARGIN..left.len() - MARGIN;
     let mut text = if left[lent.clone()] == before[lent.clone()] {
         String::from("as they were")
@@ -128,8 +130,8 @@ fn part_shown<T: PartialEq + Debug>(left: &[T], before: &[T]) -> String {
     text
 }
 
-// A refusal's place in words.
-fn place_shown(left: u64, before: u64) -> String {
+/// A refusal's place in words.
+pub fn place_shown(left: u64, before: u64) -> String {
     if left == before {
         String::from("as it was")
     } else {
@@ -142,8 +144,8 @@ fn patterned(pattern: u64, place: usize) -> u64 {
     pattern.wrapping_add((place as u64).wrapping_mul(0x9E37_79B9_7F4A_7C15))
 }
 
-// An array of the pattern's numbers.
-fn pattern_array<const N: usize>(pattern: u64) -> [i64; N] {
+/// An array of the pattern's numbers.
+pub fn pattern_array<const N: usize>(pattern: u64) -> [i64; N] {
     let mut all = [0; N];
     for (place, value) in all.iter_mut().enumerate() {
         *value = patterned(pattern, place) as i64;
@@ -151,8 +153,8 @@ fn pattern_array<const N: usize>(pattern: u64) -> [i64; N] {
     all
 }
 
-// The part of an array between its margins.
-fn lent<T, const N: usize>(all: &mut [T]) -> &mut [T; N] {
+/// The part of an array between its margins.
+pub fn lent<T, const N: usize>(all: &mut [T]) -> &mut [T; N] {
     (&mut all[MARGIN..MARGIN + N])
         .try_into()
         .expect("a part between margins")
@@ -164,6 +166,7 @@ impl Comparison {
         Comparison {
             random: Random::new(seed),
             tally: Tally::default(),
+            earlier_walker: [0; 6],
             around: Vec::new(),
             rows: Vec::new(),
             rows_after: Vec::new(),
@@ -211,7 +214,9 @@ impl Comparison {
                 self.setting(file, place)?;
             }
         }
-        Ok(())
+        self.walk(file)?;
+        self.visits(file, &expected)?;
+        self.finds(file, &expected)
     }
 
     // How many numbers to lend for rows: enough, exactly enough, too few; refused whatever they are.
@@ -259,19 +264,8 @@ impl Comparison {
     fn table(&mut self, file: File, capacity: usize) -> Result<(), Difference> {
         let expected = table_within(file.copy, capacity as u64);
         let pattern = self.random.draw();
-        let numbers = 0..capacity + 2 * MARGIN;
-        self.rows.clear();
-        self.rows
-            .extend(numbers.map(|place| patterned(pattern, place) as u32));
-        self.rows_after.clear();
-        self.rows_after.extend_from_slice(&self.rows);
-        let room = &mut self.rows_after[MARGIN..];
-        for (row, held) in expected.rows.iter().zip(room.chunks_exact_mut(6)) {
-            held.copy_from_slice(row);
-        }
-
         let (mut count, mut place) = (pattern, !pattern);
-        let room = &mut self.rows[MARGIN..MARGIN + capacity];
+        let room = self.row_buffer(pattern, capacity, &expected.rows);
         let number = interface::table(file.lent, room, &mut count, &mut place);
         let call = || format!("dwj_table with room for {capacity} numbers");
         alike(
@@ -279,14 +273,36 @@ impl Comparison {
             &(number, count, place),
             || call() + ": number, count, place",
         )?;
-        if self.rows != self.rows_after {
-            return Err(self.rows_difference(call()));
-        }
+        self.row_buffer_alike(call)?;
         self.tally.table.numbers[number as usize] += 1;
         for row in &expected.rows {
             self.tally.table.kinds[row[0] as usize] += 1;
         }
         Ok(())
+    }
+
+    /// The part that is lent for rows, amid the pattern; and, put by, what it is to be afterwards.
+    pub fn row_buffer(&mut self, pattern: u64, capacity: usize, rows: &[Row]) -> &mut [u32] {
+        let numbers = 0..capacity + 2 * MARGIN;
+        self.rows.clear();
+        self.rows
+            .extend(numbers.map(|place| patterned(pattern, place) as u32));
+        self.rows_after.clear();
+        self.rows_after.extend_from_slice(&self.rows);
+        let room = &mut self.rows_after[MARGIN..];
+        for (row, held) in rows.iter().zip(room.chunks_exact_mut(6)) {
+            held.copy_from_slice(row);
+        }
+        &mut self.rows[MARGIN..MARGIN + capacity]
+    }
+
+    /// The lent rows, and the pattern around them, are what they are to be.
+    pub fn row_buffer_alike(&self, call: impl FnOnce() -> String) -> Result<(), Difference> {
+        if self.rows == self.rows_after {
+            Ok(())
+        } else {
+            Err(self.rows_difference(call()))
+        }
     }
 
     // The first row that differs, or the first number outside the rows.

@@ -40,6 +40,37 @@ extern "C" {
         value: *mut u32,
         refused_at: *mut u64,
     ) -> u32;
+    fn dwj_find(
+        file: *const u8,
+        file_length: usize,
+        number: u32,
+        code: u32,
+        place: *mut u64,
+        refused_at: *mut u64,
+    ) -> u32;
+    fn dwj_open(
+        file: *const u8,
+        file_length: usize,
+        walker: *mut u64,
+        row: *mut u32,
+        refused_at: *mut u64,
+    ) -> u32;
+    fn dwj_next(
+        file: *const u8,
+        file_length: usize,
+        walker: *mut u64,
+        row: *mut u32,
+        refused_at: *mut u64,
+    ) -> u32;
+    fn dwj_visit(
+        file: *const u8,
+        file_length: usize,
+        first: usize,
+        rows: *mut u32,
+        rows_length: usize,
+        count: *mut u64,
+        place: *mut u64,
+    ) -> u32;
     fn dwj_channel(code: u32, numbers: *mut u32, analysis: *mut u8, cold: *mut u8) -> u32;
     fn dwj_code(
         detector_type: u32,
@@ -113,6 +144,52 @@ pub fn sample(
     refused_at: &mut u64,
 ) -> u32 {
     unsafe { dwj_sample(file.as_ptr(), file.len(), place, number, value, refused_at) }
+}
+
+/// Find: 0 with the first trace's place, or 0 for none; or a refusal's number with its place.
+pub fn find(file: &[u8], number: u32, code: u32, place: &mut u64, refused_at: &mut u64) -> u32 {
+    unsafe { dwj_find(file.as_ptr(), file.len(), number, code, place, refused_at) }
+}
+
+/// Open: 0 with a walker's numbers and the first row, or a refusal's number with its place.
+pub fn open(file: &[u8], walker: &mut [u64; 6], row: &mut [u32; 6], refused_at: &mut u64) -> u32 {
+    unsafe {
+        dwj_open(
+            file.as_ptr(),
+            file.len(),
+            walker.as_mut_ptr(),
+            row.as_mut_ptr(),
+            refused_at,
+        )
+    }
+}
+
+/// Next: 0 with the next row, zeros at the end; or a refusal's number with its place.
+pub fn next(file: &[u8], walker: &mut [u64; 6], row: &mut [u32; 6], refused_at: &mut u64) -> u32 {
+    unsafe {
+        dwj_next(
+            file.as_ptr(),
+            file.len(),
+            walker.as_mut_ptr(),
+            row.as_mut_ptr(),
+            refused_at,
+        )
+    }
+}
+
+/// Visit: the number; count and place are always written, the rows from one on under 0 only.
+pub fn visit(file: &[u8], first: usize, rows: &mut [u32], count: &mut u64, place: &mut u64) -> u32 {
+    unsafe {
+        dwj_visit(
+            file.as_ptr(),
+            file.len(),
+            first,
+            rows.as_mut_ptr(),
+            rows.len(),
+            count,
+            place,
+        )
+    }
 }
 
 /// A code's type, number and lengths of its names, and the names; or 10.

@@ -15,6 +15,7 @@ mod compare;
 #[allow(dead_code)]
 #[path = "../outside/files.rs"]
 mod files;
+mod finds;
 mod interface;
 mod large;
 #[allow(dead_code)]
@@ -24,6 +25,8 @@ mod random;
 #[path = "../outside/reader.rs"]
 mod reader;
 mod tally;
+mod visits;
+mod walks;
 
 use std::fmt::Write;
 use std::process::ExitCode;
@@ -38,6 +41,8 @@ const DEFAULT_COUNT: u64 = 200_000;
 /// How many files over the limit, and by how much at most.
 const OVER_LIMIT: usize = 64;
 const MOST_OVER: usize = 4_096;
+/// One random file in so many has events that come again.
+const REPEATING: u64 = 16;
 /// A file longer than this is shown by its first bytes.
 const SHOWN_WHOLE: usize = 65_536;
 const SHOWN: usize = 512;
@@ -110,7 +115,10 @@ fn run(comparison: &mut Comparison, count: u64) -> Result<u64, String> {
     files += over_limit(comparison)?;
     let names = channels::names();
     while files < count {
-        let bytes = files::random_file(&mut comparison.random);
+        let bytes = match comparison.random.below(REPEATING) {
+            0 => finds::repeating(&mut comparison.random),
+            _ => files::random_file(&mut comparison.random),
+        };
         let compared = comparison
             .file(&bytes)
             .and_then(|()| channels::some(comparison, &names));

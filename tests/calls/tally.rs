@@ -6,11 +6,16 @@ use std::fmt::Write;
 const LEAST: u64 = 100;
 const LEAST_OVER_LIMIT: u64 = 20;
 
-/// The numbers that Record and Setting can give; Table can give all of them.
-const RECORD_NUMBERS: [usize; 6] = [1, 2, 5, 6, 10, 11];
-/// The row kinds of entries and records, and of entries alone.
-const RECORD_KINDS: [usize; 8] = [3, 4, 6, 7, 8, 9, 10, 11];
-const ENTRY_KINDS: [usize; 2] = [3, 4];
+/// The numbers that Table can give, that a call over a whole file can, and that Record, Setting
+/// and Sample can.
+const TABLE_NUMBERS: &[usize] = &[0, 1, 2, 3, 4, 5, 6, 7, 8, 9, 10, 11, 12];
+const FILE_NUMBERS: &[usize] = &[0, 1, 2, 3, 4, 5, 6, 7, 8, 9, 10, 11];
+const RECORD_NUMBERS: &[usize] = &[0, 1, 2, 5, 6, 10, 11];
+/// The row kinds of a file, those after the header's, those of entries and records, and of entries.
+const FILE_KINDS: &[usize] = &[1, 2, 3, 4, 5, 6, 7, 8, 9, 10, 11];
+const LATER_KINDS: &[usize] = &[2, 3, 4, 5, 6, 7, 8, 9, 10, 11];
+const RECORD_KINDS: &[usize] = &[3, 4, 6, 7, 8, 9, 10, 11];
+const ENTRY_KINDS: &[usize] = &[3, 4];
 
 const NUMBER_NAMES: [&str; 13] = [
     "accepted",
@@ -56,84 +61,121 @@ pub struct Tally {
     pub record: Answers,
     pub setting: Answers,
     pub sample: Answers,
+    pub find: Answers,
+    pub open: Answers,
+    pub next: Answers,
+    pub visit: Answers,
+    /// Traces found: the only one, the first of several in its event, one that another event has
+    /// too; and none.
+    pub found: [u64; 4],
+    /// Walkers' answers at the end.
+    pub ends: u64,
+    /// Visits from past the last row.
+    pub nothing_left: u64,
+    /// Rows, ends and refusals from numbers that no walker need have.
+    pub any_numbers: [u64; 3],
     pub samples: [u64; 2],
     pub channel: [u64; 2],
     pub code: [u64; 2],
     pub zip: [u64; 2],
 }
 
+/// A call whose answers have numbers: its name, its answers, the numbers and kinds that it can give.
+type Numbered<'a> = (&'a str, &'a Answers, &'a [usize], &'a [usize]);
+
 impl Tally {
+    fn numbered(&self) -> [Numbered<'_>; 8] {
+        [
+            ("Table", &self.table, TABLE_NUMBERS, FILE_KINDS),
+            ("Record", &self.record, RECORD_NUMBERS, RECORD_KINDS),
+            ("Setting", &self.setting, RECORD_NUMBERS, ENTRY_KINDS),
+            ("Sample", &self.sample, RECORD_NUMBERS, &[]),
+            ("Find", &self.find, FILE_NUMBERS, &[]),
+            ("Open", &self.open, FILE_NUMBERS, &[1]),
+            ("Next", &self.next, FILE_NUMBERS, LATER_KINDS),
+            ("Visit", &self.visit, FILE_NUMBERS, FILE_KINDS),
+        ]
+    }
+
+    // The calls and answers that have no column: what each is, and how often it occurred.
+    fn others(&self) -> [(&'static str, &[u64]); 8] {
+        [
+            (
+                "Find: the only one, of several in an event, of several events', none",
+                &self.found,
+            ),
+            ("Next: ends", std::slice::from_ref(&self.ends)),
+            (
+                "Visit: from past the last row",
+                std::slice::from_ref(&self.nothing_left),
+            ),
+            (
+                "Next from any numbers: rows, ends, refusals",
+                &self.any_numbers,
+            ),
+            ("Samples: some, none", &self.samples),
+            ("Channel: given, refused", &self.channel),
+            ("Code: given, refused", &self.code),
+            ("ZIP: set, not set", &self.zip),
+        ]
+    }
+
     /// How many calls were compared.
     pub fn calls(&self) -> u64 {
-        let by_number = [&self.table, &self.record, &self.setting, &self.sample];
-        let large: u64 = by_number.iter().flat_map(|call| call.numbers).sum();
+        let numbered = self.numbered();
+        let large: u64 = numbered.iter().flat_map(|call| call.1.numbers).sum();
         let small = [self.samples, self.channel, self.code, self.zip];
-        large + small.iter().flatten().sum::<u64>()
+        let twice = 2 * self.any_numbers.iter().sum::<u64>();
+        large + twice + small.iter().flatten().sum::<u64>()
     }
 
     /// The counts as lines of text.
     pub fn lines(&self) -> String {
-        let mut text = format!(
-            "{:>32}{:>12}{:>12}{:>12}{:>12}\n",
-            "", "Table", "Record", "Setting", "Sample"
-        );
-        let by_number = [&self.table, &self.record, &self.setting, &self.sample];
+        let numbered = self.numbered();
+        let mut text = format!("{:>32}", "");
+        for (name, ..) in numbered {
+            let _ = write!(text, "{name:>9}");
+        }
+        text.push('\n');
         for (number, name) in NUMBER_NAMES.iter().enumerate() {
-            let times = by_number.map(|call| call.numbers[number]);
+            let times = numbered.map(|call| call.1.numbers[number]);
             text.push_str(&line("number", number, name, times));
         }
         for (kind, name) in KIND_NAMES.iter().enumerate().skip(1) {
-            let times = by_number.map(|call| call.kinds[kind]);
+            let times = numbered.map(|call| call.1.kinds[kind]);
             text.push_str(&line("kind", kind, name, times));
         }
-        let _ = writeln!(
-            text,
-            "samples {} times, none {} times; channels {} given, {} refused; codes {} given, {} refused; ZIPs {} set, {} not",
-            self.samples[0], self.samples[1], self.channel[0], self.channel[1], self.code[0], self.code[1], self.zip[0], self.zip[1]
-        );
+        for (what, times) in self.others() {
+            let _ = writeln!(text, "{what}: {}", listed(times));
+        }
         text
     }
 
     /// What occurred too seldom for the run to say much.
     pub fn too_seldom(&self) -> Vec<String> {
         let mut found = Vec::new();
-        let calls = [
-            ("Table", &self.table),
-            ("Record", &self.record),
-            ("Setting", &self.setting),
-            ("Sample", &self.sample),
-        ];
-        for (call, answers) in calls {
-            for (number, times) in answers.numbers.iter().enumerate() {
-                let can = call == "Table" || number == 0 || RECORD_NUMBERS.contains(&number);
-                let least = if number == 1 { LEAST_OVER_LIMIT } else { LEAST };
-                if can && *times < least {
+        for (call, answers, numbers, kinds) in self.numbered() {
+            for number in numbers {
+                let times = answers.numbers[*number];
+                let least = if *number == 1 {
+                    LEAST_OVER_LIMIT
+                } else {
+                    LEAST
+                };
+                if times < least {
                     found.push(format!("{call} gave number {number} {times} times"));
                 }
             }
-            for (kind, times) in answers.kinds.iter().enumerate().skip(1) {
-                let can = match call {
-                    "Table" => true,
-                    "Record" => RECORD_KINDS.contains(&kind),
-                    "Setting" => ENTRY_KINDS.contains(&kind),
-                    _ => false,
-                };
-                if can && *times < LEAST {
+            for kind in kinds {
+                let times = answers.kinds[*kind];
+                if times < LEAST {
                     found.push(format!("{call} gave kind {kind} {times} times"));
                 }
             }
         }
-        for (call, times) in [
-            ("samples", self.samples),
-            ("channel", self.channel),
-            ("code", self.code),
-            ("ZIP", self.zip),
-        ] {
-            if times[0] < LEAST || times[1] < LEAST {
-                found.push(format!(
-                    "{call}: {} given, {} not or refused",
-                    times[0], times[1]
-                ));
+        for (what, times) in self.others() {
+            if times.iter().any(|times| *times < LEAST) {
+                found.push(format!("{what}: {}", listed(times)));
             }
         }
         found
@@ -141,9 +183,17 @@ impl Tally {
 }
 
 // One line of counts, a call to a column.
-fn line(what: &str, number: usize, name: &str, times: [u64; 4]) -> String {
-    format!(
-        "{what:<7}{number:>2} {name:<22}{:>12}{:>12}{:>12}{:>12}\n",
-        times[0], times[1], times[2], times[3]
-    )
+fn line(what: &str, number: usize, name: &str, times: [u64; 8]) -> String {
+    let mut text = format!("{what:<7}{number:>2} {name:<22}");
+    for times in times {
+        let _ = write!(text, "{times:>9}");
+    }
+    text.push('\n');
+    text
+}
+
+// Counts with commas between them.
+fn listed(times: &[u64]) -> String {
+    let texts: Vec<String> = times.iter().map(u64::to_string).collect();
+    texts.join(", ")
 }
