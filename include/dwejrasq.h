@@ -80,9 +80,10 @@ uint32_t dwj_sample(const uint8_t *file, size_t file_length, size_t place, size_
 uint32_t dwj_find(const uint8_t *file, size_t file_length, uint32_t number, uint32_t code, uint64_t *place, uint64_t *refused_at);
 
 /* Walker: a file's rows one at a time. walker is its numbers; only dwj_open and dwj_next give meaningful ones, and any others are safe:
- * the call ends with some row of the file, or at the end. dwj_open checks the whole file once and gives the first row; dwj_next gives
- * the next one. On 0 row is the row, or zeros at the end (no row has kind 0), again and again; *refused_at is unchanged. Over a refused
- * file each call gives its refusal: row is unchanged and *refused_at is its place. The file must be the same in each call.
+ * the call ends, with a row that lies in the file, at the end, or with the refusal that the numbers name. dwj_open checks the whole file
+ * once and gives the first row; dwj_next gives the next one. On 0 row is the row, or zeros at the end (no row has kind 0), again and
+ * again; *refused_at is unchanged. Over a refused file each call gives its refusal: row is unchanged and *refused_at is its place. The
+ * file must be the same in each call.
  */
 uint32_t dwj_open(const uint8_t *file, size_t file_length, uint64_t walker[6], uint32_t row[6], uint64_t *refused_at);
 uint32_t dwj_next(const uint8_t *file, size_t file_length, uint64_t walker[6], uint32_t row[6], uint64_t *refused_at);

@@ -12,6 +12,8 @@ const CHANNELS: u32 = 12;
 const AROUND_TRACES: usize = 40;
 const AROUND_SAMPLES: usize = 56;
 const BEFORE_EVENTS: usize = 16;
+/// Where an event has its number: in the administrative record, which comes first.
+const NUMBER_AT: usize = 24;
 
 // The administrative record of P14.
 fn administrative() -> Vec<u8> {
@@ -32,13 +34,14 @@ pub fn most_events(n: u32) -> usize {
     (MOST_BYTES - BEFORE_EVENTS) / one
 }
 
-/// So many events, each with twelve traces of so many samples.
+/// So many events, numbered from 1, each with twelve traces of so many samples.
 pub fn events_with_traces(events: usize, n: u32) -> Vec<u8> {
     let mut records = vec![administrative()];
     records.extend((0..CHANNELS).map(|channel| trace(channel, n)));
-    let one = event(EVENT, &records);
+    let mut one = event(EVENT, &records);
     let mut bytes = [header(), configuration(&[])].concat();
-    for _ in 0..events {
+    for number in 1..=events as u32 {
+        set_word(&mut one, NUMBER_AT, number);
         bytes.extend_from_slice(&one);
     }
     bytes
@@ -58,9 +61,11 @@ pub fn small_file() -> Vec<u8> {
         full[found[1] as usize..(found[1] + found[2]) as usize].to_vec()
     };
     let mut bytes = [header(), configuration(&[part(3), part(4)])].concat();
-    for n in [362, 364] {
+    for (number, n) in [(1, 362), (2, 364)] {
         let records = [part(6), trace(6, n), part(8), part(9), part(10), part(11)];
-        bytes.extend(structure(EVENT, &records.concat()));
+        let mut one = structure(EVENT, &records.concat());
+        set_word(&mut one, NUMBER_AT, number);
+        bytes.extend(one);
     }
     bytes
 }

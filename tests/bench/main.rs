@@ -1,5 +1,5 @@
-//! bench: Table and Record through the exports, against the outside implementation and a loop in C
-//! that only follows the length words. All three in one run, on the same bytes, each at its best.
+//! bench: Table, Record and Find through the exports, against the outside implementation and a loop
+//! in C that only follows the length words. All sides in one run, on the same bytes, each at its best.
 //!
 //! Table: the exports fill a row buffer that is made once, before the clock starts, and whose pages
 //! have been touched. The outside implementation has no such call: its `table` is timed as it is,
@@ -8,6 +8,11 @@
 //!
 //! Record: one call for each entry and record of the file, at its place. The exports write twelve
 //! numbers into a lent array, the outside implementation gives back its enum, C adds two words.
+//!
+//! Find: the last trace of the file, and a code that no trace has, in the last event.
+//!
+//! Visit and the walker give Table's rows, so they are timed against Table through the exports: one
+//! visit with room for all rows, and a walk from opening to the end, a call to a row.
 //!
 //! No buffer is cleared between calls.
 
@@ -48,13 +53,11 @@ extern "C" {
 const ROUNDS: usize = 40;
 const LEAST_SECONDS: f64 = 0.002;
 
-/// The best times of the three sides, in nanoseconds for one file.
-struct Times {
-    exports: f64,
-    outside: f64,
-    floor: f64,
-}
-
+/// What is aimed at: Find against the outside implementation, Visit against Table.
+const FIND_GOAL: f64 = 1.5;
+const VISIT_GOAL: f64 = 1.5;
+/// A code that names no channel.
+const NO_CODE: u32 = 0;
 /// The row kinds of entries and records.
 const RECORD_KINDS: [u32; 8] = [3, 4, 6, 7, 8, 9, 10, 11];
 
@@ -64,12 +67,11 @@ fn opaque<T>(value: T) -> T {
     value
 }
 
-// The three sides in turn, round by round; the best of each. A short run is repeated until the clock
-// can tell.
-fn best(mut exports: impl FnMut(), mut outside: impl FnMut(), mut floor: impl FnMut()) -> Times {
-    let sides: [&mut dyn FnMut(); 3] = [&mut exports, &mut outside, &mut floor];
-    let mut repeats = [1usize; 3];
-    let mut best = [f64::INFINITY; 3];
+// The sides in turn, round by round; the best of each, in nanoseconds. A short run is repeated until
+// the clock can tell.
+fn best<const N: usize>(mut sides: [&mut dyn FnMut(); N]) -> [f64; N] {
+    let mut repeats = [1usize; N];
+    let mut best = [f64::INFINITY; N];
     let mut once = |side: usize, repeats: usize| {
         let started = Instant::now();
         for _ in 0..repeats {
@@ -88,15 +90,11 @@ fn best(mut exports: impl FnMut(), mut outside: impl FnMut(), mut floor: impl Fn
             *best = best.min(each);
         }
     }
-    Times {
-        exports: best[0],
-        outside: best[1],
-        floor: best[2],
-    }
+    best
 }
 
 // Table of a file; the three sides are first seen to agree.
-fn time_table(file: &[u8]) -> Times {
+fn time_table(file: &[u8]) -> [f64; 3] {
     let expected = reader::table(file);
     assert_eq!(expected.number, 0, "the file is accepted");
     let mut rows = vec![u32::MAX; 6 * expected.rows.len()];
@@ -108,23 +106,23 @@ fn time_table(file: &[u8]) -> Times {
     assert!(rows_agree, "the rows agree");
     let structures = unsafe { floor_table(file.as_ptr(), file.len()) };
     assert_eq!(structures, count, "C finds every structure");
-    best(
-        || {
+    best([
+        &mut || {
             let number = interface::table(opaque(file), &mut rows, &mut count, &mut place);
             opaque(number);
         },
-        || {
+        &mut || {
             opaque(reader::table(opaque(file)));
         },
-        || {
+        &mut || {
             let file = opaque(file);
             opaque(unsafe { floor_table(file.as_ptr(), file.len()) });
         },
-    )
+    ])
 }
 
 // Record at the place of every entry and record of a file.
-fn time_records(file: &[u8]) -> Times {
+fn time_records(file: &[u8]) -> [f64; 3] {
     let rows = reader::table(file).rows;
     let records = rows.iter().filter(|row| RECORD_KINDS.contains(&row[0]));
     let places: Vec<usize> = records.map(|row| row[1] as usize).collect();
@@ -135,8 +133,8 @@ fn time_records(file: &[u8]) -> Times {
         let expected = reader::record(file, *place as u64).map(|found| reader::row_kind(&found));
         assert_eq!((number, Ok(values[0] as u32)), (0, expected));
     }
-    best(
-        || {
+    best([
+        &mut || {
             for place in &places {
                 let file = opaque(file);
                 opaque(interface::record(
@@ -147,37 +145,114 @@ fn time_records(file: &[u8]) -> Times {
                 ));
             }
         },
-        || {
+        &mut || {
             for place in &places {
                 opaque(reader::record(opaque(file), *place as u64)).ok();
             }
         },
-        || {
+        &mut || {
             for place in &places {
                 let file = opaque(file);
                 opaque(unsafe { floor_record(file.as_ptr(), *place) });
             }
         },
-    )
+    ])
 }
 
-// A line of times, with what was aimed at.
-fn print_times(call: &str, times: &Times, goal: Option<f64>) {
-    let to_outside = times.exports / times.outside;
-    let to_floor = times.exports / times.floor;
-    let judged = match goal {
-        Some(goal) if to_outside <= goal => format!("   goal <= {goal} x Rust: met"),
-        Some(goal) => format!("   goal <= {goal} x Rust: MISSED"),
+// Find, by an event's number and a code; the two sides are first seen to agree.
+fn time_find(file: &[u8], number: u32, code: u32) -> [f64; 2] {
+    let (mut place, mut refused_at) = (0, 0);
+    let answer = interface::find(file, number, code, &mut place, &mut refused_at);
+    let found = Some(place).filter(|place| *place > 0);
+    assert_eq!((answer, Ok(found)), (0, reader::find(file, number, code)));
+    best([
+        &mut || {
+            let file = opaque(file);
+            let answer = interface::find(file, number, code, &mut place, &mut refused_at);
+            opaque(answer);
+        },
+        &mut || {
+            opaque(reader::find(opaque(file), number, code)).ok();
+        },
+    ])
+}
+
+// A whole walk: a row for each call; gives how many there were.
+fn walk(file: &[u8], row: &mut [u32; 6]) -> u64 {
+    let (mut walker, mut refused_at) = ([0; 6], 0);
+    let mut rows = 0;
+    interface::open(file, &mut walker, row, &mut refused_at);
+    while row[0] != 0 {
+        rows += 1;
+        interface::next(file, &mut walker, row, &mut refused_at);
+    }
+    rows
+}
+
+// All rows by one visit, by Table and by a walker; the three are first seen to agree.
+fn time_rows(file: &[u8]) -> [f64; 3] {
+    let expected = reader::table(file).rows;
+    let mut rows = vec![u32::MAX; 6 * expected.len()];
+    let mut row = [0; 6];
+    let (mut count, mut place) = (0, 0);
+    let number = interface::visit(file, 0, &mut rows, &mut count, &mut place);
+    assert_eq!((number, count), (0, expected.len() as u64));
+    let rows_agree = rows.chunks_exact(6).eq(expected.iter());
+    assert!(rows_agree, "the rows agree");
+    assert_eq!(walk(file, &mut row), count, "a walk has every row");
+    let mut table_rows = rows.clone();
+    let (mut table_count, mut table_place) = (0, 0);
+    best([
+        &mut || {
+            let number = interface::visit(opaque(file), 0, &mut rows, &mut count, &mut place);
+            opaque(number);
+        },
+        &mut || {
+            let (count, place) = (&mut table_count, &mut table_place);
+            let number = interface::table(opaque(file), &mut table_rows, count, place);
+            opaque(number);
+        },
+        &mut || {
+            opaque(walk(opaque(file), &mut row));
+        },
+    ])
+}
+
+// What was aimed at, and whether it was reached.
+fn judged(ratio: f64, goal: Option<f64>, against: &str) -> String {
+    match goal {
+        Some(goal) if ratio <= goal => format!("   goal <= {goal} x {against}: met"),
+        Some(goal) => format!("   goal <= {goal} x {against}: MISSED"),
         None => String::new(),
+    }
+}
+
+// A line of times against the outside implementation, and against C where there is such a loop.
+fn print_times(call: &str, times: &[f64], goal: Option<f64>) {
+    let ratio = times[0] / times[1];
+    let floor = match times.get(2) {
+        Some(floor) => [format!("{floor:.0}"), format!("{:.2}", times[0] / floor)],
+        None => ["", ""].map(String::from),
     };
     println!(
-        "  {call:<8}{:>14.0}{:>14.0}{:>14.0}{to_outside:>14.2}{to_floor:>14.2}{judged}",
-        times.exports, times.outside, times.floor
+        "  {call:<10}{:>14.0}{:>14.0}{:>14}{ratio:>14.2}{:>14}{}",
+        times[0],
+        times[1],
+        floor[0],
+        floor[1],
+        judged(ratio, goal, "Rust")
     );
 }
 
-// A file's size and shape, then Table and Record on it.
-fn print_case(name: &str, file: &[u8], goal: Option<f64>) -> [Times; 2] {
+// A line of times of a call that gives Table's rows, against Table.
+fn print_against_table(call: &str, time: f64, table: f64, goal: Option<f64>) {
+    let ratio = time / table;
+    let judged = judged(ratio, goal, "Table");
+    println!("  {call:<10}{time:>14.0}   {ratio:.2} x Table{judged}");
+}
+
+// A file's size and shape, then Table, Record and Find on it, a visit and a walk.
+fn print_case(name: &str, file: &[u8], goal: Option<f64>) -> [[f64; 3]; 2] {
     let rows = reader::table(file).rows;
     let of_kind = |kind: u32| rows.iter().filter(|row| row[0] == kind).count();
     println!(
@@ -188,12 +263,29 @@ fn print_case(name: &str, file: &[u8], goal: Option<f64>) -> [Times; 2] {
         rows.len()
     );
     println!(
-        "  {:<8}{:>14}{:>14}{:>14}{:>14}{:>14}",
+        "  {:<10}{:>14}{:>14}{:>14}{:>14}{:>14}",
         "ns/file", "exports", "Rust", "C floor", "exports/Rust", "exports/C"
     );
     let times = [time_table(file), time_records(file)];
     print_times("Table", &times[0], goal);
     print_times("Record", &times[1], goal);
+    let last = |kind: u32| rows.iter().rev().find(|row| row[0] == kind);
+    let number = last(6).expect("an event")[4];
+    if let Some(trace) = last(7) {
+        print_times(
+            "Find last",
+            &time_find(file, number, trace[4]),
+            Some(FIND_GOAL),
+        );
+    }
+    print_times(
+        "Find none",
+        &time_find(file, number, NO_CODE),
+        Some(FIND_GOAL),
+    );
+    let [visit, table, walk] = time_rows(file);
+    print_against_table("Visit", visit, table, Some(VISIT_GOAL));
+    print_against_table("walk", walk, table, None);
     times
 }
 
@@ -211,9 +303,9 @@ fn main() {
     for (call, number) in [("Table", 0), ("Record", 1)] {
         println!(
             "  {call}, twice the samples: {:.2} times as long through the exports, {:.2} in Rust, {:.2} in C",
-            long[number].exports / short[number].exports,
-            long[number].outside / short[number].outside,
-            long[number].floor / short[number].floor
+            long[number][0] / short[number][0],
+            long[number][1] / short[number][1],
+            long[number][2] / short[number][2]
         );
     }
 
