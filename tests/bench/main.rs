@@ -251,7 +251,7 @@ fn print_against_table(call: &str, time: f64, table: f64, goal: Option<f64>) {
     println!("  {call:<10}{time:>14.0}   {ratio:.2} x Table{judged}");
 }
 
-// A file's size and shape, then Table, Record and Find on it, a visit and a walk.
+// A file's size and shape, then Table and Record on it.
 fn print_case(name: &str, file: &[u8], goal: Option<f64>) -> [[f64; 3]; 2] {
     let rows = reader::table(file).rows;
     let of_kind = |kind: u32| rows.iter().filter(|row| row[0] == kind).count();
@@ -269,6 +269,12 @@ fn print_case(name: &str, file: &[u8], goal: Option<f64>) -> [[f64; 3]; 2] {
     let times = [time_table(file), time_records(file)];
     print_times("Table", &times[0], goal);
     print_times("Record", &times[1], goal);
+    times
+}
+
+// Find, a visit and a walk, on the same file.
+fn print_further(file: &[u8]) {
+    let rows = reader::table(file).rows;
     let last = |kind: u32| rows.iter().rev().find(|row| row[0] == kind);
     let number = last(6).expect("an event")[4];
     if let Some(trace) = last(7) {
@@ -286,13 +292,13 @@ fn print_case(name: &str, file: &[u8], goal: Option<f64>) -> [[f64; 3]; 2] {
     let [visit, table, walk] = time_rows(file);
     print_against_table("Visit", visit, table, Some(VISIT_GOAL));
     print_against_table("walk", walk, table, None);
-    times
 }
 
 fn main() {
     println!("bench: the best of {ROUNDS} rounds, the sides in turn, on the same bytes");
     let file = events_with_traces(most_events(2_048), 2_048);
     print_case("(a) traces of 2,048 samples to 16 MiB", &file, Some(1.3));
+    print_further(&file);
 
     let events = most_events(4_096);
     let file = events_with_traces(events, 2_048);
@@ -311,5 +317,9 @@ fn main() {
 
     let file = smallest_events();
     print_case("(b) smallest events to 16 MiB", &file, Some(2.0));
-    print_case("(c) a small file", &small_file(), None);
+    print_further(&file);
+
+    let file = small_file();
+    print_case("(c) a small file", &file, None);
+    print_further(&file);
 }
