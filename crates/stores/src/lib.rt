@@ -9,7 +9,8 @@ ghost use lib.ListN.{length};
 ghost use lib.Seq.{sets};
 ghost use Rattle.note.specs.Words.{words};
 ghost use Rattle.note.specs.Answers.{givenWriter};
-ghost use Rattle.note.specs.Writers.{wrote, writerGiven, recordWrote, recordOutput};
+ghost use Rattle.note.specs.Writers.{wrote, writerGiven};
+ghost use Rattle.stores.specs.Writes.{Wrote};
 ghost use Rattle.stores.specs.Structures.{structured, structureWritten};
 
 /// The answer of a writer of `size` bytes from a place on, over an output of `room` bytes: 1 for an output over the limit, the fault of the
@@ -98,8 +99,7 @@ pub fn write_structure(
     bytes: &[u8],
 ) -> WriterAnswer
     requires { ⌜ length (now ws) ≤ 12 ⌝ }
-    ensures answer { λ r. ⌜ givenWriter r ≡ writerGiven (recordWrote (now (out .entry)) place (structureWritten fault kind (now (ws .entry)) (now (bytes .entry)))) ⌝ }
-    ensures output { λ _. ⌜ now (out .exit) ≡ recordOutput (now (out .entry)) place (structureWritten fault kind (now (ws .entry)) (now (bytes .entry))) ⌝ }
+    ensures { λ r. ⌜ Wrote (now (out .entry)) place (structureWritten fault kind (now (ws .entry)) (now (bytes .entry))) r (now (out .exit)) ⌝ }
 {
     match admitted(out.len(), place, fault, 8 + (4 * ws.len() + bytes.len())) {
         WriterAnswer::Refused { number, place } => WriterAnswer::Refused { number, place },

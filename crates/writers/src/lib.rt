@@ -25,10 +25,10 @@ ghost use mathlib.Core.Path.{_≡_};
 ghost use Prim.Native.Nat.{_+_, _*_, _%_, _≤_, _<_};
 ghost use lib.ListN.{length};
 ghost use lib.Seq.{sets};
-ghost use Rattle.note.specs.Answers.{givenWriter};
 ghost use Rattle.note.specs.Gps.{bcd};
 ghost use Rattle.note.specs.History.{sectionBytes};
-ghost use Rattle.note.specs.Writers.{writerGiven, recordWrote, recordOutput, phononWritten, chargeWritten, administrativeWritten, traceWritten, historyWritten, gpsWritten, triggerWritten, tlbWritten};
+ghost use Rattle.note.specs.Writers.{phononWritten, chargeWritten, administrativeWritten, traceWritten, historyWritten, gpsWritten, triggerWritten, tlbWritten};
+ghost use Rattle.stores.specs.Writes.{Wrote};
 
 // ---- entries
 
@@ -49,7 +49,7 @@ pub fn write_phonon(
     t0: i32,
     trace_length: i32,
 ) -> WriterAnswer
-    ensures answer { λ r. ⌜ givenWriter r ≡ writerGiven (recordWrote (now (out .entry)) place (phononWritten (record {
+    ensures { λ r. ⌜ Wrote (now (out .entry)) place (phononWritten (record {
       code = code;
       tower = tower;
       gain = gain;
@@ -61,20 +61,7 @@ pub fn write_phonon(
       deltaT = «delta_t»;
       t0 = t0;
       traceLength = «trace_length»;
-    }))) ⌝ }
-    ensures output { λ _. ⌜ now (out .exit) ≡ recordOutput (now (out .entry)) place (phononWritten (record {
-      code = code;
-      tower = tower;
-      gain = gain;
-      qetBias = «qet_bias»;
-      squidBias = «squid_bias»;
-      lockpoint = lockpoint;
-      rtfOffset = «rtf_offset»;
-      variableGain = «variable_gain»;
-      deltaT = «delta_t»;
-      t0 = t0;
-      traceLength = «trace_length»;
-    })) ⌝ }
+    })) r (now (out .exit)) ⌝ }
 {
     let word = from_signed(code);
     write_structure(
@@ -112,7 +99,7 @@ pub fn write_charge(
     t0: i32,
     trace_length: i32,
 ) -> WriterAnswer
-    ensures answer { λ r. ⌜ givenWriter r ≡ writerGiven (recordWrote (now (out .entry)) place (chargeWritten (record {
+    ensures { λ r. ⌜ Wrote (now (out .entry)) place (chargeWritten (record {
       code = code;
       tower = tower;
       gain = gain;
@@ -121,17 +108,7 @@ pub fn write_charge(
       deltaT = «delta_t»;
       t0 = t0;
       traceLength = «trace_length»;
-    }))) ⌝ }
-    ensures output { λ _. ⌜ now (out .exit) ≡ recordOutput (now (out .entry)) place (chargeWritten (record {
-      code = code;
-      tower = tower;
-      gain = gain;
-      bias = bias;
-      rtfOffset = «rtf_offset»;
-      deltaT = «delta_t»;
-      t0 = t0;
-      traceLength = «trace_length»;
-    })) ⌝ }
+    })) r (now (out .exit)) ⌝ }
 {
     let word = from_signed(code);
     write_structure(
@@ -166,22 +143,14 @@ pub fn write_administrative(
     since: u32,
     live: u32,
 ) -> WriterAnswer
-    ensures answer { λ r. ⌜ givenWriter r ≡ writerGiven (recordWrote (now (out .entry)) place (administrativeWritten (record {
+    ensures { λ r. ⌜ Wrote (now (out .entry)) place (administrativeWritten (record {
       date = date;
       clock = clock;
       number = number;
       time = time;
       since = since;
       live = live;
-    }))) ⌝ }
-    ensures output { λ _. ⌜ now (out .exit) ≡ recordOutput (now (out .entry)) place (administrativeWritten (record {
-      date = date;
-      clock = clock;
-      number = number;
-      time = time;
-      since = since;
-      live = live;
-    })) ⌝ }
+    })) r (now (out .exit)) ⌝ }
 {
     write_structure(
         out,
@@ -207,7 +176,7 @@ pub fn write_trace(
     n: u32,
     samples: &[u8],
 ) -> WriterAnswer
-    ensures answer { λ r. ⌜ givenWriter r ≡ writerGiven (recordWrote (now (out .entry)) place (traceWritten (record {
+    ensures { λ r. ⌜ Wrote (now (out .entry)) place (traceWritten (record {
       address = address;
       channel = channel;
       code = code;
@@ -215,16 +184,7 @@ pub fn write_trace(
       delta = «delta_t»;
       n = n;
       samples = now (samples .entry);
-    }))) ⌝ }
-    ensures output { λ _. ⌜ now (out .exit) ≡ recordOutput (now (out .entry)) place (traceWritten (record {
-      address = address;
-      channel = channel;
-      code = code;
-      t0 = t0;
-      delta = «delta_t»;
-      n = n;
-      samples = now (samples .entry);
-    })) ⌝ }
+    })) r (now (out .exit)) ⌝ }
 {
     let fault = trace_fault(channel, code, delta_t, n, samples.len());
     write_structure(
@@ -335,7 +295,7 @@ pub fn write_history(
     trigger_width: u32,
     trigger_masks: &[u8],
 ) -> WriterAnswer
-    ensures answer { λ r. ⌜ givenWriter r ≡ writerGiven (recordWrote (now (out .entry)) place (historyWritten (record {
+    ensures { λ r. ⌜ Wrote (now (out .entry)) place (historyWritten (record {
       veto = record {
         count = «veto_count»;
         times = now («veto_times» .entry);
@@ -348,21 +308,7 @@ pub fn write_history(
         width = «trigger_width»;
         masks = now («trigger_masks» .entry);
       };
-    }))) ⌝ }
-    ensures output { λ _. ⌜ now (out .exit) ≡ recordOutput (now (out .entry)) place (historyWritten (record {
-      veto = record {
-        count = «veto_count»;
-        times = now («veto_times» .entry);
-        width = «veto_width»;
-        masks = now («veto_masks» .entry);
-      };
-      trigger = record {
-        count = «trigger_count»;
-        times = now («trigger_times» .entry);
-        width = «trigger_width»;
-        masks = now («trigger_masks» .entry);
-      };
-    })) ⌝ }
+    })) r (now (out .exit)) ⌝ }
 {
     let fault = history_fault(
         veto_count,
@@ -445,7 +391,7 @@ pub fn write_gps(
     second: u32,
     tenths: u32,
 ) -> WriterAnswer
-    ensures answer { λ r. ⌜ givenWriter r ≡ writerGiven (recordWrote (now (out .entry)) place (gpsWritten (record {
+    ensures { λ r. ⌜ Wrote (now (out .entry)) place (gpsWritten (record {
       year = year;
       day = day;
       status = status;
@@ -453,16 +399,7 @@ pub fn write_gps(
       minute = minute;
       second = second;
       tenths = tenths;
-    }))) ⌝ }
-    ensures output { λ _. ⌜ now (out .exit) ≡ recordOutput (now (out .entry)) place (gpsWritten (record {
-      year = year;
-      day = day;
-      status = status;
-      hour = hour;
-      minute = minute;
-      second = second;
-      tenths = tenths;
-    })) ⌝ }
+    })) r (now (out .exit)) ⌝ }
 {
     let date = four_digits(year) * 65536 + four_digits(day);
     let fault = gps_fault(year, day, status, hour, minute, second, tenths);
@@ -493,22 +430,14 @@ pub fn write_trigger(
     mask5: u32,
     mask6: u32,
 ) -> WriterAnswer
-    ensures answer { λ r. ⌜ givenWriter r ≡ writerGiven (recordWrote (now (out .entry)) place (triggerWritten (record {
+    ensures { λ r. ⌜ Wrote (now (out .entry)) place (triggerWritten (record {
       mask1 = mask1;
       mask2 = mask2;
       mask3 = mask3;
       mask4 = mask4;
       mask5 = mask5;
       mask6 = mask6;
-    }))) ⌝ }
-    ensures output { λ _. ⌜ now (out .exit) ≡ recordOutput (now (out .entry)) place (triggerWritten (record {
-      mask1 = mask1;
-      mask2 = mask2;
-      mask3 = mask3;
-      mask4 = mask4;
-      mask5 = mask5;
-      mask6 = mask6;
-    })) ⌝ }
+    })) r (now (out .exit)) ⌝ }
 {
     write_structure(
         out,
@@ -531,22 +460,14 @@ pub fn write_tlb(
     tower5: u32,
     tower6: u32,
 ) -> WriterAnswer
-    ensures answer { λ r. ⌜ givenWriter r ≡ writerGiven (recordWrote (now (out .entry)) place (tlbWritten (record {
+    ensures { λ r. ⌜ Wrote (now (out .entry)) place (tlbWritten (record {
       tower1 = tower1;
       tower2 = tower2;
       tower3 = tower3;
       tower4 = tower4;
       tower5 = tower5;
       tower6 = tower6;
-    }))) ⌝ }
-    ensures output { λ _. ⌜ now (out .exit) ≡ recordOutput (now (out .entry)) place (tlbWritten (record {
-      tower1 = tower1;
-      tower2 = tower2;
-      tower3 = tower3;
-      tower4 = tower4;
-      tower5 = tower5;
-      tower6 = tower6;
-    })) ⌝ }
+    })) r (now (out .exit)) ⌝ }
 {
     write_structure(
         out,

@@ -14,13 +14,13 @@ use Rattle.note.specs.declared.WriterAnswer.the-variants.{Next, Refused}
 use Rattle.note.specs.Answers.{Given, givenWriter}
 use Rattle.note.specs.Writers.{Written, writerGiven, recordWrote, recordOutput}
 use Rattle.stores.proofs.WriterLaws.{next-told, refusal-told}
-use Rattle.writing.specs.Handed.{numberIn, nextAfter, refusedAfter, Told}
+use Rattle.writing.specs.Handed.{numberIn, nextAfter, refusedAfter, Tells}
 
-pub tells-next : {answer : WriterAnswer} {place : ℕ} (next refusal : ℕ) → answer ≡ Next place → Told answer next refusal 0 place refusal
+pub tells-next : {answer : WriterAnswer} {place : ℕ} (next refusal : ℕ) → answer ≡ Next place → Tells answer 0 next place refusal refusal
 unfolding numberIn nextAfter refusedAfter
 tells-next next refusal e r h = let is = next-told r e h in (rw is, rw is, rw is)
 
-pub tells-refusal : {answer : WriterAnswer} {number place : ℕ} (next refusal : ℕ) → answer ≡ Refused number place → Told answer next refusal number next place
+pub tells-refusal : {answer : WriterAnswer} {number place : ℕ} (next refusal : ℕ) → answer ≡ Refused number place → Tells answer number next next refusal place
 unfolding numberIn nextAfter refusedAfter
 tells-refusal next refusal e r h = let is = refusal-told r e h in (rw is, rw is, rw is)
 

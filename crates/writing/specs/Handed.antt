@@ -14,7 +14,7 @@ use Rattle.note.specs.Administrative.{Administrative}
 use Rattle.note.specs.Gps.{Gps}
 use Rattle.note.specs.Trigger.{Trigger}
 use Rattle.note.specs.Tlb.{Tlb}
-use Rattle.note.specs.Writers.{writerGiven}
+use Rattle.note.specs.Writers.{Written, writerGiven, recordWrote, recordOutput}
 
 -- The number that a call returns, and the two lent numbers after it.
 unfoldable pub numberIn : Res ℕ → ℕ
@@ -29,10 +29,20 @@ unfoldable pub refusedAfter : ℕ → Res ℕ → ℕ
 refusedAfter old (ok next) = old
 refusedAfter old (bad c p) = p
 
--- The numbers n, next and refusal tell an answer, whatever definition it is an answer of.
-abbrev pub Told : WriterAnswer → ℕ → ℕ → ℕ → ℕ → ℕ → Type 0
-Told answer next₀ refusal₀ n next refusal =
-    (r : Res ℕ) → givenWriter answer ≡ writerGiven r → (n ≡ numberIn r) × (next ≡ nextAfter next₀ r) × (refusal ≡ refusedAfter refusal₀ r)
+-- What a caller is told of a result, by the number n and the two lent numbers, before and after.
+abbrev pub Numbers : Res ℕ → ℕ → ℕ → ℕ → ℕ → ℕ → Type 0
+Numbers r n next₀ next refusal₀ refusal = (n ≡ numberIn r) × (next ≡ nextAfter next₀ r) × (refusal ≡ refusedAfter refusal₀ r)
+
+-- The same, and the output afterwards; and for a record's fields.
+abbrev pub Told : Res ℕ → List ℕ → ℕ → List ℕ → ℕ → ℕ → ℕ → ℕ → Type 0
+Told r output n after next₀ next refusal₀ refusal = Numbers r n next₀ next refusal₀ refusal × (after ≡ output)
+
+abbrev pub RecordTold : List ℕ → ℕ → Written → ℕ → List ℕ → ℕ → ℕ → ℕ → ℕ → Type 0
+RecordTold out place w = Told (recordWrote out place w) (recordOutput out place w)
+
+-- An answer told, whatever result it is the answer of.
+abbrev pub Tells : WriterAnswer → ℕ → ℕ → ℕ → ℕ → ℕ → Type 0
+Tells answer n next₀ next refusal₀ refusal = (r : Res ℕ) → givenWriter answer ≡ writerGiven r → Numbers r n next₀ next refusal₀ refusal
 
 -- The fields of an array, in the order of their words.
 abbrev signedAt : List ℤ → ℕ → ℤ

@@ -1,15 +1,11 @@
 // Every writer for C: numbers, lent arrays and buffers alone. include/dwejrasq.h documents each.
 use note::WriterAnswer;
-ghost use mathlib.Core.Path.{_≡_};
-ghost use Rattle.theory.specs.Tests.{Res};
-ghost use Prim.Native.Nat.{ℕ};
-ghost use Rattle.note.specs.Answers.{givenWriter};
-ghost use Rattle.note.specs.Writers.{writerGiven, recordWrote, recordOutput, headerWrote, headerOutput, configurationClosed, configurationOutput, eventClosed, eventOutput, rewriteWrote, rewriteOutput, phononWritten, chargeWritten, administrativeWritten, traceWritten, historyWritten, gpsWritten, triggerWritten, tlbWritten};
-ghost use Rattle.writing.specs.Handed.{numberIn, nextAfter, refusedAfter, Told, phononFrom, chargeFrom, administrativeFrom, gpsFrom, triggerFrom, tlbFrom};
+ghost use Rattle.note.specs.Writers.{headerWrote, headerOutput, configurationClosed, configurationOutput, eventClosed, eventOutput, phononWritten, chargeWritten, administrativeWritten, traceWritten, historyWritten, gpsWritten, triggerWritten, tlbWritten};
+ghost use Rattle.writing.specs.Handed.{Tells, Told, RecordTold, phononFrom, chargeFrom, administrativeFrom, gpsFrom, triggerFrom, tlbFrom};
 
 // A writer's answer, for C: the number; the next place, or the refusal's place lent.
 fn told(answer: WriterAnswer, next: &mut u64, refusal: &mut u64) -> u32
-    ensures { λ n. ⌜ Told answer (now (next .entry)) (now (refusal .entry)) n (now (next .exit)) (now (refusal .exit)) ⌝ }
+    ensures { λ n. ⌜ Tells answer n (now (next .entry)) (now (next .exit)) (now (refusal .entry)) (now (refusal .exit)) ⌝ }
 {
     match answer {
         WriterAnswer::Next { place } => {
@@ -32,10 +28,7 @@ pub extern "C" fn dwj_write_phonon(
     next: &mut u64,
     refusal: &mut u64,
 ) -> u32
-    ensures number { λ r. ⌜ r ≡ numberIn (recordWrote (now (out .entry)) place (phononWritten (phononFrom (now (fields .entry))))) ⌝ }
-    ensures output { λ _. ⌜ now (out .exit) ≡ recordOutput (now (out .entry)) place (phononWritten (phononFrom (now (fields .entry)))) ⌝ }
-    ensures next { λ _. ⌜ now (next .exit) ≡ nextAfter (now (next .entry)) (recordWrote (now (out .entry)) place (phononWritten (phononFrom (now (fields .entry))))) ⌝ }
-    ensures refusal { λ _. ⌜ now (refusal .exit) ≡ refusedAfter (now (refusal .entry)) (recordWrote (now (out .entry)) place (phononWritten (phononFrom (now (fields .entry))))) ⌝ }
+    ensures { λ r. ⌜ RecordTold (now (out .entry)) place (phononWritten (phononFrom (now (fields .entry)))) r (now (out .exit)) (now (next .entry)) (now (next .exit)) (now (refusal .entry)) (now (refusal .exit)) ⌝ }
 {
     let answer = dwejrasq::write_phonon(
         out,
@@ -64,10 +57,7 @@ pub extern "C" fn dwj_write_charge(
     next: &mut u64,
     refusal: &mut u64,
 ) -> u32
-    ensures number { λ r. ⌜ r ≡ numberIn (recordWrote (now (out .entry)) place (chargeWritten (chargeFrom (now (fields .entry))))) ⌝ }
-    ensures output { λ _. ⌜ now (out .exit) ≡ recordOutput (now (out .entry)) place (chargeWritten (chargeFrom (now (fields .entry)))) ⌝ }
-    ensures next { λ _. ⌜ now (next .exit) ≡ nextAfter (now (next .entry)) (recordWrote (now (out .entry)) place (chargeWritten (chargeFrom (now (fields .entry))))) ⌝ }
-    ensures refusal { λ _. ⌜ now (refusal .exit) ≡ refusedAfter (now (refusal .entry)) (recordWrote (now (out .entry)) place (chargeWritten (chargeFrom (now (fields .entry))))) ⌝ }
+    ensures { λ r. ⌜ RecordTold (now (out .entry)) place (chargeWritten (chargeFrom (now (fields .entry)))) r (now (out .exit)) (now (next .entry)) (now (next .exit)) (now (refusal .entry)) (now (refusal .exit)) ⌝ }
 {
     let answer = dwejrasq::write_charge(
         out,
@@ -93,10 +83,7 @@ pub extern "C" fn dwj_write_administrative(
     next: &mut u64,
     refusal: &mut u64,
 ) -> u32
-    ensures number { λ r. ⌜ r ≡ numberIn (recordWrote (now (out .entry)) place (administrativeWritten (administrativeFrom (now (fields .entry))))) ⌝ }
-    ensures output { λ _. ⌜ now (out .exit) ≡ recordOutput (now (out .entry)) place (administrativeWritten (administrativeFrom (now (fields .entry)))) ⌝ }
-    ensures next { λ _. ⌜ now (next .exit) ≡ nextAfter (now (next .entry)) (recordWrote (now (out .entry)) place (administrativeWritten (administrativeFrom (now (fields .entry))))) ⌝ }
-    ensures refusal { λ _. ⌜ now (refusal .exit) ≡ refusedAfter (now (refusal .entry)) (recordWrote (now (out .entry)) place (administrativeWritten (administrativeFrom (now (fields .entry))))) ⌝ }
+    ensures { λ r. ⌜ RecordTold (now (out .entry)) place (administrativeWritten (administrativeFrom (now (fields .entry)))) r (now (out .exit)) (now (next .entry)) (now (next .exit)) (now (refusal .entry)) (now (refusal .exit)) ⌝ }
 {
     let answer = dwejrasq::write_administrative(
         out,
@@ -126,10 +113,7 @@ pub extern "C" fn dwj_write_trace(
     next: &mut u64,
     refusal: &mut u64,
 ) -> u32
-    ensures number { λ r. ⌜ r ≡ numberIn (recordWrote (now (out .entry)) place (traceWritten (record { address = address; channel = channel; code = code; t0 = t0; delta = delta; n = n; samples = now (samples .entry) }))) ⌝ }
-    ensures output { λ _. ⌜ now (out .exit) ≡ recordOutput (now (out .entry)) place (traceWritten (record { address = address; channel = channel; code = code; t0 = t0; delta = delta; n = n; samples = now (samples .entry) })) ⌝ }
-    ensures next { λ _. ⌜ now (next .exit) ≡ nextAfter (now (next .entry)) (recordWrote (now (out .entry)) place (traceWritten (record { address = address; channel = channel; code = code; t0 = t0; delta = delta; n = n; samples = now (samples .entry) }))) ⌝ }
-    ensures refusal { λ _. ⌜ now (refusal .exit) ≡ refusedAfter (now (refusal .entry)) (recordWrote (now (out .entry)) place (traceWritten (record { address = address; channel = channel; code = code; t0 = t0; delta = delta; n = n; samples = now (samples .entry) }))) ⌝ }
+    ensures { λ r. ⌜ RecordTold (now (out .entry)) place (traceWritten (record { address = address; channel = channel; code = code; t0 = t0; delta = delta; n = n; samples = now (samples .entry) })) r (now (out .exit)) (now (next .entry)) (now (next .exit)) (now (refusal .entry)) (now (refusal .exit)) ⌝ }
 {
     let answer = dwejrasq::write_trace(out, place, address, channel, code, t0, delta, n, samples);
     told(answer, next, refusal)
@@ -151,10 +135,7 @@ pub extern "C" fn dwj_write_history(
     next: &mut u64,
     refusal: &mut u64,
 ) -> u32
-    ensures number { λ r. ⌜ r ≡ numberIn (recordWrote (now (out .entry)) place (historyWritten (record { veto = record { count = count; times = now (times .entry); width = width; masks = now (masks .entry) }; trigger = record { count = triggers; times = now (instants .entry); width = breadth; masks = now (words .entry) } }))) ⌝ }
-    ensures output { λ _. ⌜ now (out .exit) ≡ recordOutput (now (out .entry)) place (historyWritten (record { veto = record { count = count; times = now (times .entry); width = width; masks = now (masks .entry) }; trigger = record { count = triggers; times = now (instants .entry); width = breadth; masks = now (words .entry) } })) ⌝ }
-    ensures next { λ _. ⌜ now (next .exit) ≡ nextAfter (now (next .entry)) (recordWrote (now (out .entry)) place (historyWritten (record { veto = record { count = count; times = now (times .entry); width = width; masks = now (masks .entry) }; trigger = record { count = triggers; times = now (instants .entry); width = breadth; masks = now (words .entry) } }))) ⌝ }
-    ensures refusal { λ _. ⌜ now (refusal .exit) ≡ refusedAfter (now (refusal .entry)) (recordWrote (now (out .entry)) place (historyWritten (record { veto = record { count = count; times = now (times .entry); width = width; masks = now (masks .entry) }; trigger = record { count = triggers; times = now (instants .entry); width = breadth; masks = now (words .entry) } }))) ⌝ }
+    ensures { λ r. ⌜ RecordTold (now (out .entry)) place (historyWritten (record { veto = record { count = count; times = now (times .entry); width = width; masks = now (masks .entry) }; trigger = record { count = triggers; times = now (instants .entry); width = breadth; masks = now (words .entry) } })) r (now (out .exit)) (now (next .entry)) (now (next .exit)) (now (refusal .entry)) (now (refusal .exit)) ⌝ }
 {
     let answer = dwejrasq::write_history(
         out,
@@ -180,10 +161,7 @@ pub extern "C" fn dwj_write_gps(
     next: &mut u64,
     refusal: &mut u64,
 ) -> u32
-    ensures number { λ r. ⌜ r ≡ numberIn (recordWrote (now (out .entry)) place (gpsWritten (gpsFrom (now (fields .entry))))) ⌝ }
-    ensures output { λ _. ⌜ now (out .exit) ≡ recordOutput (now (out .entry)) place (gpsWritten (gpsFrom (now (fields .entry)))) ⌝ }
-    ensures next { λ _. ⌜ now (next .exit) ≡ nextAfter (now (next .entry)) (recordWrote (now (out .entry)) place (gpsWritten (gpsFrom (now (fields .entry))))) ⌝ }
-    ensures refusal { λ _. ⌜ now (refusal .exit) ≡ refusedAfter (now (refusal .entry)) (recordWrote (now (out .entry)) place (gpsWritten (gpsFrom (now (fields .entry))))) ⌝ }
+    ensures { λ r. ⌜ RecordTold (now (out .entry)) place (gpsWritten (gpsFrom (now (fields .entry)))) r (now (out .exit)) (now (next .entry)) (now (next .exit)) (now (refusal .entry)) (now (refusal .exit)) ⌝ }
 {
     let answer = dwejrasq::write_gps(
         out,
@@ -208,10 +186,7 @@ pub extern "C" fn dwj_write_trigger(
     next: &mut u64,
     refusal: &mut u64,
 ) -> u32
-    ensures number { λ r. ⌜ r ≡ numberIn (recordWrote (now (out .entry)) place (triggerWritten (triggerFrom (now (fields .entry))))) ⌝ }
-    ensures output { λ _. ⌜ now (out .exit) ≡ recordOutput (now (out .entry)) place (triggerWritten (triggerFrom (now (fields .entry)))) ⌝ }
-    ensures next { λ _. ⌜ now (next .exit) ≡ nextAfter (now (next .entry)) (recordWrote (now (out .entry)) place (triggerWritten (triggerFrom (now (fields .entry))))) ⌝ }
-    ensures refusal { λ _. ⌜ now (refusal .exit) ≡ refusedAfter (now (refusal .entry)) (recordWrote (now (out .entry)) place (triggerWritten (triggerFrom (now (fields .entry))))) ⌝ }
+    ensures { λ r. ⌜ RecordTold (now (out .entry)) place (triggerWritten (triggerFrom (now (fields .entry)))) r (now (out .exit)) (now (next .entry)) (now (next .exit)) (now (refusal .entry)) (now (refusal .exit)) ⌝ }
 {
     let answer = dwejrasq::write_trigger(
         out,
@@ -235,10 +210,7 @@ pub extern "C" fn dwj_write_tlb(
     next: &mut u64,
     refusal: &mut u64,
 ) -> u32
-    ensures number { λ r. ⌜ r ≡ numberIn (recordWrote (now (out .entry)) place (tlbWritten (tlbFrom (now (fields .entry))))) ⌝ }
-    ensures output { λ _. ⌜ now (out .exit) ≡ recordOutput (now (out .entry)) place (tlbWritten (tlbFrom (now (fields .entry)))) ⌝ }
-    ensures next { λ _. ⌜ now (next .exit) ≡ nextAfter (now (next .entry)) (recordWrote (now (out .entry)) place (tlbWritten (tlbFrom (now (fields .entry))))) ⌝ }
-    ensures refusal { λ _. ⌜ now (refusal .exit) ≡ refusedAfter (now (refusal .entry)) (recordWrote (now (out .entry)) place (tlbWritten (tlbFrom (now (fields .entry))))) ⌝ }
+    ensures { λ r. ⌜ RecordTold (now (out .entry)) place (tlbWritten (tlbFrom (now (fields .entry)))) r (now (out .exit)) (now (next .entry)) (now (next .exit)) (now (refusal .entry)) (now (refusal .exit)) ⌝ }
 {
     let answer = dwejrasq::write_tlb(
         out,
@@ -262,10 +234,7 @@ pub extern "C" fn dwj_write_header(
     next: &mut u64,
     refusal: &mut u64,
 ) -> u32
-    ensures number { λ r. ⌜ r ≡ numberIn (headerWrote (now (out .entry))) ⌝ }
-    ensures output { λ _. ⌜ now (out .exit) ≡ headerOutput (now (out .entry)) major minor ⌝ }
-    ensures next { λ _. ⌜ now (next .exit) ≡ nextAfter (now (next .entry)) (headerWrote (now (out .entry))) ⌝ }
-    ensures refusal { λ _. ⌜ now (refusal .exit) ≡ refusedAfter (now (refusal .entry)) (headerWrote (now (out .entry))) ⌝ }
+    ensures { λ r. ⌜ Told (headerWrote (now (out .entry))) (headerOutput (now (out .entry)) major minor) r (now (out .exit)) (now (next .entry)) (now (next .exit)) (now (refusal .entry)) (now (refusal .exit)) ⌝ }
 {
     let answer = dwejrasq::write_header(out, major, minor);
     told(answer, next, refusal)
@@ -280,10 +249,7 @@ pub extern "C" fn dwj_close_configuration(
     next: &mut u64,
     refusal: &mut u64,
 ) -> u32
-    ensures number { λ r. ⌜ r ≡ numberIn (configurationClosed (now (out .entry)) place end) ⌝ }
-    ensures output { λ _. ⌜ now (out .exit) ≡ configurationOutput (now (out .entry)) place end ⌝ }
-    ensures next { λ _. ⌜ now (next .exit) ≡ nextAfter (now (next .entry)) (configurationClosed (now (out .entry)) place end) ⌝ }
-    ensures refusal { λ _. ⌜ now (refusal .exit) ≡ refusedAfter (now (refusal .entry)) (configurationClosed (now (out .entry)) place end) ⌝ }
+    ensures { λ r. ⌜ Told (configurationClosed (now (out .entry)) place end) (configurationOutput (now (out .entry)) place end) r (now (out .exit)) (now (next .entry)) (now (next .exit)) (now (refusal .entry)) (now (refusal .exit)) ⌝ }
 {
     let answer = dwejrasq::close_configuration(out, place, end);
     told(answer, next, refusal)
@@ -301,10 +267,7 @@ pub extern "C" fn dwj_close_event(
     next: &mut u64,
     refusal: &mut u64,
 ) -> u32
-    ensures number { λ r. ⌜ r ≡ numberIn (eventClosed (now (out .entry)) place end class category kind) ⌝ }
-    ensures output { λ _. ⌜ now (out .exit) ≡ eventOutput (now (out .entry)) place end class category kind ⌝ }
-    ensures next { λ _. ⌜ now (next .exit) ≡ nextAfter (now (next .entry)) (eventClosed (now (out .entry)) place end class category kind) ⌝ }
-    ensures refusal { λ _. ⌜ now (refusal .exit) ≡ refusedAfter (now (refusal .entry)) (eventClosed (now (out .entry)) place end class category kind) ⌝ }
+    ensures { λ r. ⌜ Told (eventClosed (now (out .entry)) place end class category kind) (eventOutput (now (out .entry)) place end class category kind) r (now (out .exit)) (now (next .entry)) (now (next .exit)) (now (refusal .entry)) (now (refusal .exit)) ⌝ }
 {
     let answer = dwejrasq::close_event(out, place, end, class, category, kind);
     told(answer, next, refusal)

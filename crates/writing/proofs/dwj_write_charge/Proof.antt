@@ -49,7 +49,7 @@ same-length c = search needs
 
 returns : tie.Need-returns
 unfolding chargeFrom
-returns c = let zs = now (c .before .before .before .before .before .before .before .before .before .before .before .before .before .before .before .before .args .fields) in let w = handed chargeWritten (now (c .before .before .before .before .before .before .before .before .before .before .before .before .before .before .before .before .args .out)) (c .before .before .before .before .before .before .before .before .before .before .before .before .before .before .before .before .args .place) (λ i. record { code = kept (getD zs 0 (pos 0)) (c .before .before .before .before .before .before .before .before .before .before .before .before .before .write-charge-arg2 .given) i; tower = kept (getD zs 1 (pos 0)) (c .before .before .before .before .before .before .before .before .before .before .before .before .write-charge-arg3 .given) i; gain = kept (getD zs 2 (pos 0)) (c .before .before .before .before .before .before .before .before .before .before .before .write-charge-arg4 .given) i; bias = kept (getD zs 3 (pos 0)) (c .before .before .before .before .before .before .before .before .before .before .write-charge-arg5 .given) i; rtfOffset = kept (getD zs 4 (pos 0)) (c .before .before .before .before .before .before .before .before .before .write-charge-arg6 .given) i; deltaT = kept (getD zs 5 (pos 0)) (c .before .before .before .before .before .before .before .before .write-charge-arg7 .given) i; t0 = kept (getD zs 6 (pos 0)) (c .before .before .before .before .before .before .before .write-charge-arg8 .given) i; traceLength = kept (getD zs 7 (pos 0)) (c .before .before .before .before .before .before .write-charge-arg9 .given) i }) (c .before .before .before .before .before .write-charge .ensures) in let t = c .told .ensures _ (w .0) in (t .0, (w .1, (t .1, t .2)))
+returns c = let zs = now (c .before .before .before .before .before .before .before .before .before .before .before .before .before .before .before .before .args .fields) in let w = handed chargeWritten (now (c .before .before .before .before .before .before .before .before .before .before .before .before .before .before .before .before .args .out)) (c .before .before .before .before .before .before .before .before .before .before .before .before .before .before .before .before .args .place) (λ i. record { code = kept (getD zs 0 (pos 0)) (c .before .before .before .before .before .before .before .before .before .before .before .before .before .write-charge-arg2 .given) i; tower = kept (getD zs 1 (pos 0)) (c .before .before .before .before .before .before .before .before .before .before .before .before .write-charge-arg3 .given) i; gain = kept (getD zs 2 (pos 0)) (c .before .before .before .before .before .before .before .before .before .before .before .write-charge-arg4 .given) i; bias = kept (getD zs 3 (pos 0)) (c .before .before .before .before .before .before .before .before .before .before .write-charge-arg5 .given) i; rtfOffset = kept (getD zs 4 (pos 0)) (c .before .before .before .before .before .before .before .before .before .write-charge-arg6 .given) i; deltaT = kept (getD zs 5 (pos 0)) (c .before .before .before .before .before .before .before .before .write-charge-arg7 .given) i; t0 = kept (getD zs 6 (pos 0)) (c .before .before .before .before .before .before .before .write-charge-arg8 .given) i; traceLength = kept (getD zs 7 (pos 0)) (c .before .before .before .before .before .before .write-charge-arg9 .given) i }) (c .before .before .before .before .before .write-charge .ensures) in let t = c .told .ensures _ (w .0) in (t, w .1)
 
 pub dwj-write-charge-spec : {M : Type 1} → statement M
 dwj-write-charge-spec =

@@ -58,7 +58,7 @@ same-length c = search needs
 
 returns : tie.Need-returns
 unfolding phononFrom
-returns c = let zs = now (c .before .before .before .before .before .before .before .before .before .before .before .before .before .before .before .before .before .before .before .args .fields) in let w = handed phononWritten (now (c .before .before .before .before .before .before .before .before .before .before .before .before .before .before .before .before .before .before .before .args .out)) (c .before .before .before .before .before .before .before .before .before .before .before .before .before .before .before .before .before .before .before .args .place) (λ i. record { code = kept (getD zs 0 (pos 0)) (c .before .before .before .before .before .before .before .before .before .before .before .before .before .before .before .before .write-phonon-arg2 .given) i; tower = kept (getD zs 1 (pos 0)) (c .before .before .before .before .before .before .before .before .before .before .before .before .before .before .before .write-phonon-arg3 .given) i; gain = kept (getD zs 2 (pos 0)) (c .before .before .before .before .before .before .before .before .before .before .before .before .before .before .write-phonon-arg4 .given) i; qetBias = kept (getD zs 3 (pos 0)) (c .before .before .before .before .before .before .before .before .before .before .before .before .before .write-phonon-arg5 .given) i; squidBias = kept (getD zs 4 (pos 0)) (c .before .before .before .before .before .before .before .before .before .before .before .before .write-phonon-arg6 .given) i; lockpoint = kept (getD zs 5 (pos 0)) (c .before .before .before .before .before .before .before .before .before .before .before .write-phonon-arg7 .given) i; rtfOffset = kept (getD zs 6 (pos 0)) (c .before .before .before .before .before .before .before .before .before .before .write-phonon-arg8 .given) i; variableGain = kept (getD zs 7 (pos 0)) (c .before .before .before .before .before .before .before .before .before .write-phonon-arg9 .given) i; deltaT = kept (getD zs 8 (pos 0)) (c .before .before .before .before .before .before .before .before .write-phonon-arg10 .given) i; t0 = kept (getD zs 9 (pos 0)) (c .before .before .before .before .before .before .before .write-phonon-arg11 .given) i; traceLength = kept (getD zs 10 (pos 0)) (c .before .before .before .before .before .before .write-phonon-arg12 .given) i }) (c .before .before .before .before .before .write-phonon .ensures) in let t = c .told .ensures _ (w .0) in (t .0, (w .1, (t .1, t .2)))
+returns c = let zs = now (c .before .before .before .before .before .before .before .before .before .before .before .before .before .before .before .before .before .before .before .args .fields) in let w = handed phononWritten (now (c .before .before .before .before .before .before .before .before .before .before .before .before .before .before .before .before .before .before .before .args .out)) (c .before .before .before .before .before .before .before .before .before .before .before .before .before .before .before .before .before .before .before .args .place) (λ i. record { code = kept (getD zs 0 (pos 0)) (c .before .before .before .before .before .before .before .before .before .before .before .before .before .before .before .before .write-phonon-arg2 .given) i; tower = kept (getD zs 1 (pos 0)) (c .before .before .before .before .before .before .before .before .before .before .before .before .before .before .before .write-phonon-arg3 .given) i; gain = kept (getD zs 2 (pos 0)) (c .before .before .before .before .before .before .before .before .before .before .before .before .before .before .write-phonon-arg4 .given) i; qetBias = kept (getD zs 3 (pos 0)) (c .before .before .before .before .before .before .before .before .before .before .before .before .before .write-phonon-arg5 .given) i; squidBias = kept (getD zs 4 (pos 0)) (c .before .before .before .before .before .before .before .before .before .before .before .before .write-phonon-arg6 .given) i; lockpoint = kept (getD zs 5 (pos 0)) (c .before .before .before .before .before .before .before .before .before .before .before .write-phonon-arg7 .given) i; rtfOffset = kept (getD zs 6 (pos 0)) (c .before .before .before .before .before .before .before .before .before .before .write-phonon-arg8 .given) i; variableGain = kept (getD zs 7 (pos 0)) (c .before .before .before .before .before .before .before .before .before .write-phonon-arg9 .given) i; deltaT = kept (getD zs 8 (pos 0)) (c .before .before .before .before .before .before .before .before .write-phonon-arg10 .given) i; t0 = kept (getD zs 9 (pos 0)) (c .before .before .before .before .before .before .before .write-phonon-arg11 .given) i; traceLength = kept (getD zs 10 (pos 0)) (c .before .before .before .before .before .before .write-phonon-arg12 .given) i }) (c .before .before .before .before .before .write-phonon .ensures) in let t = c .told .ensures _ (w .0) in (t, w .1)
 
 pub dwj-write-phonon-spec : {M : Type 1} → statement M
 dwj-write-phonon-spec =

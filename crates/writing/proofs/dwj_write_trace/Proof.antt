@@ -18,7 +18,7 @@ same-length : tie.Need-same-length
 same-length c = search needs
 
 returns : tie.Need-returns
-returns c = let w = rw (toZ-ofZ (c .before .before .before .before .before .before .before .before .before .fits .t0)) at (c .before .before .before .before .before .write-trace .ensures) in let t = c .told .ensures _ (w .0) in (t .0, (w .1, (t .1, t .2)))
+returns c = let w = rw (toZ-ofZ (c .before .before .before .before .before .before .before .before .before .fits .t0)) at (c .before .before .before .before .before .write-trace .ensures) in let t = c .told .ensures _ (w .0) in (t, w .1)
 
 pub dwj-write-trace-spec : {M : Type 1} → statement M
 dwj-write-trace-spec = tie.close (tie.spec write-trace-requires told-requires same-length returns)
