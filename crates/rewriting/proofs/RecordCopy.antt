@@ -1,0 +1,72 @@
+-- The records of a part, written again: what the record that stands next asks and leaves.
+-- The idea: it was read, so its kind word, its length word and its body are what code reads there, and its body follows its kind's rule.
+use mathlib.Core.Path.{_≡_, refl, sym, ap, _∙_, subst}
+use mathlib.Core.List.{List}
+use Prim.Native.Nat.{ℕ, _+_, _-_, _≤_, _<_}
+use native.Mathlib.Omega.{arith}
+use lib.ListN.{length, take, drop}
+use Rattle.theory.proofs.WordLaws.{Bytes-drop, Bytes-take}
+use Rattle.note.specs.Limits.{fileLimit}
+use Rattle.note.specs.Words.{word}
+use Rattle.note.specs.Records.{Record, recordBytes, recordSize, recordRule, kindOf}
+use Rattle.note.proofs.KindCases.{kind-cases}
+use Rattle.demands.specs.Outputs.{Laid}
+use Rattle.demands.proofs.Bundles.{recordItem, same-record}
+use Rattle.record.proofs.StepLaws.{Read, read-shows, cut}
+use Rattle.copies.specs.Copying.{Copyable, Copied}
+use Rattle.rewriting.proofs.CopyLoop.{Copying, inside, here, next}
+
+-- An admitted kind has the kind word that names it.
+named : (w : ℕ) (b : List ℕ) → recordRule w b ≡ 0 → kindOf w .word ≡ w
+named w b =
+    kind-cases (λ w x. x .rule b ≡ 0 → x .word ≡ w) w
+    (λ e. refl) (λ e. refl) (λ e. refl) (λ e. refl) (λ e. refl) (λ e. refl) (λ e. refl) (λ e. refl) (λ e. absurd (omega arith))
+
+module _ {old : List ℕ} {place : ℕ} {part out rest : List ℕ} {at : ℕ} (i : Copying recordItem old place part out rest at) (l : 0 < length rest) where
+  abbrev kind : ℕ
+  kind = word 0 rest
+
+  abbrev body : List ℕ
+  body = take (word 4 rest) (drop 8 rest)
+
+  shown : Read (i .state) at rest kind (word 4 rest) × (here recordItem i l .item ≡ record { kind = kind; body = body })
+  shown = read-shows (i .state) at rest (here recordItem i l .item) (same-record (i .state) at rest ∙ here recordItem i l .reads-item)
+
+  fits : 8 + word 4 rest ≤ length rest
+  fits = shown .0 .fits
+
+  pub turn : (m : ℕ) → m ≡ word 4 rest → (8 + m ≤ length rest) × (at + (8 + m) ≤ fileLimit)
+  turn m em = (omega (arith, em, fits), omega (arith, em, fits, inside recordItem i .0, inside recordItem i .1))
+
+  module _ (k m : ℕ) (ek : k ≡ kind) (em : m ≡ word 4 rest) where
+    -- Its body, as code cuts it.
+    abbrev cutBody : List ℕ
+    cutBody = take (8 + m - 8) (drop 8 rest)
+
+    cut-is : cutBody ≡ body
+    cut-is = cut m rest ∙ ap (λ (n : ℕ). take n (drop 8 rest)) em
+
+    cut-size : length cutBody ≡ m
+    cut-size = ap length cut-is ∙ shown .0 .size ∙ sym em
+
+    cut-follows : recordRule k cutBody ≡ 0
+    cut-follows = (λ j. recordRule (ek j) (cut-is j)) ∙ shown .0 .follows
+
+    pub copyable : Copyable (kindOf k) cutBody (length out) at
+    copyable = record {
+      bytes = Bytes-take (8 + m - 8) (drop 8 rest) (Bytes-drop 8 rest (i .bytes));
+      follows = cut-follows;
+      room = omega (arith, cut-size, em, fits, inside recordItem i .0);
+      limit = inside recordItem i .1;
+    }
+
+    pub copied-next : (new : List ℕ) → Copied (kindOf k) cutBody out at new
+        → Copying recordItem old place part new (take (length rest - (8 + m)) (drop (8 + m) rest)) (at + (8 + m))
+    copied-next new h =
+        let item : Record = here recordItem i l .item in
+        let is : record { kind = kindOf k .word; body = cutBody } ≡ item = (λ j. record { kind = (named k cutBody cut-follows ∙ ek) j; body = cut-is j }) ∙ sym (shown .1) in
+        let size : recordSize item ≡ 8 + m = ap recordSize (sym is) ∙ ap (λ (n : ℕ). 8 + n) cut-size in
+        let end : at + (8 + length cutBody) ≡ at + (8 + m) = ap (λ (n : ℕ). at + (8 + n)) cut-size in
+        next recordItem i l (8 + m) size new
+        (subst (λ (r : Record). Laid out new at (at + (8 + m)) (recordBytes r)) is
+        (subst (λ (n : ℕ). Laid out new at n (recordBytes (record { kind = kindOf k .word; body = cutBody }))) end h))

@@ -1,0 +1,127 @@
+-- `rewriting::copy_events` meets its contract: what was written and what is left are the part, turn by turn.
+-- The idea: the loop's laws answer each need; an event's records stand in the output when it is closed.
+use mathlib.Core.Path.{_≡_, refl, sym, _∙_}
+use native.Mathlib.Omega.{arith}
+use denote.Ref.{now}
+use lib.ListN.{length}
+use Rattle.theory.proofs.WordLaws.{Bytes-from}
+use Rattle.demands.proofs.Bundles.{eventItem, same-events}
+use Rattle.rewriting.proofs.CopyLoop.{Copying, begin, ended}
+use Rattle.rewriting.proofs.EventCopy.{event-turn, records-ready, event-next}
+use borrow.Author.Needs.{needs}
+use Rattle.rewriting.proofs.copy_events.Statement.{statement}
+use Rattle.rewriting.proofs.copy_events.Tie as tie
+use Rattle.rewriting.proofs.copy_events.Reads as reads
+use Rattle.rewriting.proofs.copy_events.Lts as lts
+use Rattle.closings.proofs.close_event.Reads as close-event-reads
+use Rattle.fields.proofs.category_of.Reads as category-of-reads
+use Rattle.fields.proofs.class_of.Reads as class-of-reads
+use Rattle.fields.proofs.event_type_of.Reads as event-type-of-reads
+use Rattle.rewriting.proofs.copy_records.Reads as copy-records-reads
+use Rattle.words.proofs.word_at.Reads as word-at-reads
+
+abbrev Inv-loop : tie.InvT-loop
+Inv-loop part out₀ place rest₀ at₀ out rest at = Copying eventItem out₀ place part out rest at
+
+abbrev μ-loop : tie.MeasureT-loop
+μ-loop part out₀ place rest₀ at₀ out rest at = length rest
+
+loop-holds : tie.Need-loop-holds Inv-loop μ-loop
+loop-holds c =
+    let s = c .before .before in
+    let h = Bytes-from (now (s .args .part)) (λ i l. omega (arith, c .before .shared-slice-known .given i)) in
+    begin eventItem _ _ _ tt (s .pre .is) (sym (same-events tt _ _) ∙ s .pre .reads) h (s .pre .room) (s .pre .limit)
+
+word-at-requires : tie.Need-word-at-requires Inv-loop μ-loop
+word-at-requires c κs = let (fits, limit) = event-turn (c .before .loop .inv) (c .loop-test .taken) _ refl in omega (arith, fits)
+
+word-at-requires-2 : tie.Need-word-at-requires-2 Inv-loop μ-loop
+word-at-requires-2 c κs = let (fits, limit) = event-turn (c .before .before .loop .inv) (c .before .loop-test .taken) _ refl in omega (arith, fits)
+
+cast-size : tie.Need-cast-size Inv-loop μ-loop
+cast-size c = search needs
+
+add-size : tie.Need-add-size Inv-loop μ-loop
+add-size c = let (fits, limit) = event-turn (c .before .before .before .loop .inv) (c .before .before .loop-test .taken) _ (c .word-at2 .ensures) in omega (arith, limit)
+
+add-end : tie.Need-add-end Inv-loop μ-loop
+add-end c = let (fits, limit) = event-turn (c .before .before .before .loop .inv) (c .before .before .loop-test .taken) _ (c .word-at2 .ensures) in omega (arith, limit)
+
+sub-copy-records : tie.Need-sub-copy-records Inv-loop μ-loop
+sub-copy-records c = search needs
+
+part-copy-records-start : tie.Need-part-copy-records-start Inv-loop μ-loop
+part-copy-records-start c = search needs
+
+part-copy-records-end : tie.Need-part-copy-records-end Inv-loop μ-loop
+part-copy-records-end c = let (fits, limit) = event-turn (c .before .before .before .loop .inv) (c .before .before .loop-test .taken) _ (c .word-at2 .ensures) in fits
+
+add-copy-records : tie.Need-add-copy-records Inv-loop μ-loop
+add-copy-records c = let (fits, limit) = event-turn (c .before .before .before .before .before .loop .inv) (c .before .before .before .before .loop-test .taken) _ (c .before .before .word-at2 .ensures) in omega (arith, limit)
+
+copy-records-requires : tie.Need-copy-records-requires Inv-loop μ-loop
+copy-records-requires c κs = records-ready (c .before .before .before .before .before .loop .inv) (c .before .before .before .before .loop-test .taken) _ _ (c .before .before .before .word-at .ensures) (c .before .before .word-at2 .ensures)
+
+class-of-requires : tie.Need-class-of-requires Inv-loop μ-loop
+class-of-requires c κs = search needs
+
+category-of-requires : tie.Need-category-of-requires Inv-loop μ-loop
+category-of-requires c κs = search needs
+
+event-type-of-requires : tie.Need-event-type-of-requires Inv-loop μ-loop
+event-type-of-requires c κs = search needs
+
+close-event-requires : tie.Need-close-event-requires Inv-loop μ-loop
+close-event-requires c κs = search needs
+
+sub-rest : tie.Need-sub-rest Inv-loop μ-loop
+sub-rest c = let (fits, limit) = event-turn (c .before .before .before .before .before .before .before .before .before .before .before .before .before .before .before .loop .inv) (c .before .before .before .before .before .before .before .before .before .before .before .before .before .before .loop-test .taken) _ (c .before .before .before .before .before .before .before .before .before .before .before .before .word-at2 .ensures) in fits
+
+part-rest-start : tie.Need-part-rest-start Inv-loop μ-loop
+part-rest-start c = let (fits, limit) = event-turn (c .before .before .before .before .before .before .before .before .before .before .before .before .before .before .before .loop .inv) (c .before .before .before .before .before .before .before .before .before .before .before .before .before .before .loop-test .taken) _ (c .before .before .before .before .before .before .before .before .before .before .before .before .word-at2 .ensures) in fits
+
+part-rest-end : tie.Need-part-rest-end Inv-loop μ-loop
+part-rest-end c = search needs
+
+loop-less : tie.Need-loop-less Inv-loop μ-loop
+loop-less c = let (fits, limit) = event-turn (c .before .before .before .before .before .before .before .before .before .before .before .before .before .before .before .before .loop .inv) (c .before .before .before .before .before .before .before .before .before .before .before .before .before .before .before .loop-test .taken) _ (c .before .before .before .before .before .before .before .before .before .before .before .before .before .word-at2 .ensures) in omega (arith, fits)
+
+loop-again : tie.Need-loop-again Inv-loop μ-loop
+loop-again c =
+    event-next (c .before .before .before .before .before .before .before .before .before .before .before .before .before .before .before .before .loop .inv) (c .before .before .before .before .before .before .before .before .before .before .before .before .before .before .before .loop-test .taken) _ _ (c .before .before .before .before .before .before .before .before .before .before .before .before .before .before .word-at .ensures) (c .before .before .before .before .before .before .before .before .before .before .before .before .before .word-at2 .ensures) _ _ _
+    (c .before .before .before .before .before .before .class-of .ensures) (c .before .before .before .before .before .category-of .ensures) (c .before .before .before .before .event-type-of .ensures) _ (c .before .before .before .before .before .before .before .before .before .before .copy-records .ensures) _ (c .before .before .before .close-event .ensures .1)
+
+same-length : tie.Need-same-length Inv-loop μ-loop
+same-length c = c .before .loop .inv .laid .size
+
+returns : tie.Need-returns Inv-loop μ-loop
+returns c = ended eventItem (c .before .loop .inv) (c .loop-test .left)
+
+pub copy-events-spec : {M : Type 1} → statement M
+copy-events-spec =
+    tie.close
+    (tie.spec
+    Inv-loop
+    μ-loop
+    loop-holds
+    word-at-requires
+    word-at-requires-2
+    cast-size
+    add-size
+    add-end
+    sub-copy-records
+    part-copy-records-start
+    part-copy-records-end
+    add-copy-records
+    copy-records-requires
+    class-of-requires
+    category-of-requires
+    event-type-of-requires
+    close-event-requires
+    sub-rest
+    part-rest-start
+    part-rest-end
+    loop-less
+    loop-again
+    same-length
+    returns)

@@ -1,0 +1,99 @@
+// Rewrite: the fields of an accepted file, read and written again through the writers, the header's writer and the closings, from byte 0.
+// The file is checked first and the output has room, so nothing refuses behind the first store, and places in the output are the file's.
+use closings::close_configuration;
+use closings::close_event;
+use closings::write_header;
+use containers::Count;
+use containers::check;
+use copies::copy_record;
+use fields::category_of;
+use fields::class_of;
+use fields::event_type_of;
+use note::WriterAnswer;
+use record::FILE_LIMIT;
+use words::word_at;
+ghost use mathlib.Core.Path.{_≡_};
+ghost use lib.ListN.{length};
+ghost use Rattle.note.specs.Answers.{givenWriter};
+ghost use Rattle.note.specs.Writers.{writerGiven, rewriteWrote, rewriteOutput};
+ghost use Rattle.rewriting.specs.Ready.{RecordsReady, EventsReady, FileReady, Stands};
+
+// Writes again the records or entries that fill a part, whose first byte stands at the place in the file and in the output.
+fn copy_records(part: &[u8], out: &mut [u8], place: usize)
+    requires { ⌜ RecordsReady place (now part) (length (now out)) ⌝ }
+    ensures { λ _. ⌜ Stands (now (part .entry)) (now (out .entry)) place (now (out .exit)) ⌝ }
+{
+    let mut rest = part;
+    let mut at = place;
+    while 0 < rest.len() {
+        let size = 8 + word_at(rest, 4) as usize;
+        copy_record(word_at(rest, 0), &rest[8..size], out, at);
+        rest = &rest[size..];
+        at = at + size;
+    }
+}
+
+// Writes again the events that fill a part: each one's records behind eight free bytes, then its closing.
+fn copy_events(part: &[u8], out: &mut [u8], place: usize)
+    requires { ⌜ EventsReady place (now part) (length (now out)) ⌝ }
+    ensures { λ _. ⌜ Stands (now (part .entry)) (now (out .entry)) place (now (out .exit)) ⌝ }
+{
+    let mut rest = part;
+    let mut at = place;
+    while 0 < rest.len() {
+        let word = word_at(rest, 0);
+        let size = 8 + word_at(rest, 4) as usize;
+        let end = at + size;
+        copy_records(&rest[8..size], out, at + 8);
+        close_event(
+            out,
+            at,
+            end,
+            class_of(word),
+            category_of(word),
+            event_type_of(word),
+        );
+        rest = &rest[size..];
+        at = end;
+    }
+}
+
+// Writes an accepted file again: its header, its configuration, its events.
+fn copy_file(file: &[u8], out: &mut [u8])
+    requires { ⌜ FileReady (now file) (length (now out)) ⌝ }
+    ensures { λ _. ⌜ Stands (now (file .entry)) (now (out .entry)) 0 (now (out .exit)) ⌝ }
+{
+    let version = word_at(file, 4);
+    let end = 16 + word_at(file, 12) as usize;
+    write_header(out, (version >> 24) as u8, ((version >> 16) & 255) as u8);
+    copy_records(&file[16..end], out, 16);
+    close_configuration(out, 8, end);
+    copy_events(&file[end..], out, end);
+}
+
+/// Rewrite: reads an accepted file's fields and writes them from byte 0 on; answers the next place. 1 for either buffer, the file's refusal,
+/// then 13 where the output has too little room; a refusal changes no byte.
+pub fn rewrite(file: &[u8], out: &mut [u8]) -> WriterAnswer
+    ensures answer { λ r. ⌜ givenWriter r ≡ writerGiven (rewriteWrote (now (file .entry)) (now (out .entry))) ⌝ }
+    ensures output { λ _. ⌜ now (out .exit) ≡ rewriteOutput (now (file .entry)) (now (out .entry)) ⌝ }
+{
+    if out.len() > FILE_LIMIT {
+        return WriterAnswer::Refused {
+            number: 1,
+            place: 0,
+        };
+    }
+    match check(file) {
+        Count::Bad { number, place } => WriterAnswer::Refused { number, place },
+        Count::Good { count: _ } => {
+            if out.len() < file.len() {
+                return WriterAnswer::Refused {
+                    number: 13,
+                    place: 0,
+                };
+            }
+            copy_file(file, out);
+            WriterAnswer::Next { place: file.len() }
+        }
+    }
+}
