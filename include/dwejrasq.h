@@ -142,6 +142,11 @@ uint32_t dwj_write_header(uint8_t *out, size_t out_length, uint8_t major, uint8_
 uint32_t dwj_close_configuration(uint8_t *out, size_t out_length, size_t place, size_t end, uint64_t *next, uint64_t *refused_at);
 uint32_t dwj_close_event(uint8_t *out, size_t out_length, size_t place, size_t end, uint32_t event_class, uint32_t category, uint32_t type, uint64_t *next, uint64_t *refused_at);
 
+/* Rewrite: an accepted file's fields, written again from byte 0 of the output on; what stands there then is the file, and *next is its
+ * length. 1 for either buffer, at 0; the file's refusal; 13 at 0 where the output is shorter than the file. The two must not overlap.
+ */
+uint32_t dwj_rewrite(const uint8_t *file, size_t file_length, uint8_t *out, size_t out_length, uint64_t *next, uint64_t *refused_at);
+
 #ifdef __cplusplus
 }
 #endif

@@ -9,6 +9,7 @@ pub use closings::close_event;
 pub use closings::write_header;
 pub use fields::zip;
 pub use find::find;
+pub use rewriting::rewrite;
 pub use samples::sample;
 pub use samples::samples;
 pub use table::table;
