@@ -44,7 +44,7 @@ module _ (bs old : List ℕ) (h : Bytes bs) (r : FileReady bs (length old)) wher
   words-fit = omega (arith, fits .0)
 
   -- The header, from the DAQ bytes of the version word.
-  module _ (version major minor : ℕ) (ev : version ≡ word 4 bs) (ea : major ≡ version / 16777216) (ei : minor ≡ version / 65536 % 256) where
+  module _ (version major minor : ℕ) (ev : version ≡ word 4 bs) (ea : major ≡ version / 16777216 % 256) (ei : minor ≡ version / 65536 % 256) where
     header-granted : headerWrote old ≡ ok 8
     unfolding headerWrote wrote
     header-granted = rw (le-leb (length old) fileLimit (r .limit), le-leb 8 (length old) (omega (arith, words-fit, r .room)))

@@ -45,14 +45,10 @@ fn copy_events(part: &[u8], out: &mut [u8], place: usize)
         let size = 8 + word_at(rest, 4) as usize;
         let end = at + size;
         copy_records(&rest[8..size], out, at + 8);
-        close_event(
-            out,
-            at,
-            end,
-            class_of(word),
-            category_of(word),
-            event_type_of(word),
-        );
+        let class = class_of(word);
+        let category = category_of(word);
+        let kind = event_type_of(word);
+        close_event(out, at, end, class, category, kind);
         rest = &rest[size..];
         at = end;
     }
@@ -65,7 +61,9 @@ fn copy_file(file: &[u8], out: &mut [u8])
 {
     let version = word_at(file, 4);
     let end = 16 + word_at(file, 12) as usize;
-    write_header(out, (version >> 24) as u8, ((version >> 16) & 255) as u8);
+    let major = ((version >> 24) & 255) as u8;
+    let minor = ((version >> 16) & 255) as u8;
+    write_header(out, major, minor);
     copy_records(&file[16..end], out, 16);
     close_configuration(out, 8, end);
     copy_events(&file[end..], out, end);

@@ -89,7 +89,7 @@ loop-less c = let (fits, limit) = event-turn (c .before .before .before .before 
 loop-again : tie.Need-loop-again Inv-loop μ-loop
 loop-again c =
     event-next (c .before .before .before .before .before .before .before .before .before .before .before .before .before .before .before .before .loop .inv) (c .before .before .before .before .before .before .before .before .before .before .before .before .before .before .before .loop-test .taken) _ _ (c .before .before .before .before .before .before .before .before .before .before .before .before .before .before .word-at .ensures) (c .before .before .before .before .before .before .before .before .before .before .before .before .before .word-at2 .ensures) _ _ _
-    (c .before .before .before .before .before .before .class-of .ensures) (c .before .before .before .before .before .category-of .ensures) (c .before .before .before .before .event-type-of .ensures) _ (c .before .before .before .before .before .before .before .before .before .before .copy-records .ensures) _ (c .before .before .before .close-event .ensures .1)
+    (c .before .before .before .before .before .before .before .class-of .ensures) (c .before .before .before .before .before .before .category-of .ensures) (c .before .before .before .before .before .event-type-of .ensures) _ (c .before .before .before .before .before .before .before .before .before .before .copy-records .ensures) _ (c .before .before .before .close-event .ensures .1)
 
 same-length : tie.Need-same-length Inv-loop μ-loop
 same-length c = c .before .loop .inv .laid .size

@@ -1,7 +1,6 @@
 -- `rewriting::copy_file` meets its contract: header, configuration and events stand one behind the other, and are the file.
 -- The idea: a law for each part, which asks what the parts before it left.
 use Prim.Native.Nat.{_+_, _/_, _≤_}
-use mathlib.Core.Path.{refl}
 use native.Mathlib.Omega.{arith}
 use denote.Ref.{now}
 use lib.ListN.{length}
@@ -40,8 +39,9 @@ start c = c .before .before .before .before .before .before
 
 header : (c : tie.After-write-header) → Laid (now (start c .args .out)) (c .write-header .last .0) 0 8 (headerBytes (versionOf (start c .pre .is)))
 header c =
-    header-copied _ _ (held (c .before .before .before .before)) (start c .pre) _ _ _ (c .before .before .before .word-at .ensures) refl
-    (and-mask (c .before .before .before .word-at .result / 65536) 8) _ (c .write-header .ensures .1)
+    let version = c .before .before .before .word-at in
+    header-copied _ _ (held (c .before .before .before .before)) (start c .pre) _ _ _ (version .ensures)
+    (and-mask (version .result / 16777216) 8) (and-mask (version .result / 65536) 8) _ (c .write-header .ensures .1)
 
 word-at-requires : tie.Need-word-at-requires
 word-at-requires c κs = omega (arith, enough c)
@@ -55,11 +55,11 @@ cast-end c = search needs
 add-end : tie.Need-add-end
 add-end c = search needs
 
-cast-write-header : tie.Need-cast-write-header
-cast-write-header c = search needs
+cast-major : tie.Need-cast-major
+cast-major c = record { fits = omega (arith, and-mask (c .before .word-at .result / 16777216) 8) }
 
-cast-write-header-2 : tie.Need-cast-write-header-2
-cast-write-header-2 c = record { fits = omega (arith, and-mask (c .before .before .word-at .result / 65536) 8) }
+cast-minor : tie.Need-cast-minor
+cast-minor c = record { fits = omega (arith, and-mask (c .before .word-at .result / 65536) 8) }
 
 write-header-requires : tie.Need-write-header-requires
 write-header-requires c κs = search needs
@@ -74,7 +74,10 @@ part-copy-records-end : tie.Need-part-copy-records-end
 part-copy-records-end c = ending (c .before .before .before .before)
 
 copy-records-requires : tie.Need-copy-records-requires
-copy-records-requires c κs = entries-ready _ _ (held (c .before .before .before .before .before .before .before .before)) (c .before .before .before .before .before .before .before .before .before .before .pre) _ (c .before .before .before .before .before .before .word-at2 .ensures) _ (header (c .before .before .before .before))
+copy-records-requires c κs =
+    let top = c .before .before .before .before in
+    let read = top .before .before in
+    entries-ready _ _ (held (read .before .before)) (start top .pre) _ (read .word-at2 .ensures) _ (header top)
 
 close-configuration-requires : tie.Need-close-configuration-requires
 close-configuration-requires c κs = search needs
@@ -89,13 +92,25 @@ part-copy-events-end : tie.Need-part-copy-events-end
 part-copy-events-end c = search needs
 
 copy-events-requires : tie.Need-copy-events-requires
-copy-events-requires c κs = events-ready _ _ (held (c .before .before .before .before .before .before .before .before .before .before .before .before .before .before .before .before .before)) (c .before .before .before .before .before .before .before .before .before .before .before .before .before .before .before .before .before .before .before .pre) _ (c .before .before .before .before .before .before .before .before .before .before .before .before .before .before .before .word-at2 .ensures) _ (header (c .before .before .before .before .before .before .before .before .before .before .before .before .before)) _ (c .before .before .before .before .before .before .before .before .copy-records .ensures) _ (c .before .before .before .before .close-configuration .ensures .1)
+copy-events-requires c κs =
+    let shut = c .before .before .before .before in
+    let filled = shut .before .before .before .before in
+    let top = filled .before .before .before .before .before in
+    let read = top .before .before in
+    events-ready _ _ (held (read .before .before)) (start top .pre) _ (read .word-at2 .ensures) _ (header top)
+    _ (filled .copy-records .ensures) _ (shut .close-configuration .ensures .1)
 
 same-length : tie.Need-same-length
 same-length c = search needs
 
 returns : tie.Need-returns
-returns c = file-copied _ _ (held (c .before .before .before .before .before .before .before .before .before .before .before .before .before .before .before .before .before .before .before .before)) (c .before .before .before .before .before .before .before .before .before .before .before .before .before .before .before .before .before .before .before .before .before .before .pre) _ (c .before .before .before .before .before .before .before .before .before .before .before .before .before .before .before .before .before .before .word-at2 .ensures) _ (header (c .before .before .before .before .before .before .before .before .before .before .before .before .before .before .before .before)) _ (c .before .before .before .before .before .before .before .before .before .before .before .copy-records .ensures) _ (c .before .before .before .before .before .before .before .close-configuration .ensures .1) _ (c .before .before .copy-events .ensures)
+returns c =
+    let shut = c .before .before .before .before .before .before .before in
+    let filled = shut .before .before .before .before in
+    let top = filled .before .before .before .before .before in
+    let read = top .before .before in
+    file-copied _ _ (held (read .before .before)) (start top .pre) _ (read .word-at2 .ensures) _ (header top)
+    _ (filled .copy-records .ensures) _ (shut .close-configuration .ensures .1) _ (c .before .before .copy-events .ensures)
 
 pub copy-file-spec : {M : Type 1} → statement M
 copy-file-spec =
@@ -105,8 +120,8 @@ copy-file-spec =
     word-at-requires-2
     cast-end
     add-end
-    cast-write-header
-    cast-write-header-2
+    cast-major
+    cast-minor
     write-header-requires
     sub-copy-records
     part-copy-records-start

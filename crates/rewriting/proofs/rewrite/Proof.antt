@@ -34,10 +34,14 @@ enum-told c = search needs
 
 returns-2 : tie.Need-returns-2
 unfolding givenWriter
-returns-2 c = no-room _ _ (c .before .before .before .before .if1 .left) (held (c .before .before .before .before .before)) _ (sym (c .before .enum-told .given .1) ∙ c .before .before .before .check .ensures) (c .if2 .taken)
+returns-2 c =
+    let good = c .before in
+    no-room _ _ (good .before .before .before .if1 .left) (held (good .before .before .before .before)) _ (sym (good .enum-told .given .1) ∙ good .before .before .check .ensures) (c .if2 .taken)
 
 copy-file-requires : tie.Need-copy-file-requires
-copy-file-requires c κs = ready _ (now (c .before .before .before .before .before .before .before .before .args .out)) (c .before .before .before .before .before .if1 .left) (held (c .before .before .before .before .before .before)) _ (sym (c .before .before .enum-told .given .1) ∙ c .before .before .before .before .check .ensures) (c .before .if2 .left)
+copy-file-requires c κs =
+    let good = c .before .before in
+    ready _ (now (good .before .before .before .before .before .before .args .out)) (good .before .before .before .if1 .left) (held (good .before .before .before .before)) _ (sym (good .enum-told .given .1) ∙ good .before .before .check .ensures) (c .before .if2 .left)
 
 returns-3 : tie.Need-returns-3
 unfolding givenWriter
@@ -49,8 +53,8 @@ same-length c = search needs
 returns-4 : tie.Need-returns-4
 unfolding givenWriter
 returns-4 c =
-    rewrites _ _ (c .before .before .before .before .before .before .before .before .if1 .left) (held (c .before .before .before .before .before .before .before .before .before)) _ (sym (c .before .before .before .before .before .enum-told .given .1) ∙ c .before .before .before .before .before .before .before .check .ensures) (c .before .before .before .before .if2 .left)
-    _ (c .before .before .copy-file .ensures)
+    let good = c .before .before .before .before .before in
+    rewrites _ _ (good .before .before .before .if1 .left) (held (good .before .before .before .before)) _ (sym (good .enum-told .given .1) ∙ good .before .before .check .ensures) (c .before .before .before .before .if2 .left) _ (c .before .before .copy-file .ensures)
 
 pub rewrite-spec : {M : Type 1} → statement M
 rewrite-spec =
