@@ -15,7 +15,7 @@ ghost use lib.ListN.{length};
 ghost use Rattle.note.specs.Answers.{givenYield};
 ghost use Rattle.note.specs.Calls.{recordAt, settingAt, samplesPart, sampleAt, findAt};
 ghost use Rattle.note.specs.Channels.{channelAnswer, codeAnswer};
-ghost use Rattle.note.specs.Rows.{tableAnswer, tableBuffer, visitAnswer, visitBuffer};
+ghost use Rattle.note.specs.Rows.{tableAnswer, tableBuffer};
 ghost use Rattle.note.specs.Tlb.{zipSet};
 ghost use Rattle.walk.specs.Steps.{openedOf, stepOf};
 ghost use Rattle.exports.specs.Lent.{numberOf, placeAfter, wholesAfter, floatsAfter, bit};
@@ -401,26 +401,6 @@ pub extern "C" fn dwj_find(
             why
         }
     }
-}
-
-/// Visit: the number; rows from the number `first` on, from 0, their count and the place lent.
-#[no_mangle]
-pub extern "C" fn dwj_visit(
-    file: &[u8],
-    first: usize,
-    rows: &mut [u32],
-    count: &mut u64,
-    place: &mut u64,
-) -> u32
-    ensures number { λ r. ⌜ r ≡ visitAnswer (now (file .entry)) first (length (now (rows .entry))) .number ⌝ }
-    ensures rows { λ _. ⌜ now (rows .exit) ≡ visitBuffer (now (file .entry)) first (now (rows .entry)) ⌝ }
-    ensures count { λ _. ⌜ now (count .exit) ≡ visitAnswer (now (file .entry)) first (length (now (rows .entry))) .count ⌝ }
-    ensures place { λ _. ⌜ now (place .exit) ≡ visitAnswer (now (file .entry)) first (length (now (rows .entry))) .place ⌝ }
-{
-    let answer = dwejrasq::visit(file, first, rows);
-    *count = answer.count as u64;
-    *place = answer.place as u64;
-    answer.number
 }
 
 // What a walk yields, for C: the number; a row, zeros at the end, or a refusal's place lent.

@@ -19,9 +19,10 @@ use Rattle.rows.specs.declared.Row as Code
 use Rattle.rows.specs.Buffers.{rowOf, stored}
 use Rattle.rows.proofs.StoreLaws.{stored-append, stored-nil, length-stored, stored-first}
 use Rattle.walk.specs.declared.Spot.{Spot}
-use Rattle.walk.specs.Steps.{stepOf, stepsFrom, openedOf, rowYield, Yields}
-use Rattle.walk.proofs.WalkLaws.{file-yields, opened-number, opened-refusal}
-use Rattle.visitor.specs.Visits.{Skipped, Stored}
+use Rattle.walk.specs.Steps.{startGiven, startOf, stepOf, stepsFrom, openedOf, rowYield, Yields}
+use Rattle.demands.proofs.RefusalLaws.{refusal-is-numbered}
+use Rattle.walk.proofs.WalkLaws.{file-yields}
+use Rattle.visitor.specs.Visits.{Stored}
 
 -- ---- what stands next
 
@@ -66,117 +67,128 @@ never-refused bs at (x ∷ xs) h c p e = subst isRow (sym (h .0) ∙ e) tt
 behind-one : (rs : List Row) (n : ℕ) (r : Row) (xs : List Row) → drop n rs ≡ r ∷ xs → drop (n + 1) rs ≡ xs
 behind-one rs n r xs e = sym (drop-drop 1 n rs) ∙ ap (drop 1) e
 
--- ---- passing over
+-- ---- passing over rows and storing them
 
-module _ (bs : List ℕ) (from : Spot) (at : Spot) (k : ℕ) (i : Skipped bs from k at) where
-  pub skip-on : {a b c d e f : ℕ} → at .last ≡ Yield.Row a b c d e f → (next : Spot) → next ≡ stepOf bs at → Skipped bs from (k + 1) next
-  skip-on r next en rs h =
-      let n : Next bs at (drop k rs) = coming bs at (drop k rs) (i rs h) (subst isRow (sym r) tt) in
-      subst (λ (x : Spot). Yields bs x (drop (k + 1) rs)) (sym en)
-      (subst (Yields bs (stepOf bs at)) (sym (behind-one rs k (n .one) (n .others) (n .splits))) (n .on))
+-- k rows were passed over and n stored, and the walk stands before the others.
+pub record Running (bs : List ℕ) (rs : List Row) (first : ℕ) (old new : List ℕ) (at : Spot) (k n : ℕ) : Type 0 where
+  pub ahead : Yields bs (stepOf bs at) (drop (k + n) rs)
+  pub held : new ≡ stored old 0 (take n (drop first rs))
+  pub some : length (take n (drop first rs)) ≡ n
+  pub low : k ≤ first
+  pub idle : k < first → n ≡ 0
 
-  pub skip-ended : (count : ℕ) → k ≤ count → at .last ≡ Yield.End → Skipped bs from count at
-  skip-ended count l e rs h =
-      let z : drop k rs ≡ [] = none-left bs at (drop k rs) (i rs h) (subst isEnd (sym e) tt) in
-      let m : k + (count - k) ≡ count = omega arith in
-      let y : drop count rs ≡ [] = ap (λ (x : ℕ). drop x rs) (sym m) ∙ sym (drop-drop (count - k) k rs) ∙ ap (drop (count - k)) z ∙ drop-none (count - k) in
-      subst (Yields bs at) (z ∙ sym y) (i rs h)
-    where
-      drop-none : (m : ℕ) → _≡_ {A = List Row} (drop m []) []
-      drop-none zero = refl
-      drop-none (suc m) = refl
+pub begin : (bs : List ℕ) (rs : List Row) (first : ℕ) (old : List ℕ) (at : Spot) → Yields bs (stepOf bs at) rs → Running bs rs first old old at 0 0
+begin bs rs first old at h = record { ahead = h; held = sym (stored-nil old 0); some = refl; low = omega arith; idle = λ l. refl }
 
-  pub skip-refused : (count c p : ℕ) → at .last ≡ Yield.Refused c p → Skipped bs from count at
-  skip-refused count c p e rs h = absurd (never-refused bs at (drop k rs) (i rs h) c p e)
+take-one : (xs : List Row) (n : ℕ) (r : Row) (ys : List Row) → drop n xs ≡ r ∷ ys → length (take n xs) ≡ n → take (n + 1) xs ≡ take n xs ++ (r ∷ [])
+take-one xs n r ys e l =
+    let whole : xs ≡ (take n xs ++ (r ∷ [])) ++ ys = sym (take-append-drop n xs) ∙ ap (λ (y : List Row). take n xs ++ y) e ∙ sym (append-assoc (take n xs) (r ∷ []) ys) in
+    ap (take (n + 1)) whole ∙ take-at (take n xs ++ (r ∷ [])) ys (n + 1) (length-append (take n xs) (r ∷ []) ∙ ap (λ (m : ℕ). m + 1) l)
 
-  pub skip-done : (count : ℕ) → k ≤ count → count ≤ k → Skipped bs from count at
-  skip-done count l m rs h = let e : k ≡ count = omega arith in subst (λ (x : ℕ). Yields bs at (drop x rs)) e (i rs h)
+take-all : (m : ℕ) (ys : List Row) → length ys ≤ m → take m ys ≡ ys
+take-all zero [] h = refl
+take-all (suc m) [] h = refl
+take-all zero (y ∷ ys) h = absurd (omega arith)
+take-all (suc m) (y ∷ ys) h = ap (λ (t : List Row). y ∷ t) (take-all m ys (omega arith))
 
-pub skip-begin : (bs : List ℕ) (from : Spot) → Skipped bs from 0 from
-skip-begin bs from rs h = h
+drop-none : (m : ℕ) → _≡_ {A = List Row} (drop m []) []
+drop-none zero = refl
+drop-none (suc m) = refl
 
--- ---- storing
+module _ {bs : List ℕ} {rs : List Row} {first : ℕ} {old new : List ℕ} {at : Spot} {k n : ℕ} (i : Running bs rs first old new at k n)
+    (next : Spot) (en : next ≡ stepOf bs at) where
+  yields : Yields bs next (drop (k + n) rs)
+  yields = subst (λ (x : Spot). Yields bs x (drop (k + n) rs)) (sym en) (i .ahead)
 
--- n rows are stored, and the walk stands before the others.
-pub record Storing (bs : List ℕ) (rs : List Row) (old new : List ℕ) (at : Spot) (n : ℕ) : Type 0 where
-  pub ahead : Yields bs at (drop n rs)
-  pub held : new ≡ stored old 0 (take n rs)
-  pub some : length (take n rs) ≡ n
+  on-from : (a : ℕ) → a ≡ k + n + 1 → isRow (next .last) → Yields bs (stepOf bs next) (drop a rs)
+  on-from a ea r =
+      let x : Next bs next (drop (k + n) rs) = coming bs next (drop (k + n) rs) yields r in
+      subst (Yields bs (stepOf bs next)) (sym (behind-one rs (k + n) (x .one) (x .others) (x .splits)) ∙ ap (λ (m : ℕ). drop m rs) (sym ea)) (x .on)
 
-pub store-begin : (bs : List ℕ) (rs : List Row) (old : List ℕ) (at : Spot) → Yields bs at rs → Storing bs rs old old at 0
-store-begin bs rs old at h = record { ahead = h; held = sym (stored-nil old 0); some = refl }
+  pub passed : {a b c d e f : ℕ} → next .last ≡ Yield.Row a b c d e f → k < first → Running bs rs first old new next (k + 1) n
+  passed r l = record {
+    ahead = on-from (k + 1 + n) (omega arith) (subst isRow (sym r) tt);
+    held = i .held;
+    some = i .some;
+    low = omega arith;
+    idle = λ m. i .idle l;
+  }
 
-take-one : (rs : List Row) (n : ℕ) (r : Row) (xs : List Row) → drop n rs ≡ r ∷ xs → length (take n rs) ≡ n → take (n + 1) rs ≡ take n rs ++ (r ∷ [])
-take-one rs n r xs e l =
-    let whole : rs ≡ (take n rs ++ (r ∷ [])) ++ xs = sym (take-append-drop n rs) ∙ ap (λ (y : List Row). take n rs ++ y) e ∙ sym (append-assoc (take n rs) (r ∷ []) xs) in
-    ap (take (n + 1)) whole ∙ take-at (take n rs ++ (r ∷ [])) xs (n + 1) (length-append (take n rs) (r ∷ []) ∙ ap (λ (m : ℕ). m + 1) l)
-
-module _ {bs : List ℕ} {rs : List Row} {old new : List ℕ} {at : Spot} {n : ℕ} (i : Storing bs rs old new at n) where
-  pub store-on : {a b c d e f : ℕ} → at .last ≡ Yield.Row a b c d e f → (next : Spot) → next ≡ stepOf bs at
+  pub kept : {a b c d e f : ℕ} → next .last ≡ Yield.Row a b c d e f → first ≤ k
       → (new′ : List ℕ) → new′ ≡ stored new n (rowOf (record { kind = a; start = b; whole = c; parent = d; one = e; two = f }) ∷ [])
-      → Storing bs rs old new′ next (n + 1)
+      → Running bs rs first old new′ next k (n + 1)
   unfolding rowOf
-  store-on {a} {b} {c} {d} {e} {f} r next en new′ ew =
-      let x : Next bs at (drop n rs) = coming bs at (drop n rs) (i .ahead) (subst isRow (sym r) tt) in
+  kept {a} {b} {c} {d} {e} {f} r l new′ ew =
+      let is : isRow (next .last) = subst isRow (sym r) tt in
+      let x : Next bs next (drop (k + n) rs) = coming bs next (drop (k + n) rs) yields is in
       let same : _≡_ {A = Row} (record { kind = a; start = b; whole = c; parent = d; one = e; two = f }) (x .one) = ap rowOfYield (sym r ∙ x .here) in
-      let place : n ≡ 0 + length (take n rs) = omega (arith, i .some) in
-      let all : take (n + 1) rs ≡ take n rs ++ (x .one ∷ []) = take-one rs n (x .one) (x .others) (x .splits) (i .some) in
+      let m : first + n ≡ k + n = omega (arith, i .low, l) in
+      let here : drop n (drop first rs) ≡ x .one ∷ x .others = drop-drop n first rs ∙ ap (λ (q : ℕ). drop q rs) m ∙ x .splits in
+      let place : n ≡ 0 + length (take n (drop first rs)) = omega (arith, i .some) in
+      let all : take (n + 1) (drop first rs) ≡ take n (drop first rs) ++ (x .one ∷ []) = take-one (drop first rs) n (x .one) (x .others) here (i .some) in
       record {
-        ahead = subst (λ (y : Spot). Yields bs y (drop (n + 1) rs)) (sym en)
-            (subst (Yields bs (stepOf bs at)) (sym (behind-one rs n (x .one) (x .others) (x .splits))) (x .on));
+        ahead = on-from (k + (n + 1)) (omega arith) is;
         held = ew ∙ ap (λ (y : Row). stored new n (y ∷ [])) same
-            ∙ ap₂ (λ (y : List ℕ) (m : ℕ). stored y m (x .one ∷ [])) (i .held) place
-            ∙ sym (stored-append old 0 (take n rs) (x .one ∷ [])) ∙ ap (stored old 0) (sym all);
-        some = ap length all ∙ length-append (take n rs) (x .one ∷ []) ∙ ap (λ (m : ℕ). m + 1) (i .some);
+            ∙ ap₂ (λ (y : List ℕ) (q : ℕ). stored y q (x .one ∷ [])) (i .held) place
+            ∙ sym (stored-append old 0 (take n (drop first rs)) (x .one ∷ [])) ∙ ap (stored old 0) (sym all);
+        some = ap length all ∙ length-append (take n (drop first rs)) (x .one ∷ []) ∙ ap (λ (q : ℕ). q + 1) (i .some);
+        low = i .low;
+        idle = λ q. absurd (omega arith);
       }
 
-  pub store-ended : (room : ℕ) → n ≤ room → at .last ≡ Yield.End → (new ≡ stored old 0 (take room rs)) × (n ≡ length (take room rs))
-  store-ended room l e =
-      let z : drop n rs ≡ [] = none-left bs at (drop n rs) (i .ahead) (subst isEnd (sym e) tt) in
-      let whole : take n rs ≡ rs = sym (append-nil (take n rs)) ∙ ap (λ (y : List Row). take n rs ++ y) (sym z) ∙ take-append-drop n rs in
-      let size : length rs ≡ n = ap length (sym whole) ∙ i .some in
-      let all : take room rs ≡ take n rs = take-all room rs (omega (arith, size)) ∙ sym whole in
+  pub finished : (room : ℕ) → n ≤ room → next .last ≡ Yield.End
+      → (new ≡ stored old 0 (take room (drop first rs))) × (n ≡ length (take room (drop first rs)))
+  finished room l e =
+      let xs : List Row = drop first rs in
+      let z : drop (k + n) rs ≡ [] = none-left bs next (drop (k + n) rs) yields (subst isEnd (sym e) tt) in
+      let m : k + n + (first - k) ≡ first + n = omega (arith, i .low) in
+      let gone : drop n xs ≡ [] = drop-drop n first rs ∙ ap (λ (q : ℕ). drop q rs) (sym m) ∙ sym (drop-drop (first - k) (k + n) rs) ∙ ap (drop (first - k)) z ∙ drop-none (first - k) in
+      let whole : take n xs ≡ xs = sym (append-nil (take n xs)) ∙ ap (λ (y : List Row). take n xs ++ y) (sym gone) ∙ take-append-drop n xs in
+      let size : length xs ≡ n = ap length (sym whole) ∙ i .some in
+      let all : take room xs ≡ take n xs = take-all room xs (omega (arith, size)) ∙ sym whole in
       (i .held ∙ ap (stored old 0) (sym all), sym (i .some) ∙ ap length (sym all))
-    where
-      take-all : (m : ℕ) (ys : List Row) → length ys ≤ m → take m ys ≡ ys
-      take-all zero [] h = refl
-      take-all (suc m) [] h = refl
-      take-all zero (y ∷ ys) h = absurd (omega arith)
-      take-all (suc m) (y ∷ ys) h = ap (λ (t : List Row). y ∷ t) (take-all m ys (omega arith))
 
-  pub store-refused : (c p : ℕ) → at .last ≡ Yield.Refused c p → ⊥
-  store-refused c p e = never-refused bs at (drop n rs) (i .ahead) c p e
+  pub not-refused : (c p : ℕ) → next .last ≡ Yield.Refused c p → ⊥
+  not-refused c p e = never-refused bs next (drop (k + n) rs) yields c p e
 
-  pub store-full : (room : ℕ) → n ≤ room → room ≤ n → (new ≡ stored old 0 (take room rs)) × (n ≡ length (take room rs))
-  store-full room l m = let e : n ≡ room = omega arith in (i .held ∙ ap (λ (k : ℕ). stored old 0 (take k rs)) e, sym (i .some) ∙ ap (λ (k : ℕ). length (take k rs)) e)
+pub filled : {bs : List ℕ} {rs : List Row} {first : ℕ} {old new : List ℕ} {at : Spot} {k n : ℕ} → Running bs rs first old new at k n
+    → (room : ℕ) → n ≤ room → room ≤ n → (new ≡ stored old 0 (take room (drop first rs))) × (n ≡ length (take room (drop first rs)))
+filled {bs} {rs} {first} {old} {new} {at} {k} {n} i room l m =
+    let e : n ≡ room = omega arith in
+    (i .held ∙ ap (λ (q : ℕ). stored old 0 (take q (drop first rs))) e, sym (i .some) ∙ ap (λ (q : ℕ). length (take q (drop first rs))) e)
 
 -- ---- the visitor
+
+start-refusal : (bs : List ℕ) (c p : ℕ) → readFile bs ≡ bad c p → startOf bs .number ≡ c
+unfolding startOf
+start-refusal bs c p e = rw e
 
 length-piece : (m : ℕ) (xs : List Row) → length (take m xs) ≤ m
 length-piece zero xs = omega arith
 length-piece (suc m) [] = omega arith
 length-piece (suc m) (x ∷ xs) = omega (arith, length-piece m xs)
 
-module _ (bs old : List ℕ) (k : ℕ) (h : Bytes bs) where
-  pub visit-refused : openedOf bs .number ≢ 0
-      → (record { number = openedOf bs .number; count = 0; place = openedOf bs .fault } ≡ visitAnswer bs k (length old)) × (old ≡ visitBuffer bs k old)
-  unfolding visitAnswer visitBuffer
+module _ (bs old : List ℕ) (k : ℕ) where
+  pub visit-refused : startOf bs .number ≢ 0
+      → (record { number = startOf bs .number; count = 0; place = startOf bs .fault } ≡ visitAnswer bs k (length old)) × (old ≡ visitBuffer bs k old)
+  unfolding visitAnswer visitBuffer startOf
   visit-refused n = go (readFile bs) refl
     where
       go : (r : Res File) → readFile bs ≡ r
-          → (record { number = openedOf bs .number; count = 0; place = openedOf bs .fault } ≡ visitGiven bs k (length old) (readFile bs)) × (old ≡ visitFilled k old (readFile bs))
-      go (ok f) e = absurd (n (opened-number bs f h e))
-      go (bad c p) e = let (a, b, z) = opened-refusal bs c p e in (rw (e, a, b), rw e)
+          → (record { number = startGiven (readFile bs) .number; count = 0; place = startGiven (readFile bs) .fault } ≡ visitGiven bs k (length old) (readFile bs))
+          × (old ≡ visitFilled k old (readFile bs))
+      go (ok f) e = absurd (n (ap (λ (x : Res File). startGiven x .number) e))
+      go (bad c p) e = (rw e, rw e)
 
-  pub visit-accepted : openedOf bs .number ≡ 0 → (from : Spot) → Skipped bs (openedOf bs) k from → (new : List ℕ) (n : ℕ) → Stored bs from old new n
+  pub visit-accepted : Bytes bs → startOf bs .number ≡ 0 → (new : List ℕ) (n : ℕ) → Stored bs (startOf bs) k old new n
       → (record { number = 0; count = n; place = length bs } ≡ visitAnswer bs k (length old)) × (new ≡ visitBuffer bs k old)
-  unfolding visitAnswer visitBuffer
-  visit-accepted z from s new n t = go (readFile bs) refl
+  unfolding visitAnswer visitBuffer openedOf
+  visit-accepted h z new n t = go (readFile bs) refl
     where
       go : (r : Res File) → readFile bs ≡ r
           → (record { number = 0; count = n; place = length bs } ≡ visitGiven bs k (length old) (readFile bs)) × (new ≡ visitFilled k old (readFile bs))
       go (ok f) e =
-          let (held, some) = t (drop k (rowsOf f)) (s (rowsOf f) (file-yields bs f h e)) in
+          let (held, some) = t (rowsOf f) (file-yields bs f h e) in
           let xs : List Row = piece k (length old) (rowsOf f) in
           (rw (e, some), held ∙ stored-first old xs (omega (arith, length-piece (length old / rowWidth) (drop k (rowsOf f)))) ∙ rw e)
-      go (bad c p) e = let (a, b, y) = opened-refusal bs c p e in absurd (omega (arith, a, z, y))
+      go (bad c p) e = absurd (omega (arith, start-refusal bs c p e, z, refusal-is-numbered bs c p e))

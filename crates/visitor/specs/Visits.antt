@@ -1,4 +1,4 @@
--- What passing over rows and storing rows leave, of a walk whose yields are known.
+-- What storing rows leaves, of a walk whose yields are known.
 use Prim.Native.Nat.{ℕ, _/_}
 use mathlib.Core.Path.{_≡_}
 use mathlib.Core.List.{List}
@@ -7,13 +7,10 @@ use Rattle.theory.specs.Layout.{Row}
 use Rattle.note.specs.Limits.{rowWidth}
 use Rattle.rows.specs.Buffers.{stored}
 use Rattle.walk.specs.declared.Spot.{Spot}
-use Rattle.walk.specs.Steps.{Yields}
+use Rattle.walk.specs.Steps.{stepOf, Yields}
 
--- The walk that stood at `from` stands `count` rows further at `at`.
-abbrev pub Skipped : List ℕ → Spot → ℕ → Spot → Type 0
-Skipped bs from count at = (rs : List Row) → Yields bs from rs → Yields bs at (drop count rs)
-
--- As many rows as the buffer holds are stored from its beginning on, and n is how many.
-abbrev pub Stored : List ℕ → Spot → List ℕ → List ℕ → ℕ → Type 0
-Stored bs from old new n =
-    (rs : List Row) → Yields bs from rs → (new ≡ stored old 0 (take (length old / rowWidth) rs)) × (n ≡ length (take (length old / rowWidth) rs))
+-- Of a walk that stands before rows: as many as the buffer holds, but for the first k, are stored from its beginning on, and n is how many.
+abbrev pub Stored : List ℕ → Spot → ℕ → List ℕ → List ℕ → ℕ → Type 0
+Stored bs from k old new n =
+    (rs : List Row) → Yields bs (stepOf bs from) rs
+    → (new ≡ stored old 0 (take (length old / rowWidth) (drop k rs))) × (n ≡ length (take (length old / rowWidth) (drop k rs)))

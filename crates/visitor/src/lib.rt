@@ -5,50 +5,24 @@ use rows::Row;
 use rows::put_row;
 use walk::Spot;
 use walk::last;
-use walk::opened;
+use walk::start;
 use walk::step;
 ghost use mathlib.Core.Path.{_≡_};
 ghost use lib.ListN.{length};
 ghost use Rattle.note.specs.Rows.{visitAnswer, visitBuffer};
-ghost use Rattle.visitor.specs.Visits.{Skipped, Stored};
+ghost use Rattle.visitor.specs.Visits.{Stored};
 
-// The walk after so many rows, or at its end.
-fn skip(file: &[u8], from: Spot, count: usize) -> Spot
-    ensures { λ r. ⌜ Skipped (now (file .entry)) from count r ⌝ }
+// Runs a walk and stores its rows, but for the first ones, up to the last or until the buffer is full; answers how many. The step is
+// called in one place, so that the compiler has it in the loop and keeps the walk's numbers in registers.
+fn store(file: &[u8], from: Spot, first: usize, rows: &mut [u32]) -> usize
+    ensures { λ r. ⌜ Stored (now (file .entry)) from first (now (rows .entry)) (now (rows .exit)) r ⌝ }
 {
     let mut at = from;
     let mut k = 0;
-    while k < count {
-        match last(at) {
-            WalkerYield::Row {
-                kind: _,
-                start: _,
-                whole: _,
-                parent: _,
-                one: _,
-                two: _,
-            } => {
-                at = step(file, at);
-                k = k + 1;
-            }
-            WalkerYield::End => return at,
-            WalkerYield::Refused {
-                number: _,
-                place: _,
-            } => return at,
-        }
-    }
-    at
-}
-
-// Stores the rows from a spot on, up to the last or until the buffer is full, and answers how many.
-fn store(file: &[u8], from: Spot, rows: &mut [u32]) -> usize
-    ensures { λ r. ⌜ Stored (now (file .entry)) from (now (rows .entry)) (now (rows .exit)) r ⌝ }
-{
-    let mut at = from;
     let mut n = 0;
     let room = rows.len() / 6;
     while n < room {
+        at = step(file, at);
         match last(at) {
             WalkerYield::Row {
                 kind,
@@ -58,20 +32,23 @@ fn store(file: &[u8], from: Spot, rows: &mut [u32]) -> usize
                 one,
                 two,
             } => {
-                put_row(
-                    rows,
-                    n,
-                    Row {
-                        kind,
-                        start,
-                        whole,
-                        parent,
-                        one,
-                        two,
-                    },
-                );
-                at = step(file, at);
-                n = n + 1;
+                if k < first {
+                    k = k + 1;
+                } else {
+                    put_row(
+                        rows,
+                        n,
+                        Row {
+                            kind,
+                            start,
+                            whole,
+                            parent,
+                            one,
+                            two,
+                        },
+                    );
+                    n = n + 1;
+                }
             }
             WalkerYield::End => return n,
             WalkerYield::Refused {
@@ -89,16 +66,15 @@ pub fn visit(file: &[u8], first: usize, rows: &mut [u32]) -> TableAnswer
     ensures answer { λ r. ⌜ r ≡ visitAnswer (now (file .entry)) first (length (now (rows .entry))) ⌝ }
     ensures buffer { λ _. ⌜ now (rows .exit) ≡ visitBuffer (now (file .entry)) first (now (rows .entry)) ⌝ }
 {
-    let at = opened(file);
-    if at.number != 0 {
+    let from = start(file);
+    if from.number != 0 {
         return TableAnswer {
-            number: at.number,
+            number: from.number,
             count: 0,
-            place: at.fault,
+            place: from.fault,
         };
     }
-    let from = skip(file, at, first);
-    let count = store(file, from, rows);
+    let count = store(file, from, first, rows);
     TableAnswer {
         number: 0,
         count,

@@ -1,9 +1,9 @@
 -- Visit's own contract, word for word.
 use borrow.Author.Needs.{needs}
-use Rattle.exports.proofs.dwj_visit.Statement.{statement}
-use Rattle.exports.proofs.dwj_visit.Tie as tie
-use Rattle.exports.proofs.dwj_visit.Reads as reads
-use Rattle.exports.proofs.dwj_visit.Lts as lts
+use Rattle.visiting.proofs.dwj_visit.Statement.{statement}
+use Rattle.visiting.proofs.dwj_visit.Tie as tie
+use Rattle.visiting.proofs.dwj_visit.Reads as reads
+use Rattle.visiting.proofs.dwj_visit.Lts as lts
 use Rattle.dwejrasq.proofs.visit.Reads as visit-reads
 
 visit-requires : tie.Need-visit-requires
