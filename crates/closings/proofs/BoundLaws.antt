@@ -1,7 +1,7 @@
 -- Each way through a closing's answer before its contents are asked, and what the end tells that was answered there.
 -- The idea: one law for the three ways to 13, and one for each test behind it.
 use Prim.Native.Nat.{ℕ, _+_, _≤_, _<_}
-use mathlib.Core.Path.{_≡_, refl, sym, ap, _∙_}
+use mathlib.Core.Path.{_≡_, refl, sym, ap}
 use mathlib.Core.Bool.{Bool, true, false}
 use mathlib.Core.List.{[], _∷_}
 use native.Mathlib.Omega.{arith}

@@ -11,7 +11,6 @@ use stores::admitted;
 use stores::put_words;
 ghost use mathlib.Core.Path.{_≡_};
 ghost use Prim.Native.Nat.{_+_, _*_, _%_, _^_, _≤_, _<_};
-ghost use lib.ListN.{length};
 ghost use Rattle.note.specs.Answers.{givenWriter};
 ghost use Rattle.note.specs.Events.{eventWord};
 ghost use Rattle.note.specs.Files.{versionWord};

@@ -7,7 +7,7 @@ use native.Mathlib.Omega.{arith}
 use lib.ListN.{length, take, drop}
 use Rattle.theory.proofs.TestLaws.{first-at, equal-passed}
 use Rattle.note.specs.Words.{word}
-use Rattle.note.specs.History.{Section, widthAt, widthOf, after, sectionOf, historyTests, historyRule}
+use Rattle.note.specs.History.{widthAt, widthOf, after, sectionOf, historyTests, historyRule}
 
 -- Where the veto section's width stands, where the trigger section begins, and where its width stands.
 pub record Cuts (b : List ℕ) (veto middle trigger : ℕ) : Type 0 where

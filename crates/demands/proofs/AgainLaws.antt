@@ -1,8 +1,8 @@
 -- The fields of a body that its kind's rule admits, handed to their writer: it finds no fault, and its bytes are the record. For every kind.
 -- The idea: the writer's tests are among the reader's, and the fields' body is the body.
 use mathlib.Core.Path.{_≡_, refl, ap, _∙_}
-use mathlib.Core.List.{List, [], _∷_}
-use Prim.Native.Nat.{ℕ, _+_, _*_, _≤_}
+use mathlib.Core.List.{List}
+use Prim.Native.Nat.{ℕ, _*_, _≤_}
 use native.Mathlib.Omega.{arith}
 use lib.ListN.{length, drop, length-drop}
 use Rattle.theory.specs.Words.{Bytes}

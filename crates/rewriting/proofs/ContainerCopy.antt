@@ -1,6 +1,6 @@
 -- A container written again: its contents behind eight free bytes, then its closing. Once, for configurations and events.
 -- The idea: the closing reads in the output the contents that it would read in the file, where they stand, so it closes the same container.
-use mathlib.Core.Path.{_≡_, refl, sym, ap, _∙_, subst}
+use mathlib.Core.Path.{_≡_, sym, ap, _∙_, subst}
 use mathlib.Core.List.{List}
 use Prim.Native.Nat.{ℕ, _+_, _-_, _/_, _≤_}
 use native.Mathlib.Omega.{arith}
@@ -11,7 +11,7 @@ use Rattle.theory.specs.Tests.{Res, ok}
 use Rattle.theory.proofs.TestLaws.{ok-inj, first-at, equal-passed}
 use Rattle.note.specs.Limits.{fileLimit}
 use Rattle.note.specs.Records.{Record, Context, entry, event, none, readRecords}
-use Rattle.note.specs.Events.{Container, containerBytes, classOf, categoryOf, eventTypeOf, eventMark, eventWord, eventFault, eventWordRule, eventHead, eventLate}
+use Rattle.note.specs.Events.{containerBytes, classOf, categoryOf, eventTypeOf, eventMark, eventWord, eventFault, eventWordRule, eventHead, eventLate}
 use Rattle.note.specs.Files.{configurationWord, configurationHead, configurationLate}
 use Rattle.note.specs.Writers.{written, contentsOf, closingBytes, configurationClosed, configurationOutput, eventClosed, eventOutput}
 use Rattle.demands.specs.Outputs.{Laid}

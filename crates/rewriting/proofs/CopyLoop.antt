@@ -6,7 +6,7 @@ use Prim.Native.Nat.{ℕ, _+_, _-_, _≤_, _<_}
 use native.Mathlib.Omega.{arith}
 use lib.ListN.{length, take, drop, length-append}
 use Rattle.theory.specs.Words.{Bytes}
-use Rattle.theory.specs.Tests.{Res, ok}
+use Rattle.theory.specs.Tests.{ok}
 use Rattle.theory.proofs.WordLaws.{Bytes-drop}
 use Rattle.theory.proofs.Items.{Item}
 use Rattle.theory.proofs.LoopLaws.{whole, Ahead, ahead}

@@ -1,6 +1,6 @@
 -- The events of a part, written again: what the event that stands next asks and leaves.
 -- The idea: it was read, so its records are read where code cuts them out, and its closing puts its own two words in front of them.
-use mathlib.Core.Path.{_≡_, refl, sym, ap, ap₂, _∙_, subst}
+use mathlib.Core.Path.{_≡_, sym, ap, _∙_, subst}
 use mathlib.Core.List.{List}
 use Prim.Native.Nat.{ℕ, _+_, _-_, _≤_, _<_}
 use native.Mathlib.Omega.{arith}

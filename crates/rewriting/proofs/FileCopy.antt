@@ -1,6 +1,6 @@
 -- A file written again: what its parts ask and leave, one behind the other.
 -- The idea: an accepted file is its tree's bytes, so the header, the configuration and the events that were laid are the file.
-use mathlib.Core.Path.{_≡_, refl, sym, ap, _∙_, subst}
+use mathlib.Core.Path.{_≡_, sym, ap, _∙_, subst}
 use mathlib.Core.List.{List}
 use Prim.Native.Nat.{ℕ, _+_, _-_, _/_, _%_, _≤_}
 use native.Mathlib.Omega.{arith}
@@ -15,7 +15,7 @@ use Rattle.note.specs.Limits.{fileLimit}
 use Rattle.note.specs.Words.{word}
 use Rattle.note.specs.Records.{entry, recordsBytes, readRecords}
 use Rattle.note.specs.Events.{Container, containerBytes, eventsBytes}
-use Rattle.note.specs.Files.{File, versionOf, configurationOf, eventsOf, format, versionWord, headerBytes, configurationWord, fileBytes}
+use Rattle.note.specs.Files.{File, versionOf, configurationOf, eventsOf, format, versionWord, headerBytes, fileBytes}
 use Rattle.note.specs.Writers.{wrote, headerWrote, headerOutput, configurationOutput}
 use Rattle.demands.specs.Valid.{Valid}
 use Rattle.demands.specs.Outputs.{Laid}
@@ -23,7 +23,7 @@ use Rattle.demands.proofs.Follows.{file-sound}
 use Rattle.demands.proofs.OutputLaws.{both-laid}
 use Rattle.demands.proofs.WriterLaws.{header-laid}
 use Rattle.containers.proofs.RecordLoop.{left}
-use Rattle.containers.proofs.FileParts.{version-is, length-is, room, entries-part, entries-read, events-part, events-read}
+use Rattle.containers.proofs.FileParts.{version-is, length-is, room, entries-read, events-part, events-read}
 use Rattle.rewriting.specs.Ready.{RecordsReady, EventsReady, FileReady, Stands}
 use Rattle.rewriting.proofs.ContainerCopy.{Laying, configuration-copied}
 

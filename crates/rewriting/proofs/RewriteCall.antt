@@ -1,6 +1,6 @@
 -- Rewrite's answer and output, for each way through the call.
 -- The idea: a refusal is the definition's own; of an accepted file with room, what stands from byte 0 on is the file, as the definition says.
-use mathlib.Core.Path.{_≡_, sym, ap, _∙_}
+use mathlib.Core.Path.{_≡_, sym, _∙_}
 use mathlib.Core.List.{List, [], _∷_}
 use Prim.Native.Nat.{ℕ, _+_, _≤_, _<_}
 use native.Mathlib.Omega.{arith}

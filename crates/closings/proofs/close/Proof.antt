@@ -1,6 +1,6 @@
 -- `closings::close` meets its contract: what `bounded` refuses is refused, then what the contents refuse; the end tells that there is room.
 -- The idea: a law for each way; the contents are read where they stand in the output.
-use Prim.Native.Nat.{_+_, _-_, _≤_}
+use Prim.Native.Nat.{_+_, _-_}
 use mathlib.Core.Path.{_≡_, sym, ap, _∙_}
 use mathlib.Core.List.{[], _∷_}
 use native.Mathlib.Omega.{arith}
@@ -88,7 +88,9 @@ same-length c = search needs
 
 returns-2 : tie.Need-returns-2
 unfolding givenWriter
-returns-2 c = contents-refuse _ _ _ _ _ _ _ _ _ _ (said (c .before .before .before .before .before .before .before)) (sym (c .before .number2 .given .1) ∙ c .before .before .before .records-in .ensures)
+returns-2 c =
+    contents-refuse _ _ _ _ _ _ _ _ _ _ (said (c .before .before .before .before .before .before .before))
+    (sym (c .before .number2 .given .1) ∙ c .before .before .before .records-in .ensures)
 
 same-length-2 : tie.Need-same-length-2
 same-length-2 c = search needs
@@ -98,7 +100,8 @@ unfolding givenWriter
 returns-3 c =
     let next = c .before .before .before .before .before .before .before .before .before .before .before in
     let k = told next in
-    let shut = shuts _ _ _ _ _ _ _ _ _ (said next) (sym (c .before .before .before .before .before .enum-told .given .1) ∙ c .before .before .before .before .before .before .before .records-in .ensures) (omega (arith, k .room, k .wide)) in
+    let counted = sym (c .before .before .before .before .before .enum-told .given .1) ∙ c .before .before .before .before .before .before .before .records-in .ensures in
+    let shut = shuts _ _ _ _ _ _ _ _ _ (said next) counted (omega (arith, k .room, k .wide)) in
     (shut .0, c .before .before .put-words .ensures ∙ shut .1)
 
 pub close-spec : {M : Type 1} → statement M

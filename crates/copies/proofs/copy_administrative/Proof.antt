@@ -29,7 +29,8 @@ returns : tie.Need-returns
 unfolding administrativeOf
 returns c =
     copied administrativeKind administrativeWritten administrativeOf administrative-again _ _ _ (c .before .before .before .before .before .before .before .pre .1) _
-    (ap (λ (ns : List ℕ). record { date = getD ns 0 0; clock = getD ns 1 0; number = getD ns 2 0; time = getD ns 3 0; since = getD ns 4 0; live = getD ns 5 0 }) (c .before .before .before .before .six-at .ensures)) _ (c .before .before .write-administrative .ensures .1)
+    (ap (λ (ns : List ℕ). record { date = getD ns 0 0; clock = getD ns 1 0; number = getD ns 2 0; time = getD ns 3 0; since = getD ns 4 0; live = getD ns 5 0 }) (c .before .before .before .before .six-at .ensures))
+    _ (c .before .before .write-administrative .ensures .1)
 
 pub copy-administrative-spec : {M : Type 1} → statement M
 copy-administrative-spec =

@@ -1,7 +1,7 @@
 -- `copies::copy_history` meets its contract: the sections handed on are the body's.
 -- The idea: their parts lie one behind the other in the body, and the law of copies says the rest.
 use Prim.Native.Nat.{ℕ, _+_, _≤_}
-use mathlib.Core.Path.{_≡_, ap, _∙_}
+use mathlib.Core.Path.{ap, _∙_}
 use native.Mathlib.Omega.{arith}
 use denote.Ref.{now}
 use lib.ListN.{length}
@@ -118,10 +118,14 @@ returns c =
     let k = cuts known in
     let b = now (start known .args .body) in
     let pre = start known .pre .1 in
+    let veto-width = c .before .before .before .before .before .before .before .before in
+    let veto-count = veto-width .before .before in
+    let trigger-width = c .before .before .before .before in
+    let trigger-count = trigger-width .before .before in
     copied historyKind historyWritten historyOf history-again _ _ _ pre _
     (λ i. record {
-      veto = section-cut b 0 _ _ _ _ (k .veto-is) (k .middle-is) (c .before .before .before .before .before .before .before .before .before .before .word-at .ensures) (c .before .before .before .before .before .before .before .before .word-at2 .ensures) i;
-      trigger = (section-cut b _ _ _ _ _ (k .trigger-is) (ends (pre .follows) k) (c .before .before .before .before .before .before .word-at3 .ensures) (c .before .before .before .before .word-at4 .ensures)
+      veto = section-cut b 0 _ _ _ _ (k .veto-is) (k .middle-is) (veto-count .word-at .ensures) (veto-width .word-at2 .ensures) i;
+      trigger = (section-cut b _ _ _ _ _ (k .trigger-is) (ends (pre .follows) k) (trigger-count .word-at3 .ensures) (trigger-width .word-at4 .ensures)
           ∙ ap (λ (p : ℕ). sectionOf p b) (k .middle-is)) i;
     }) _ (c .before .before .write-history .ensures .1)
 

@@ -29,7 +29,8 @@ returns : tie.Need-returns
 unfolding tlbOf
 returns c =
     copied tlbKind tlbWritten tlbOf tlb-again _ _ _ (c .before .before .before .before .before .before .before .pre .1) _
-    (ap (λ (ns : List ℕ). record { tower1 = getD ns 0 0; tower2 = getD ns 1 0; tower3 = getD ns 2 0; tower4 = getD ns 3 0; tower5 = getD ns 4 0; tower6 = getD ns 5 0 }) (c .before .before .before .before .six-at .ensures)) _ (c .before .before .write-tlb .ensures .1)
+    (ap (λ (ns : List ℕ). record { tower1 = getD ns 0 0; tower2 = getD ns 1 0; tower3 = getD ns 2 0; tower4 = getD ns 3 0; tower5 = getD ns 4 0; tower6 = getD ns 5 0 }) (c .before .before .before .before .six-at .ensures))
+    _ (c .before .before .write-tlb .ensures .1)
 
 pub copy-tlb-spec : {M : Type 1} → statement M
 copy-tlb-spec = tie.close (tie.spec six-at-requires write-tlb-requires same-length returns)

@@ -29,7 +29,8 @@ returns : tie.Need-returns
 unfolding triggerOf
 returns c =
     copied triggerKind triggerWritten triggerOf trigger-again _ _ _ (c .before .before .before .before .before .before .before .pre .1) _
-    (ap (λ (ns : List ℕ). record { mask1 = getD ns 0 0; mask2 = getD ns 1 0; mask3 = getD ns 2 0; mask4 = getD ns 3 0; mask5 = getD ns 4 0; mask6 = getD ns 5 0 }) (c .before .before .before .before .six-at .ensures)) _ (c .before .before .write-trigger .ensures .1)
+    (ap (λ (ns : List ℕ). record { mask1 = getD ns 0 0; mask2 = getD ns 1 0; mask3 = getD ns 2 0; mask4 = getD ns 3 0; mask5 = getD ns 4 0; mask6 = getD ns 5 0 }) (c .before .before .before .before .six-at .ensures))
+    _ (c .before .before .write-trigger .ensures .1)
 
 pub copy-trigger-spec : {M : Type 1} → statement M
 copy-trigger-spec = tie.close (tie.spec six-at-requires write-trigger-requires same-length returns)

@@ -1,10 +1,12 @@
 -- `rewriting::copy_events` meets its contract: what was written and what is left are the part, turn by turn.
 -- The idea: the loop's laws answer each need; an event's records stand in the output when it is closed.
-use mathlib.Core.Path.{_≡_, refl, sym, _∙_}
+use mathlib.Core.Path.{refl, sym, _∙_}
+use Prim.Native.Nat.{_+_, _≤_}
 use native.Mathlib.Omega.{arith}
 use denote.Ref.{now}
 use lib.ListN.{length}
 use Rattle.theory.proofs.WordLaws.{Bytes-from}
+use Rattle.note.specs.Limits.{fileLimit}
 use Rattle.demands.proofs.Bundles.{eventItem, same-events}
 use Rattle.rewriting.proofs.CopyLoop.{Copying, begin, ended}
 use Rattle.rewriting.proofs.EventCopy.{event-turn, records-ready, event-next}
@@ -26,6 +28,11 @@ Inv-loop part out₀ place rest₀ at₀ out rest at = Copying eventItem out₀ 
 abbrev μ-loop : tie.MeasureT-loop
 μ-loop part out₀ place rest₀ at₀ out rest at = length rest
 
+-- Where an event's two words were read: it fits what is left, which ends within the limit.
+sized : (c : tie.After-word-at2 Inv-loop μ-loop)
+    → (8 + c .word-at2 .result ≤ length (now (c .before .before .before .loop .rest))) × (c .before .before .before .loop .at + (8 + c .word-at2 .result) ≤ fileLimit)
+sized c = event-turn (c .before .before .before .loop .inv) (c .before .before .loop-test .taken) _ (c .word-at2 .ensures)
+
 loop-holds : tie.Need-loop-holds Inv-loop μ-loop
 loop-holds c =
     let s = c .before .before in
@@ -42,10 +49,10 @@ cast-size : tie.Need-cast-size Inv-loop μ-loop
 cast-size c = search needs
 
 add-size : tie.Need-add-size Inv-loop μ-loop
-add-size c = let (fits, limit) = event-turn (c .before .before .before .loop .inv) (c .before .before .loop-test .taken) _ (c .word-at2 .ensures) in omega (arith, limit)
+add-size c = let (fits, limit) = sized c in omega (arith, limit)
 
 add-end : tie.Need-add-end Inv-loop μ-loop
-add-end c = let (fits, limit) = event-turn (c .before .before .before .loop .inv) (c .before .before .loop-test .taken) _ (c .word-at2 .ensures) in omega (arith, limit)
+add-end c = let (fits, limit) = sized c in omega (arith, limit)
 
 sub-copy-records : tie.Need-sub-copy-records Inv-loop μ-loop
 sub-copy-records c = search needs
@@ -54,13 +61,16 @@ part-copy-records-start : tie.Need-part-copy-records-start Inv-loop μ-loop
 part-copy-records-start c = search needs
 
 part-copy-records-end : tie.Need-part-copy-records-end Inv-loop μ-loop
-part-copy-records-end c = let (fits, limit) = event-turn (c .before .before .before .loop .inv) (c .before .before .loop-test .taken) _ (c .word-at2 .ensures) in fits
+part-copy-records-end c = sized c .0
 
 add-copy-records : tie.Need-add-copy-records Inv-loop μ-loop
-add-copy-records c = let (fits, limit) = event-turn (c .before .before .before .before .before .loop .inv) (c .before .before .before .before .loop-test .taken) _ (c .before .before .word-at2 .ensures) in omega (arith, limit)
+add-copy-records c = let (fits, limit) = sized (c .before .before) in omega (arith, limit)
 
 copy-records-requires : tie.Need-copy-records-requires Inv-loop μ-loop
-copy-records-requires c κs = records-ready (c .before .before .before .before .before .loop .inv) (c .before .before .before .before .loop-test .taken) _ _ (c .before .before .before .word-at .ensures) (c .before .before .word-at2 .ensures)
+copy-records-requires c κs =
+    let read = c .before .before in
+    let turn = read .before .before in
+    records-ready (turn .before .loop .inv) (turn .loop-test .taken) _ _ (read .before .word-at .ensures) (read .word-at2 .ensures)
 
 class-of-requires : tie.Need-class-of-requires Inv-loop μ-loop
 class-of-requires c κs = search needs
@@ -75,21 +85,25 @@ close-event-requires : tie.Need-close-event-requires Inv-loop μ-loop
 close-event-requires c κs = search needs
 
 sub-rest : tie.Need-sub-rest Inv-loop μ-loop
-sub-rest c = let (fits, limit) = event-turn (c .before .before .before .before .before .before .before .before .before .before .before .before .before .before .before .loop .inv) (c .before .before .before .before .before .before .before .before .before .before .before .before .before .before .loop-test .taken) _ (c .before .before .before .before .before .before .before .before .before .before .before .before .word-at2 .ensures) in fits
+sub-rest c = sized (c .before .before .before .before .before .before .before .before .before .before .before .before) .0
 
 part-rest-start : tie.Need-part-rest-start Inv-loop μ-loop
-part-rest-start c = let (fits, limit) = event-turn (c .before .before .before .before .before .before .before .before .before .before .before .before .before .before .before .loop .inv) (c .before .before .before .before .before .before .before .before .before .before .before .before .before .before .loop-test .taken) _ (c .before .before .before .before .before .before .before .before .before .before .before .before .word-at2 .ensures) in fits
+part-rest-start c = sized (c .before .before .before .before .before .before .before .before .before .before .before .before) .0
 
 part-rest-end : tie.Need-part-rest-end Inv-loop μ-loop
 part-rest-end c = search needs
 
 loop-less : tie.Need-loop-less Inv-loop μ-loop
-loop-less c = let (fits, limit) = event-turn (c .before .before .before .before .before .before .before .before .before .before .before .before .before .before .before .before .loop .inv) (c .before .before .before .before .before .before .before .before .before .before .before .before .before .before .before .loop-test .taken) _ (c .before .before .before .before .before .before .before .before .before .before .before .before .before .word-at2 .ensures) in omega (arith, fits)
+loop-less c = let (fits, limit) = sized (c .before .before .before .before .before .before .before .before .before .before .before .before .before) in omega (arith, fits)
 
 loop-again : tie.Need-loop-again Inv-loop μ-loop
 loop-again c =
-    event-next (c .before .before .before .before .before .before .before .before .before .before .before .before .before .before .before .before .loop .inv) (c .before .before .before .before .before .before .before .before .before .before .before .before .before .before .before .loop-test .taken) _ _ (c .before .before .before .before .before .before .before .before .before .before .before .before .before .before .word-at .ensures) (c .before .before .before .before .before .before .before .before .before .before .before .before .before .word-at2 .ensures) _ _ _
-    (c .before .before .before .before .before .before .before .class-of .ensures) (c .before .before .before .before .before .before .category-of .ensures) (c .before .before .before .before .before .event-type-of .ensures) _ (c .before .before .before .before .before .before .before .before .before .before .copy-records .ensures) _ (c .before .before .before .close-event .ensures .1)
+    let class = c .before .before .before .before .before .before .before in
+    let filled = class .before .before .before in
+    let read = filled .before .before .before in
+    let turn = read .before .before in
+    event-next (turn .before .loop .inv) (turn .loop-test .taken) _ _ (read .before .word-at .ensures) (read .word-at2 .ensures) _ _ _
+    (class .class-of .ensures) (c .before .before .before .before .before .before .category-of .ensures) (c .before .before .before .before .before .event-type-of .ensures) _ (filled .copy-records .ensures) _ (c .before .before .before .close-event .ensures .1)
 
 same-length : tie.Need-same-length Inv-loop μ-loop
 same-length c = c .before .loop .inv .laid .size

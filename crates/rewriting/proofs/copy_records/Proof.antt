@@ -1,10 +1,12 @@
 -- `rewriting::copy_records` meets its contract: what was written and what is left are the part, turn by turn.
 -- The idea: the loop's laws answer each need; what stands next was read, so its copy is its own bytes.
-use mathlib.Core.Path.{_≡_, refl, sym, _∙_}
+use mathlib.Core.Path.{refl, sym, _∙_}
+use Prim.Native.Nat.{_+_, _≤_}
 use native.Mathlib.Omega.{arith}
 use denote.Ref.{now}
 use lib.ListN.{length}
 use Rattle.theory.proofs.WordLaws.{Bytes-from}
+use Rattle.note.specs.Limits.{fileLimit}
 use Rattle.demands.proofs.Bundles.{recordItem, same-records}
 use Rattle.rewriting.proofs.CopyLoop.{Copying, begin, ended}
 use Rattle.rewriting.proofs.RecordCopy.{turn, copyable, copied-next}
@@ -22,6 +24,11 @@ Inv-loop part out₀ place rest₀ at₀ out rest at = Copying recordItem out₀
 abbrev μ-loop : tie.MeasureT-loop
 μ-loop part out₀ place rest₀ at₀ out rest at = length rest
 
+-- Where a record's length word was read: it fits what is left, which ends within the limit.
+sized : (c : tie.After-word-at Inv-loop μ-loop)
+    → (8 + c .word-at .result ≤ length (now (c .before .before .loop .rest))) × (c .before .before .loop .at + (8 + c .word-at .result) ≤ fileLimit)
+sized c = turn (c .before .before .loop .inv) (c .before .loop-test .taken) _ (c .word-at .ensures)
+
 loop-holds : tie.Need-loop-holds Inv-loop μ-loop
 loop-holds c =
     let s = c .before .before in
@@ -36,10 +43,10 @@ cast-size : tie.Need-cast-size Inv-loop μ-loop
 cast-size c = search needs
 
 add-size : tie.Need-add-size Inv-loop μ-loop
-add-size c = let (fits, limit) = turn (c .before .before .loop .inv) (c .before .loop-test .taken) _ (c .word-at .ensures) in omega (arith, limit)
+add-size c = let (fits, limit) = sized c in omega (arith, limit)
 
 word-at-requires-2 : tie.Need-word-at-requires-2 Inv-loop μ-loop
-word-at-requires-2 c κs = let (fits, limit) = turn (c .before .before .loop .inv) (c .before .loop-test .taken) _ (c .word-at .ensures) in omega (arith, fits)
+word-at-requires-2 c κs = let (fits, limit) = sized c in omega (arith, fits)
 
 sub-copy-record : tie.Need-sub-copy-record Inv-loop μ-loop
 sub-copy-record c = search needs
@@ -48,28 +55,33 @@ part-copy-record-start : tie.Need-part-copy-record-start Inv-loop μ-loop
 part-copy-record-start c = search needs
 
 part-copy-record-end : tie.Need-part-copy-record-end Inv-loop μ-loop
-part-copy-record-end c = let (fits, limit) = turn (c .before .before .before .loop .inv) (c .before .before .loop-test .taken) _ (c .before .word-at .ensures) in fits
+part-copy-record-end c = sized (c .before) .0
 
 copy-record-requires : tie.Need-copy-record-requires Inv-loop μ-loop
-copy-record-requires c κs = copyable (c .before .before .before .before .before .loop .inv) (c .before .before .before .before .loop-test .taken) _ _ (c .before .before .word-at2 .ensures) (c .before .before .before .word-at .ensures)
+copy-record-requires c κs =
+    let read = c .before .before .before in
+    copyable (read .before .before .loop .inv) (read .before .loop-test .taken) _ _ (c .before .before .word-at2 .ensures) (read .word-at .ensures)
 
 sub-rest : tie.Need-sub-rest Inv-loop μ-loop
-sub-rest c = let (fits, limit) = turn (c .before .before .before .before .before .before .before .before .loop .inv) (c .before .before .before .before .before .before .before .loop-test .taken) _ (c .before .before .before .before .before .before .word-at .ensures) in fits
+sub-rest c = sized (c .before .before .before .before .before .before) .0
 
 part-rest-start : tie.Need-part-rest-start Inv-loop μ-loop
-part-rest-start c = let (fits, limit) = turn (c .before .before .before .before .before .before .before .before .loop .inv) (c .before .before .before .before .before .before .before .loop-test .taken) _ (c .before .before .before .before .before .before .word-at .ensures) in fits
+part-rest-start c = sized (c .before .before .before .before .before .before) .0
 
 part-rest-end : tie.Need-part-rest-end Inv-loop μ-loop
 part-rest-end c = search needs
 
 add-at : tie.Need-add-at Inv-loop μ-loop
-add-at c = let (fits, limit) = turn (c .before .before .before .before .before .before .before .before .before .loop .inv) (c .before .before .before .before .before .before .before .before .loop-test .taken) _ (c .before .before .before .before .before .before .before .word-at .ensures) in omega (arith, limit)
+add-at c = let (fits, limit) = sized (c .before .before .before .before .before .before .before) in omega (arith, limit)
 
 loop-less : tie.Need-loop-less Inv-loop μ-loop
-loop-less c = let (fits, limit) = turn (c .before .before .before .before .before .before .before .before .before .loop .inv) (c .before .before .before .before .before .before .before .before .loop-test .taken) _ (c .before .before .before .before .before .before .before .word-at .ensures) in omega (arith, fits)
+loop-less c = let (fits, limit) = sized (c .before .before .before .before .before .before .before) in omega (arith, fits)
 
 loop-again : tie.Need-loop-again Inv-loop μ-loop
-loop-again c = copied-next (c .before .before .before .before .before .before .before .before .before .loop .inv) (c .before .before .before .before .before .before .before .before .loop-test .taken) _ _ (c .before .before .before .before .before .before .word-at2 .ensures) (c .before .before .before .before .before .before .before .word-at .ensures) _ (c .before .before .before .copy-record .ensures)
+loop-again c =
+    let read = c .before .before .before .before .before .before .before in
+    copied-next (read .before .before .loop .inv) (read .before .loop-test .taken) _ _ (c .before .before .before .before .before .before .word-at2 .ensures) (read .word-at .ensures)
+    _ (c .before .before .before .copy-record .ensures)
 
 same-length : tie.Need-same-length Inv-loop μ-loop
 same-length c = c .before .loop .inv .laid .size

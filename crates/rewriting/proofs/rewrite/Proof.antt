@@ -6,6 +6,9 @@ use denote.Ref.{now}
 use Rattle.theory.specs.Words.{Bytes}
 use Rattle.theory.proofs.WordLaws.{Bytes-from}
 use Rattle.note.specs.Answers.{givenWriter}
+use Rattle.note.specs.Files.{readFile}
+use Rattle.containers.specs.declared.Count.the-variants.{Good}
+use Rattle.containers.specs.Counts.{fileRows}
 use Rattle.rewriting.proofs.RewriteCall.{over, file-refuses, no-room, ready, rewrites}
 use borrow.Author.Needs.{needs}
 use Rattle.rewriting.proofs.rewrite.Statement.{statement}
@@ -18,6 +21,10 @@ use Rattle.rewriting.proofs.copy_file.Reads as copy-file-reads
 -- The file is bytes.
 held : (c : tie.After-slice-known) → Bytes (now (c .before .before .args .file))
 held c = Bytes-from (now (c .before .before .args .file)) (λ i l. omega (arith, c .before .shared-slice-known .given i))
+
+-- Where the file was accepted: what `check` said of it.
+checked : (c : tie.After-enum-told) → Good (c .enum-told .given .0 .0) ≡ fileRows (readFile (now (c .before .before .before .before .before .before .args .file)))
+checked c = sym (c .enum-told .given .1) ∙ c .before .before .check .ensures
 
 returns : tie.Need-returns
 unfolding givenWriter
@@ -36,12 +43,12 @@ returns-2 : tie.Need-returns-2
 unfolding givenWriter
 returns-2 c =
     let good = c .before in
-    no-room _ _ (good .before .before .before .if1 .left) (held (good .before .before .before .before)) _ (sym (good .enum-told .given .1) ∙ good .before .before .check .ensures) (c .if2 .taken)
+    no-room _ _ (good .before .before .before .if1 .left) (held (good .before .before .before .before)) _ (checked good) (c .if2 .taken)
 
 copy-file-requires : tie.Need-copy-file-requires
 copy-file-requires c κs =
     let good = c .before .before in
-    ready _ (now (good .before .before .before .before .before .before .args .out)) (good .before .before .before .if1 .left) (held (good .before .before .before .before)) _ (sym (good .enum-told .given .1) ∙ good .before .before .check .ensures) (c .before .if2 .left)
+    ready _ (now (good .before .before .before .before .before .before .args .out)) (good .before .before .before .if1 .left) (held (good .before .before .before .before)) _ (checked good) (c .before .if2 .left)
 
 returns-3 : tie.Need-returns-3
 unfolding givenWriter
@@ -54,7 +61,7 @@ returns-4 : tie.Need-returns-4
 unfolding givenWriter
 returns-4 c =
     let good = c .before .before .before .before .before in
-    rewrites _ _ (good .before .before .before .if1 .left) (held (good .before .before .before .before)) _ (sym (good .enum-told .given .1) ∙ good .before .before .check .ensures) (c .before .before .before .before .if2 .left) _ (c .before .before .copy-file .ensures)
+    rewrites _ _ (good .before .before .before .if1 .left) (held (good .before .before .before .before)) _ (checked good) (c .before .before .before .before .if2 .left) _ (c .before .before .copy-file .ensures)
 
 pub rewrite-spec : {M : Type 1} → statement M
 rewrite-spec =
