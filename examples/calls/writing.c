@@ -7,7 +7,7 @@
 #include <string.h>
 
 enum { ROOM = 4096, ROWS = 64 };
-static uint8_t file[ROOM], out[ROOM];
+static uint8_t file[ROOM], out[ROOM], again[ROOM];
 static uint32_t rows[6 * ROWS];
 
 int main(int argc, char **argv) {
@@ -56,5 +56,9 @@ int main(int argc, char **argv) {
     /* A refusal: three samples are no trace; the output is as it was. */
     number = dwj_write_trace(out, ROOM, at, 0xA000, 1, 11017002, -51200, 800, 3, samples, 6, &at, &refused_at);
     printf("refusal: number %u at byte %" PRIu64 "\n", number, refused_at);
+
+    /* Rewrite: the file's fields, read and written into another output. */
+    number = dwj_rewrite(out, at, again, ROOM, &place, &refused_at);
+    printf("rewrite: number %u, %" PRIu64 " bytes, the same file: %d\n", number, place, place == at && memcmp(again, out, at) == 0);
     return 0;
 }

@@ -20,6 +20,7 @@ extern "C" {
     fn dwj_write_tlb(out: *mut u8, length: usize, place: usize, fields: &[u32; 6], next: &mut u64, refused_at: &mut u64) -> u32;
     fn dwj_close_configuration(out: *mut u8, length: usize, place: usize, end: usize, next: &mut u64, refused_at: &mut u64) -> u32;
     fn dwj_close_event(out: *mut u8, length: usize, place: usize, end: usize, class: u32, category: u32, kind: u32, next: &mut u64, refused_at: &mut u64) -> u32;
+    fn dwj_rewrite(file: *const u8, file_length: usize, out: *mut u8, length: usize, next: &mut u64, refused_at: &mut u64) -> u32;
     fn dwj_table(file: *const u8, length: usize, rows: *mut u32, rows_length: usize, count: &mut u64, place: &mut u64) -> u32;
 }
 
@@ -84,5 +85,10 @@ fn main() -> Result<(), Refusal> {
     if let Err(Refusal(number, place)) = wrong {
         println!("refusal: number {number} at byte {place}");
     }
+
+    // Rewrite: the file's fields, read and written into another output.
+    let mut again = vec![0; at];
+    let end = told(|next, refused| unsafe { dwj_rewrite(out, at, again.as_mut_ptr(), again.len(), next, refused) })?;
+    println!("rewrite: number 0, {end} bytes, the same file: {}", u32::from(again == bytes[..at]));
     Ok(())
 }
