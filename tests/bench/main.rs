@@ -14,6 +14,9 @@
 //! Visit and the walker give Table's rows, so they are timed against Table through the exports: one
 //! visit with room for all rows, and a walk from opening to the end, a call to a row.
 //!
+//! Rewrite: into an output made once, whose pages have been touched; against the outside
+//! implementation, which makes vectors of rows and of each record's words, and against memcpy.
+//!
 //! No buffer is cleared between calls.
 
 #[allow(dead_code)]
@@ -38,11 +41,22 @@ mod random;
 #[allow(dead_code)]
 #[path = "../outside/reader.rs"]
 mod reader;
+#[allow(dead_code)]
+#[path = "../outside/trees.rs"]
+mod trees;
+#[allow(dead_code)]
+#[path = "../outside/writer.rs"]
+mod writer;
+#[allow(dead_code)]
+#[path = "../writing/interface.rs"]
+mod writing;
 
 use std::arch::asm;
 use std::time::Instant;
 
 use inputs::{events_with_traces, most_events, small_file, smallest_events};
+use trees::Call;
+use writing::Lent;
 
 extern "C" {
     fn floor_table(file: *const u8, length: usize) -> u64;
@@ -53,9 +67,13 @@ extern "C" {
 const ROUNDS: usize = 40;
 const LEAST_SECONDS: f64 = 0.002;
 
-/// What is aimed at: Find against the outside implementation, Visit against Table.
+/// What is aimed at: Find against the outside implementation, Visit against Table;
 const FIND_GOAL: f64 = 1.5;
 const VISIT_GOAL: f64 = 1.5;
+/// Rewrite against memcpy for long traces, and against the outside implementation for the smallest
+/// events.
+const COPY_GOAL: f64 = 1.4;
+const REWRITE_GOAL: f64 = 2.0;
 /// A code that names no channel.
 const NO_CODE: u32 = 0;
 /// The row kinds of entries and records.
@@ -218,6 +236,35 @@ fn time_rows(file: &[u8]) -> [f64; 3] {
     ])
 }
 
+// A file written again; the sides are first seen to restore it.
+fn time_rewrite(file: &[u8]) -> [f64; 3] {
+    let call = Call::Rewrite {
+        file: file.to_vec(),
+    };
+    let mut lent = Lent {
+        next: 0,
+        refused_at: 0,
+    };
+    let mut out = vec![1; file.len()];
+    assert_eq!(writing::perform(&call, &mut out, &mut lent), 0);
+    assert!(lent.next == file.len() as u64 && out == file, "restored");
+    out.fill(1);
+    assert!(writer::rewrite(file, &mut out) == Ok(file.len()) && out == file);
+    let mut copies = [out.clone(), out.clone()];
+    let [outside, copy] = &mut copies;
+    best([
+        &mut || {
+            opaque(writing::perform(opaque(&call), &mut out, &mut lent));
+        },
+        &mut || {
+            opaque(writer::rewrite(opaque(file), outside)).ok();
+        },
+        &mut || {
+            opaque(&mut *copy).copy_from_slice(opaque(file));
+        },
+    ])
+}
+
 // What was aimed at, and whether it was reached.
 fn judged(ratio: f64, goal: Option<f64>, against: &str) -> String {
     match goal {
@@ -251,6 +298,18 @@ fn print_against_table(call: &str, time: f64, table: f64, goal: Option<f64>) {
     println!("  {call:<10}{time:>14.0}   {ratio:.2} x Table{judged}");
 }
 
+// A line of times of a rewriting, against the outside implementation and against memcpy.
+fn print_rewrite(times: [f64; 3], to_copy: Option<f64>, to_outside: Option<f64>) {
+    let [exports, outside, copy] = times;
+    let (outside_ratio, copy_ratio) = (exports / outside, exports / copy);
+    println!(
+        "  {:<10}{exports:>14.0}{outside:>14.0}{copy:>14.0}{outside_ratio:>14.2}{copy_ratio:>14.2}   (memcpy for C floor){}{}",
+        "Rewrite",
+        judged(outside_ratio, to_outside, "Rust"),
+        judged(copy_ratio, to_copy, "memcpy")
+    );
+}
+
 // A file's size and shape, then Table and Record on it.
 fn print_case(name: &str, file: &[u8], goal: Option<f64>) -> [[f64; 3]; 2] {
     let rows = reader::table(file).rows;
@@ -272,8 +331,8 @@ fn print_case(name: &str, file: &[u8], goal: Option<f64>) -> [[f64; 3]; 2] {
     times
 }
 
-// Find, a visit and a walk, on the same file.
-fn print_further(file: &[u8]) {
+// Find, a visit, a walk and a rewriting, on the same file.
+fn print_further(file: &[u8], to_copy: Option<f64>, to_outside: Option<f64>) {
     let rows = reader::table(file).rows;
     let last = |kind: u32| rows.iter().rev().find(|row| row[0] == kind);
     let number = last(6).expect("an event")[4];
@@ -292,13 +351,14 @@ fn print_further(file: &[u8]) {
     let [visit, table, walk] = time_rows(file);
     print_against_table("Visit", visit, table, Some(VISIT_GOAL));
     print_against_table("walk", walk, table, None);
+    print_rewrite(time_rewrite(file), to_copy, to_outside);
 }
 
 fn main() {
     println!("bench: the best of {ROUNDS} rounds, the sides in turn, on the same bytes");
     let file = events_with_traces(most_events(2_048), 2_048);
     print_case("(a) traces of 2,048 samples to 16 MiB", &file, Some(1.3));
-    print_further(&file);
+    print_further(&file, Some(COPY_GOAL), None);
 
     let events = most_events(4_096);
     let file = events_with_traces(events, 2_048);
@@ -317,9 +377,9 @@ fn main() {
 
     let file = smallest_events();
     print_case("(b) smallest events to 16 MiB", &file, Some(2.0));
-    print_further(&file);
+    print_further(&file, None, Some(REWRITE_GOAL));
 
     let file = small_file();
     print_case("(c) a small file", &file, None);
-    print_further(&file);
+    print_further(&file, None, None);
 }
