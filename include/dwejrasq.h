@@ -14,6 +14,7 @@
  *   10  a field is outside its rule
  *   11  a trace's count is odd, below 2 or above 32,768, or its two counts differ; a sample's number is out of range
  *   12  the rows do not fit what was lent
+ *   13  what is to be written does not fit the output from there on
  *
  * What a caller must see to, since C cannot check it:
  *  - each pointer is valid for the length given with it, or for the length named here, and aligned for its type; a length of 0
