@@ -207,20 +207,6 @@ walk-yields bs k h = go (readFile bs) refl
     go (ok f) e = ap givenYield (kth bs (rowsOf f) (openedOf bs) k (file-yields bs f h e)) ∙ given-row (ltb k (length (rowsOf f))) (row (rowsOf f) k) ∙ ap (yieldGiven k) (sym e)
     go (bad c p) e = refused-yield bs c p e k ∙ ap (yieldGiven k) (sym e)
 
--- Whether a file is accepted shows in the numbers of its walk.
-pub opened-number : (bs : List ℕ) (f : File) → Bytes bs → readFile bs ≡ ok f → openedOf bs .number ≡ 0
-unfolding openedOf startOf
-opened-number bs f h e =
-    let (is, v) = file-sound bs f h e in
-    let size : length bs ≡ 8 + (containerSize (configurationOf f) + length (eventsBytes (eventsOf f))) = ap length is ∙ file-length f in
-    rw e (ap (λ (x : Spot). x .number) (header-turn bs (omega (arith, ap length is, v .within-limit)) (word 4 bs) refl (omega (arith, size))))
-
-pub opened-refusal : (bs : List ℕ) (c p : ℕ) → readFile bs ≡ bad c p → (openedOf bs .number ≡ c) × (openedOf bs .fault ≡ p) × (0 < c)
-unfolding openedOf startOf
-opened-refusal bs c p e =
-    let z : 0 < c = refusal-is-numbered bs c p e in
-    (rw e (ap (λ (x : Spot). x .number) (refused-turn bs c p End z)), rw e (ap (λ (x : Spot). x .fault) (refused-turn bs c p End z)), z)
-
 -- One more step is one step on.
 pub steps-more : (bs : List ℕ) (k : ℕ) (at : Spot) → stepOf bs (stepsFrom bs k at) ≡ stepsFrom bs (suc k) at
 unfolding stepsFrom
