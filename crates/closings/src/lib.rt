@@ -11,6 +11,9 @@ use stores::admitted;
 use stores::put_words;
 ghost use mathlib.Core.Path.{_≡_};
 ghost use Prim.Native.Nat.{_+_, _*_, _%_, _^_, _≤_, _<_};
+ghost use lib.ListN.{length};
+ghost use lib.Seq.{sets};
+ghost use Rattle.theory.specs.Tests.{ok};
 ghost use Rattle.note.specs.Answers.{givenWriter};
 ghost use Rattle.note.specs.Events.{eventWord};
 ghost use Rattle.note.specs.Files.{versionWord};
@@ -87,6 +90,14 @@ fn bounded(room: usize, place: usize, end: usize, fault: u32, least: usize) -> W
     WriterAnswer::Next { place: end }
 }
 
+// Stores a container's two words in front of its contents.
+fn shut(out: &mut [u8], place: usize, end: usize, word: u32)
+    requires { ⌜ (place + 8 ≤ end) × (end ≤ length (now out)) × (length (now out) ≤ 0x1000000) ⌝ }
+    ensures { λ _. ⌜ now (out .exit) ≡ sets (now (out .entry)) place (closingBytes word place end) ⌝ }
+{
+    put_words(out, place, &[word, (end - place - 8) as u32]);
+}
+
 // Closes a container, whose own word has this fault: its contents are read in their context, where they stand; then its two words are stored.
 fn close(
     out: &mut [u8],
@@ -107,7 +118,7 @@ fn close(
             match records_in(&out[from..end], from, context) {
                 Count::Bad { number, place } => WriterAnswer::Refused { number, place },
                 Count::Good { count: _ } => {
-                    put_words(out, place, &[word, (end - from) as u32]);
+                    shut(out, place, end, word);
                     WriterAnswer::Next { place: next }
                 }
             }
@@ -156,4 +167,20 @@ pub fn close_event(
         event_word(class, category, kind),
         fresh(),
     )
+}
+
+/// Closes a configuration whose closing is known to be accepted: its contents are not read again.
+pub fn shut_configuration(out: &mut [u8], place: usize, end: usize)
+    requires { ⌜ configurationClosed (now out) place end ≡ ok end ⌝ }
+    ensures { λ _. ⌜ now (out .exit) ≡ configurationOutput (now (out .entry)) place end ⌝ }
+{
+    shut(out, place, end, CONFIGURATION);
+}
+
+/// Closes an event whose closing is known to be accepted: its contents are not read again.
+pub fn shut_event(out: &mut [u8], place: usize, end: usize, class: u32, category: u32, kind: u32)
+    requires { ⌜ eventClosed (now out) place end class category kind ≡ ok end ⌝ }
+    ensures { λ _. ⌜ now (out .exit) ≡ eventOutput (now (out .entry)) place end class category kind ⌝ }
+{
+    shut(out, place, end, event_word(class, category, kind));
 }

@@ -56,7 +56,7 @@ module _ {c : Context} {old mid : List ℕ} {place end : ℕ} {inner : List ℕ}
 -- ---- the two containers
 
 module _ {old mid : List ℕ} {place end : ℕ} {inner : List ℕ} {rs : List Record} (l : Laying entry old mid place end inner rs) where
-  configuration-granted : configurationClosed mid place end ≡ ok end
+  pub configuration-granted : configurationClosed mid place end ≡ ok end
   unfolding configurationClosed
   configuration-granted =
       let (limit, low, room, wide) = numbers l in
@@ -69,7 +69,7 @@ module _ {old mid : List ℕ} {place end : ℕ} {inner : List ℕ} {rs : List Re
 
 module _ {old mid : List ℕ} {place end : ℕ} {inner : List ℕ} {rs : List Record} (l : Laying (event none) old mid place end inner rs) (some : 1 ≤ length inner)
     (class category type : ℕ) (clean : eventFault class category type ≡ 0) where
-  event-granted : eventClosed mid place end class category type ≡ ok end
+  pub event-granted : eventClosed mid place end class category type ≡ ok end
   unfolding eventClosed
   event-granted =
       let (limit, low, room, wide) = numbers l in

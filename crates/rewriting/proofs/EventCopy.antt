@@ -14,7 +14,7 @@ use Rattle.note.specs.Limits.{fileLimit}
 use Rattle.note.specs.Words.{word}
 use Rattle.note.specs.Records.{event, none, readRecords}
 use Rattle.note.specs.Events.{Container, containerBytes, containerSize, classOf, categoryOf, eventTypeOf, eventWord, eventFault, eventWordRule}
-use Rattle.note.specs.Writers.{eventOutput}
+use Rattle.note.specs.Writers.{eventClosed, eventOutput}
 use Rattle.demands.specs.Valid.{ValidEvent}
 use Rattle.demands.specs.Outputs.{Laid}
 use Rattle.demands.proofs.Bundles.{eventItem, event-valid}
@@ -22,7 +22,7 @@ use Rattle.record.proofs.StepLaws.{cut}
 use Rattle.containers.proofs.EventLoop.{Shown, event-shows}
 use Rattle.rewriting.specs.Ready.{RecordsReady, Stands}
 use Rattle.rewriting.proofs.CopyLoop.{Copying, inside, here, next}
-use Rattle.rewriting.proofs.ContainerCopy.{Laying, event-copied, word-again}
+use Rattle.rewriting.proofs.ContainerCopy.{Laying, event-granted, event-copied, word-again}
 
 module _ {old : List ℕ} {place : ℕ} {part out rest : List ℕ} {at : ℕ} (i : Copying eventItem old place part out rest at) (l : 0 < length rest) where
   item : Container
@@ -81,19 +81,26 @@ module _ {old : List ℕ} {place : ℕ} {part out rest : List ℕ} {at : ℕ} (i
       same : record { kind = eventWord class category type; body = item .body } ≡ item
       same = λ j. record { kind = ((λ k. eventWord (ec k) (eg k) (et k)) ∙ word-again w admitted ∙ sym word-is) j; body = item .body }
 
-      -- Its records were written, and it was closed.
-      pub event-next : (mid : List ℕ) → Stands inner out (at + 8) mid → (new : List ℕ) → new ≡ eventOutput mid at (at + (8 + m)) class category type
-          → Copying eventItem old place part new (take (length rest - (8 + m)) (drop (8 + m) rest)) (at + (8 + m))
-      unfolding item
-      event-next mid stands new e =
-          let end : at + 8 + length inner ≡ at + (8 + m) = omega (arith, inner-size) in
-          let laying : Laying (event none) out mid at (at + (8 + m)) inner (item .body) = record {
-            laid = subst (λ (n : ℕ). Laid out mid (at + 8) n inner) end stands;
-            bytes = inner-bytes;
-            reads = inner-reads;
-            room = omega (arith, event-turn m em .0, inside eventItem i .0);
-            limit = inside eventItem i .1;
-          } in
-          let size : containerSize item ≡ 8 + m = ap (λ (n : ℕ). 8 + n) (shown .size ∙ sym em) in
-          next eventItem i l (8 + m) size new
-          (subst (λ (x : Container). Laid out new at (at + (8 + m)) (containerBytes x)) same (event-copied laying some class category type clean new e))
+      -- Its records were written: its closing is accepted, and leaves the event.
+      module _ (mid : List ℕ) (stands : Stands inner out (at + 8) mid) where
+        laying : Laying (event none) out mid at (at + (8 + m)) inner (item .body)
+        laying =
+            let end : at + 8 + length inner ≡ at + (8 + m) = omega (arith, inner-size) in
+            record {
+              laid = subst (λ (n : ℕ). Laid out mid (at + 8) n inner) end stands;
+              bytes = inner-bytes;
+              reads = inner-reads;
+              room = omega (arith, event-turn m em .0, inside eventItem i .0);
+              limit = inside eventItem i .1;
+            }
+
+        pub granted : eventClosed mid at (at + (8 + m)) class category type ≡ ok (at + (8 + m))
+        granted = event-granted laying some class category type clean
+
+        pub event-next : (new : List ℕ) → new ≡ eventOutput mid at (at + (8 + m)) class category type
+            → Copying eventItem old place part new (take (length rest - (8 + m)) (drop (8 + m) rest)) (at + (8 + m))
+        unfolding item
+        event-next new e =
+            let size : containerSize item ≡ 8 + m = ap (λ (n : ℕ). 8 + n) (shown .size ∙ sym em) in
+            next eventItem i l (8 + m) size new
+            (subst (λ (x : Container). Laid out new at (at + (8 + m)) (containerBytes x)) same (event-copied laying some class category type clean new e))

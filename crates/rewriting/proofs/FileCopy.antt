@@ -16,7 +16,7 @@ use Rattle.note.specs.Words.{word}
 use Rattle.note.specs.Records.{entry, recordsBytes, readRecords}
 use Rattle.note.specs.Events.{Container, containerBytes, eventsBytes}
 use Rattle.note.specs.Files.{File, versionOf, configurationOf, eventsOf, format, versionWord, headerBytes, fileBytes}
-use Rattle.note.specs.Writers.{wrote, headerWrote, headerOutput, configurationOutput}
+use Rattle.note.specs.Writers.{wrote, headerWrote, headerOutput, configurationClosed, configurationOutput}
 use Rattle.demands.specs.Valid.{Valid}
 use Rattle.demands.specs.Outputs.{Laid}
 use Rattle.demands.proofs.Follows.{file-sound}
@@ -25,7 +25,7 @@ use Rattle.demands.proofs.WriterLaws.{header-laid}
 use Rattle.containers.proofs.RecordLoop.{left}
 use Rattle.containers.proofs.FileParts.{version-is, length-is, room, entries-read, events-part, events-read}
 use Rattle.rewriting.specs.Ready.{RecordsReady, EventsReady, FileReady, Stands}
-use Rattle.rewriting.proofs.ContainerCopy.{Laying, configuration-copied}
+use Rattle.rewriting.proofs.ContainerCopy.{Laying, configuration-granted, configuration-copied}
 
 module _ (bs old : List ℕ) (h : Bytes bs) (r : FileReady bs (length old)) where
   abbrev tree : File
@@ -95,19 +95,25 @@ module _ (bs old : List ℕ) (h : Bytes bs) (r : FileReady bs (length old)) wher
         },
       )
 
+      laying : (mid : List ℕ) → Stands entries top 16 mid → Laying entry top mid 8 (16 + m) entries (conf .body)
+      laying mid stands =
+          let end : 16 + length entries ≡ 16 + m = ap (λ (n : ℕ). 16 + n) entries-size in
+          record {
+            laid = subst (λ (n : ℕ). Laid top mid 16 n entries) end stands;
+            bytes = Bytes-take (16 + m - 16) (drop 16 bs) (Bytes-drop 16 bs h);
+            reads = entries-found;
+            room = omega (arith, end-fits, r .room, same-top);
+            limit = omega (arith, r .limit, same-top);
+          }
+
+      pub granted : (mid : List ℕ) → Stands entries top 16 mid → configurationClosed mid 8 (16 + m) ≡ ok (16 + m)
+      granted mid stands = configuration-granted (laying mid stands)
+
       module _ (mid : List ℕ) (stands : Stands entries top 16 mid) (shut : List ℕ) (e : shut ≡ configurationOutput mid 8 (16 + m)) where
         configuration-laid : Laid top shut 8 (16 + m) (containerBytes conf)
         configuration-laid =
-            let end : 16 + length entries ≡ 16 + m = ap (λ (n : ℕ). 16 + n) entries-size in
-            let laying : Laying entry top mid 8 (16 + m) entries (conf .body) = record {
-              laid = subst (λ (n : ℕ). Laid top mid 16 n entries) end stands;
-              bytes = Bytes-take (16 + m - 16) (drop 16 bs) (Bytes-drop 16 bs h);
-              reads = entries-found;
-              room = omega (arith, end-fits, r .room, same-top);
-              limit = omega (arith, r .limit, same-top);
-            } in
             subst (λ (w : ℕ). Laid top shut 8 (16 + m) (containerBytes (record { kind = w; body = conf .body }))) (sym (sound .1 .configuration-word))
-            (configuration-copied laying shut e)
+            (configuration-copied (laying mid stands) shut e)
 
         same-shut : length shut ≡ length old
         same-shut = configuration-laid .size ∙ same-top

@@ -1,7 +1,7 @@
 // Rewrite: the fields of an accepted file, read and written again through the writers, the header's writer and the closings, from byte 0.
 // The file is checked first and the output has room, so nothing refuses behind the first store, and places in the output are the file's.
-use closings::close_configuration;
-use closings::close_event;
+use closings::shut_configuration;
+use closings::shut_event;
 use closings::write_header;
 use containers::Count;
 use containers::check;
@@ -48,7 +48,7 @@ fn copy_events(part: &[u8], out: &mut [u8], place: usize)
         let class = class_of(word);
         let category = category_of(word);
         let kind = event_type_of(word);
-        close_event(out, at, end, class, category, kind);
+        shut_event(out, at, end, class, category, kind);
         rest = &rest[size..];
         at = end;
     }
@@ -65,7 +65,7 @@ fn copy_file(file: &[u8], out: &mut [u8])
     let minor = ((version >> 16) & 255) as u8;
     write_header(out, major, minor);
     copy_records(&file[16..end], out, 16);
-    close_configuration(out, 8, end);
+    shut_configuration(out, 8, end);
     copy_events(&file[end..], out, end);
 }
 

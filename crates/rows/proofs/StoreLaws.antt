@@ -2,21 +2,15 @@
 -- The idea: rows stored one after the other are one run of numbers, whatever was stored before them.
 use Prim.Native.Nat.{ℕ, zero, suc, _+_, _*_, _≤_, _<_}
 use native.Mathlib.Omega.{arith}
-use native.Mathlib.Nat.{add-zero}
 use mathlib.Core.Path.{_≡_, refl, sym, ap, _∙_}
 use mathlib.Core.List.{List, [], _∷_, _++_, append-assoc}
 use lib.ListN.{length, set, take, drop}
 use lib.Seq.{sets, sets-eq, length-sets, set-comm}
 use Rattle.theory.specs.Layout.{Row}
+use Rattle.theory.proofs.StoreLaws.{sets-append}
 use Rattle.note.specs.Limits.{rowWidth}
 use Rattle.note.specs.Rows.{rowNumbers, flat}
 use Rattle.rows.specs.Buffers.{stored}
-
-sets-append : (l : List ℕ) (i : ℕ) (xs ys : List ℕ) → sets l i (xs ++ ys) ≡ sets (sets l i xs) (i + length xs) ys
-sets-append l i [] ys = ap (λ (k : ℕ). sets l k ys) (sym (add-zero i))
-sets-append l i (x ∷ xs) ys =
-    let e : suc i + length xs ≡ i + suc (length xs) = omega arith in
-    sets-append (set l i x) (suc i) xs ys ∙ ap (λ (k : ℕ). sets (sets (set l i x) (suc i) xs) k ys) e
 
 pub six-stores : (l : List ℕ) (i a b c d e f : ℕ) → set (set (set (set (set (set l i a) (i + 1) b) (i + 2) c) (i + 3) d) (i + 4) e) (i + 5) f ≡ sets l i (a ∷ b ∷ c ∷ d ∷ e ∷ f ∷ [])
 six-stores l i a b c d e f =
@@ -42,7 +36,7 @@ pub stored-append : (old : List ℕ) (n : ℕ) (xs ys : List Row) → stored old
 unfolding stored
 stored-append old n xs ys =
     let e : n * rowWidth + length (flat xs) ≡ (n + length xs) * rowWidth = omega (arith, length-flat xs) in
-    ap (sets old (n * rowWidth)) (flat-append xs ys) ∙ sets-append old (n * rowWidth) (flat xs) (flat ys) ∙ ap (λ (k : ℕ). sets (sets old (n * rowWidth) (flat xs)) k (flat ys)) e
+    ap (sets old (n * rowWidth)) (flat-append xs ys) ∙ sym (sets-append old (n * rowWidth) (flat xs) (flat ys)) ∙ ap (λ (k : ℕ). sets (sets old (n * rowWidth) (flat xs)) k (flat ys)) e
 
 pub stored-nil : (old : List ℕ) (n : ℕ) → stored old n [] ≡ old
 unfolding stored flat
@@ -69,7 +63,7 @@ stored-before old n x xs =
     let e : n * rowWidth + length (flat (x ∷ [])) ≡ (n + 1) * rowWidth = omega (arith, length-flat (x ∷ [])) in
     sym (sets-swap old (n * rowWidth) (flat (x ∷ [])) ((n + 1) * rowWidth) (flat xs) (omega arith))
     ∙ ap (λ (k : ℕ). sets (sets old (n * rowWidth) (flat (x ∷ []))) k (flat xs)) (sym e)
-    ∙ sym (sets-append old (n * rowWidth) (flat (x ∷ [])) (flat xs))
+    ∙ sets-append old (n * rowWidth) (flat (x ∷ [])) (flat xs)
     ∙ ap (sets old (n * rowWidth)) (sym (flat-append (x ∷ []) xs))
 
 -- From the first row on: the rows, and then the old buffer's rest.

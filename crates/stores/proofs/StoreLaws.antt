@@ -5,20 +5,14 @@ use mathlib.Core.Path.{_≡_, refl, sym, ap, _∙_}
 use mathlib.Core.List.{List, [], _∷_, _++_, append-nil}
 use native.Mathlib.Omega.{arith}
 use native.Mathlib.Numerals.{add-one}
-use native.Mathlib.Nat.{add-zero}
 use lib.ListN.{length, take, drop, getD, set, length-drop, drop-of-length-le}
-use lib.Seq.{sets, length-take-le, take-suc, take-all}
+use lib.Seq.{sets, length-take-le, take-add, take-suc, take-all}
 use borrow.Rule.Slice.PartMut.{putMid, midOf}
 use Rattle.theory.proofs.WordLaws.{length-puts, puts-append}
+use Rattle.theory.proofs.StoreLaws.{sets-append}
 use Rattle.note.specs.Words.{order, words}
 
 -- ---- one after the other
-
-sets-append : (l : List ℕ) (i : ℕ) (a b : List ℕ) → sets (sets l i a) (i + length a) b ≡ sets l i (a ++ b)
-sets-append l i [] b = ap (λ (k : ℕ). sets l k b) (add-zero i)
-sets-append l i (x ∷ a) b =
-    let e : i + suc (length a) ≡ suc i + length a = omega arith in
-    ap (λ (k : ℕ). sets (sets (set l i x) (suc i) a) k b) e ∙ sets-append (set l i x) (suc i) a b
 
 -- Stores from the place behind those before them.
 stored-next : (l : List ℕ) (at next : ℕ) (a b : List ℕ) → at + length a ≡ next → sets (sets l at a) next b ≡ sets l at (a ++ b)
@@ -39,7 +33,13 @@ in-a-row l at [] = refl
 in-a-row l at (x ∷ []) = refl
 in-a-row l at (x ∷ (y ∷ ys)) = in-a-row (sets l at x) (at + length x) (y ∷ ys) ∙ sets-append l at x (joined (y ∷ ys))
 
--- One byte more of a part, and one word more of a list of words.
+-- A block more of a part, a byte more, and one word more of a list of words.
+pub block-more : (l s : List ℕ) (at i j : ℕ) → i ≤ j → j ≤ length s → sets (sets l at (take i s)) (at + i) (take (j - i) (drop i s)) ≡ sets l at (take j s)
+block-more l s at i j h k =
+    let both : i + (j - i) ≡ j = omega arith in
+    stored-next l at (at + i) (take i s) (take (j - i) (drop i s)) (omega (arith, length-take-le i s (omega arith)))
+    ∙ ap (sets l at) (sym (take-add i (j - i) s) ∙ ap (λ (m : ℕ). take m s) both)
+
 pub byte-more : (l s : List ℕ) (at i : ℕ) → i < length s → set (sets l at (take i s)) (at + i) (getD s i 0) ≡ sets l at (take (i + 1) s)
 byte-more l s at i h =
     stored-next l at (at + i) (take i s) (getD s i 0 ∷ []) (omega (arith, length-take-le i s (omega arith)))

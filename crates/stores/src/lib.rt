@@ -4,7 +4,7 @@ use note::WriterAnswer;
 use record::FILE_LIMIT;
 ghost use mathlib.Core.Path.{_≡_};
 ghost use mathlib.Core.List.{[], _∷_};
-ghost use Prim.Native.Nat.{_+_, _*_, _≤_};
+ghost use Prim.Native.Nat.{_+_, _*_, _≤_, _<_};
 ghost use lib.ListN.{length};
 ghost use lib.Seq.{sets};
 ghost use Rattle.note.specs.Words.{words};
@@ -64,15 +64,62 @@ pub fn put_words(out: &mut [u8], at: usize, ws: &[u32])
     }
 }
 
-/// Stores a part of bytes, from a place on.
+// Stores a block byte by byte, from a place on.
+fn put_block(out: &mut [u8], at: usize, block: &[u8])
+    requires { ⌜ at + length (now block) ≤ length (now out) ⌝ }
+    ensures { λ _. ⌜ now (out .exit) ≡ sets (now (out .entry)) at (now (block .entry)) ⌝ }
+{
+    let mut i = 0;
+    while i < block.len() {
+        out[at + i] = block[i];
+        i += 1;
+    }
+}
+
+// A line of memory, and a block: a few lines, which are fetched together.
+const LINE: usize = 64;
+
+const BLOCK: usize = 512;
+
+// Fetches the lines of memory that a block will be stored into: a byte in each is looked at, and stored where it differs. What the block's
+// store leaves is the same as without.
+fn fetch_lines(out: &mut [u8], at: usize, block: &[u8])
+    requires { ⌜ (at + length (now block) ≤ length (now out)) × (length (now block) ≤ 512) ⌝ }
+    ensures { λ _. ⌜ sets (now (out .exit)) at (now (block .entry)) ≡ sets (now (out .entry)) at (now (block .entry)) ⌝ }
+{
+    let mut line = 0;
+    while line < block.len() {
+        if out[at + line] != block[line] {
+            out[at + line] = block[line];
+        }
+        line += LINE;
+    }
+}
+
+// Where the block from a place of a part ends.
+fn block_end(from: usize, size: usize) -> usize
+    requires { ⌜ from < size ⌝ }
+    ensures { λ r. ⌜ (from < r) × (r ≤ size) × (r ≤ from + 512) ⌝ }
+{
+    if size - from < BLOCK {
+        size
+    } else {
+        from + BLOCK
+    }
+}
+
+/// Stores a part of bytes, from a place on. In blocks, each after its lines were fetched: that is at memory speed.
 pub fn put_part(out: &mut [u8], at: usize, part: &[u8])
     requires { ⌜ at + length (now part) ≤ length (now out) ⌝ }
     ensures { λ _. ⌜ now (out .exit) ≡ sets (now (out .entry)) at (now (part .entry)) ⌝ }
 {
-    let mut i = 0;
-    while i < part.len() {
-        out[at + i] = part[i];
-        i += 1;
+    let mut from = 0;
+    while from < part.len() {
+        let end = block_end(from, part.len());
+        let block = &part[from..end];
+        fetch_lines(out, at + from, block);
+        put_block(out, at + from, block);
+        from = end;
     }
 }
 

@@ -19,7 +19,7 @@ use Rattle.closings.proofs.close.Reads as reads
 use Rattle.closings.proofs.close.Lts as lts
 use Rattle.closings.proofs.bounded.Reads as bounded-reads
 use Rattle.containers.proofs.records_in.Reads as records-in-reads
-use Rattle.stores.proofs.put_words.Reads as put-words-reads
+use Rattle.closings.proofs.shut.Reads as shut-reads
 
 -- Where the end was answered: what `bounded` said, and what that tells.
 abbrev start : tie.After-next → tie.Start
@@ -67,17 +67,8 @@ enum-known-number-2 c = search needs
 enum-told : tie.Need-enum-told
 enum-told c = search needs
 
-sub-t27 : tie.Need-sub-t27
-sub-t27 c = let k = told (c .before .before .before .before .before .before .before) in omega (arith, k .wide)
-
-cast-t28 : tie.Need-cast-t28
-cast-t28 c = let k = told (c .before .before .before .before .before .before .before) in omega (arith, k .limit, k .room)
-
-slice-aggregate-put-words : tie.Need-slice-aggregate-put-words
-slice-aggregate-put-words c = search needs
-
-put-words-requires : tie.Need-put-words-requires
-put-words-requires c κs = let k = told (c .before .before .before .before .before .before .before .before) in omega (arith, k .room, k .wide)
+shut-requires : tie.Need-shut-requires
+shut-requires c κs = let k = told (c .before .before .before .before .before .before .before) in (k .wide, k .room, k .limit)
 
 returns : tie.Need-returns
 unfolding givenWriter
@@ -98,11 +89,10 @@ same-length-2 c = search needs
 returns-3 : tie.Need-returns-3
 unfolding givenWriter
 returns-3 c =
-    let next = c .before .before .before .before .before .before .before .before .before .before .before in
+    let next = c .before .before .before .before .before .before .before .before .before .before in
     let k = told next in
-    let counted = sym (c .before .before .before .before .before .enum-told .given .1) ∙ c .before .before .before .before .before .before .before .records-in .ensures in
-    let shut = shuts _ _ _ _ _ _ _ _ _ (said next) counted (omega (arith, k .room, k .wide)) in
-    (shut .0, c .before .before .put-words .ensures ∙ shut .1)
+    let end = shuts _ _ _ _ _ _ _ _ _ (said next) (sym (c .before .before .before .before .enum-told .given .1) ∙ c .before .before .before .before .before .before .records-in .ensures) (omega (arith, k .room, k .wide)) in
+    (end .0, c .before .before .shut .ensures ∙ end .1)
 
 pub close-spec : {M : Type 1} → statement M
 close-spec =
@@ -118,10 +108,7 @@ close-spec =
     records-in-requires
     enum-known-number-2
     enum-told
-    sub-t27
-    cast-t28
-    slice-aggregate-put-words
-    put-words-requires
+    shut-requires
     returns
     same-length
     returns-2

@@ -9,13 +9,13 @@ use Rattle.theory.proofs.WordLaws.{Bytes-from}
 use Rattle.note.specs.Limits.{fileLimit}
 use Rattle.demands.proofs.Bundles.{eventItem, same-events}
 use Rattle.rewriting.proofs.CopyLoop.{Copying, begin, ended}
-use Rattle.rewriting.proofs.EventCopy.{event-turn, records-ready, event-next}
+use Rattle.rewriting.proofs.EventCopy.{event-turn, records-ready, granted, event-next}
 use borrow.Author.Needs.{needs}
 use Rattle.rewriting.proofs.copy_events.Statement.{statement}
 use Rattle.rewriting.proofs.copy_events.Tie as tie
 use Rattle.rewriting.proofs.copy_events.Reads as reads
 use Rattle.rewriting.proofs.copy_events.Lts as lts
-use Rattle.closings.proofs.close_event.Reads as close-event-reads
+use Rattle.closings.proofs.shut_event.Reads as shut-event-reads
 use Rattle.fields.proofs.category_of.Reads as category-of-reads
 use Rattle.fields.proofs.class_of.Reads as class-of-reads
 use Rattle.fields.proofs.event_type_of.Reads as event-type-of-reads
@@ -81,8 +81,8 @@ category-of-requires c κs = search needs
 event-type-of-requires : tie.Need-event-type-of-requires Inv-loop μ-loop
 event-type-of-requires c κs = search needs
 
-close-event-requires : tie.Need-close-event-requires Inv-loop μ-loop
-close-event-requires c κs = search needs
+shut-event-requires : tie.Need-shut-event-requires Inv-loop μ-loop
+shut-event-requires c κs = granted (c .before .before .before .before .before .before .before .before .before .before .before .before .loop .inv) (c .before .before .before .before .before .before .before .before .before .before .before .loop-test .taken) _ _ (c .before .before .before .before .before .before .before .before .before .before .word-at .ensures) (c .before .before .before .before .before .before .before .before .before .word-at2 .ensures) _ _ _ (c .before .before .before .class-of .ensures) (c .before .before .category-of .ensures) (c .before .event-type-of .ensures) _ (c .before .before .before .before .before .before .copy-records .ensures)
 
 sub-rest : tie.Need-sub-rest Inv-loop μ-loop
 sub-rest c = sized (c .before .before .before .before .before .before .before .before .before .before .before .before) .0
@@ -103,7 +103,7 @@ loop-again c =
     let read = filled .before .before .before in
     let turn = read .before .before in
     event-next (turn .before .loop .inv) (turn .loop-test .taken) _ _ (read .before .word-at .ensures) (read .word-at2 .ensures) _ _ _
-    (class .class-of .ensures) (c .before .before .before .before .before .before .category-of .ensures) (c .before .before .before .before .before .event-type-of .ensures) _ (filled .copy-records .ensures) _ (c .before .before .before .close-event .ensures .1)
+    (class .class-of .ensures) (c .before .before .before .before .before .before .category-of .ensures) (c .before .before .before .before .before .event-type-of .ensures) _ (filled .copy-records .ensures) _ (c .before .before .before .shut-event .ensures)
 
 same-length : tie.Need-same-length Inv-loop μ-loop
 same-length c = c .before .loop .inv .laid .size
@@ -131,7 +131,7 @@ copy-events-spec =
     class-of-requires
     category-of-requires
     event-type-of-requires
-    close-event-requires
+    shut-event-requires
     sub-rest
     part-rest-start
     part-rest-end

@@ -9,13 +9,13 @@ use Rattle.theory.specs.Words.{Bytes}
 use Rattle.theory.proofs.WordLaws.{Bytes-from}
 use Rattle.note.specs.Files.{versionOf, headerBytes}
 use Rattle.demands.specs.Outputs.{Laid}
-use Rattle.rewriting.proofs.FileCopy.{words-fit, header-copied, end-fits, entries-ready, events-ready, file-copied}
+use Rattle.rewriting.proofs.FileCopy.{words-fit, header-copied, end-fits, entries-ready, granted, events-ready, file-copied}
 use borrow.Author.Needs.{needs}
 use Rattle.rewriting.proofs.copy_file.Statement.{statement}
 use Rattle.rewriting.proofs.copy_file.Tie as tie
 use Rattle.rewriting.proofs.copy_file.Reads as reads
 use Rattle.rewriting.proofs.copy_file.Lts as lts
-use Rattle.closings.proofs.close_configuration.Reads as close-configuration-reads
+use Rattle.closings.proofs.shut_configuration.Reads as shut-configuration-reads
 use Rattle.closings.proofs.write_header.Reads as write-header-reads
 use Rattle.rewriting.proofs.copy_events.Reads as copy-events-reads
 use Rattle.rewriting.proofs.copy_records.Reads as copy-records-reads
@@ -79,8 +79,12 @@ copy-records-requires c κs =
     let read = top .before .before in
     entries-ready _ _ (held (read .before .before)) (start top .pre) _ (read .word-at2 .ensures) _ (header top)
 
-close-configuration-requires : tie.Need-close-configuration-requires
-close-configuration-requires c κs = search needs
+shut-configuration-requires : tie.Need-shut-configuration-requires
+shut-configuration-requires c κs =
+    let filled = c .before .before .before in
+    let top = filled .before .before .before .before .before in
+    let read = top .before .before in
+    granted _ _ (held (read .before .before)) (start top .pre) _ (read .word-at2 .ensures) _ (header top) _ (filled .copy-records .ensures)
 
 sub-copy-events : tie.Need-sub-copy-events
 sub-copy-events c = ending (c .before .before .before .before .before .before .before .before .before .before .before .before .before)
@@ -98,7 +102,7 @@ copy-events-requires c κs =
     let top = filled .before .before .before .before .before in
     let read = top .before .before in
     events-ready _ _ (held (read .before .before)) (start top .pre) _ (read .word-at2 .ensures) _ (header top)
-    _ (filled .copy-records .ensures) _ (shut .close-configuration .ensures .1)
+    _ (filled .copy-records .ensures) _ (shut .shut-configuration .ensures)
 
 same-length : tie.Need-same-length
 same-length c = search needs
@@ -110,7 +114,7 @@ returns c =
     let top = filled .before .before .before .before .before in
     let read = top .before .before in
     file-copied _ _ (held (read .before .before)) (start top .pre) _ (read .word-at2 .ensures) _ (header top)
-    _ (filled .copy-records .ensures) _ (shut .close-configuration .ensures .1) _ (c .before .before .copy-events .ensures)
+    _ (filled .copy-records .ensures) _ (shut .shut-configuration .ensures) _ (c .before .before .copy-events .ensures)
 
 pub copy-file-spec : {M : Type 1} → statement M
 copy-file-spec =
@@ -127,7 +131,7 @@ copy-file-spec =
     part-copy-records-start
     part-copy-records-end
     copy-records-requires
-    close-configuration-requires
+    shut-configuration-requires
     sub-copy-events
     part-copy-events-start
     part-copy-events-end

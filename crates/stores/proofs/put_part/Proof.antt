@@ -1,50 +1,69 @@
--- `stores::put_part` meets its contract: after i turns the first i bytes of the part are stored.
--- The idea: a turn stores one byte more.
+-- `stores::put_part` meets its contract: after each turn the bytes up to here are stored.
+-- The idea: a turn stores one block more; what was stored in fetching its lines, the block covers.
 use Prim.Native.Nat.{ℕ, _+_, _-_, _≤_}
 use mathlib.Core.Path.{_≡_, refl, ap, _∙_}
 use mathlib.Core.List.{List}
 use native.Mathlib.Omega.{arith}
-use lib.ListN.{length, length-set, take, set, getD}
+use lib.ListN.{length, take, drop}
 use lib.Seq.{sets, take-all}
-use Rattle.stores.proofs.StoreLaws.{byte-more}
+use Rattle.stores.proofs.StoreLaws.{block-more}
 use borrow.Author.Needs.{needs}
 use Rattle.stores.proofs.put_part.Statement.{statement}
 use Rattle.stores.proofs.put_part.Tie as tie
 use Rattle.stores.proofs.put_part.Reads as reads
 use Rattle.stores.proofs.put_part.Lts as lts
+use Rattle.stores.proofs.block_end.Reads as block-end-reads
+use Rattle.stores.proofs.fetch_lines.Reads as fetch-lines-reads
+use Rattle.stores.proofs.put_block.Reads as put-block-reads
 
 abbrev Inv-loop : tie.InvT-loop
-Inv-loop out₀ at part i₀ out i = (i ≤ length part) × (length out ≡ length out₀) × (out ≡ sets out₀ at (take i part))
+Inv-loop out₀ at part from₀ out from = (from ≤ length part) × (length out ≡ length out₀) × (out ≡ sets out₀ at (take from part))
 
 abbrev μ-loop : tie.MeasureT-loop
-μ-loop out₀ at part i₀ out i = length part - i
+μ-loop out₀ at part from₀ out from = length part - from
 
 loop-holds : tie.Need-loop-holds Inv-loop μ-loop
 loop-holds c = (omega arith, refl, refl)
 
-shared-slice-read-out : tie.Need-shared-slice-read-out Inv-loop μ-loop
-shared-slice-read-out c = search needs
+block-end-requires : tie.Need-block-end-requires Inv-loop μ-loop
+block-end-requires c κs = search needs
 
-add-out : tie.Need-add-out Inv-loop μ-loop
-add-out c = search needs
+sub-block : tie.Need-sub-block Inv-loop μ-loop
+sub-block c = search needs
 
-slice-write-out : tie.Need-slice-write-out Inv-loop μ-loop
-slice-write-out c = search needs
+part-block-start : tie.Need-part-block-start Inv-loop μ-loop
+part-block-start c = search needs
 
-add-i : tie.Need-add-i Inv-loop μ-loop
-add-i c = search needs
+part-block-end : tie.Need-part-block-end Inv-loop μ-loop
+part-block-end c = search needs
+
+add-fetch-lines : tie.Need-add-fetch-lines Inv-loop μ-loop
+add-fetch-lines c = search needs
+
+fetch-lines-requires : tie.Need-fetch-lines-requires Inv-loop μ-loop
+fetch-lines-requires c κs = search needs
+
+add-put-block : tie.Need-add-put-block Inv-loop μ-loop
+add-put-block c = search needs
+
+put-block-requires : tie.Need-put-block-requires Inv-loop μ-loop
+put-block-requires c κs = search needs
 
 loop-less : tie.Need-loop-less Inv-loop μ-loop
 loop-less c = search needs
 
 loop-again : tie.Need-loop-again Inv-loop μ-loop
 loop-again c =
-    let a = c .before .before .before .args in
-    let turn = c .before .before .loop in (
-      omega arith,
-      simp length-set (turn .inv .1),
-      ap (λ (l : List ℕ). set l (a .at + turn .i) (getD (a .part .now) (turn .i) 0)) (turn .inv .2)
-          ∙ byte-more (a .out .now) (a .part .now) (a .at) (turn .i) (c .before .loop-test .taken),
+    let a = c .before .before .before .before .before .before .before .before .before .before .before .before .before .before .args in
+    let turn = c .before .before .before .before .before .before .before .before .before .before .before .loop in
+    let end = c .before .before .before .before .before .before .before .before .before .block-end in
+    let block : List ℕ = take (end .result - turn .from) (drop (turn .from) (a .part .now)) in
+    let last = c .before .before .put-block in
+    let first = c .before .before .before .before .before .before .fetch-lines in (
+      end .ensures .1,
+      last .kept .0 ∙ first .kept .0 ∙ turn .inv .1,
+      last .ensures ∙ first .ensures ∙ ap (λ (l : List ℕ). sets l (a .at + turn .from) block) (turn .inv .2)
+          ∙ block-more (a .out .now) (a .part .now) (a .at) (turn .from) (end .result) (omega (arith, end .ensures .0)) (end .ensures .1),
     )
 
 same-length : tie.Need-same-length Inv-loop μ-loop
@@ -52,8 +71,8 @@ same-length c = c .before .loop .inv .1
 
 returns : tie.Need-returns Inv-loop μ-loop
 returns c =
-    let a = c .before .before .args in
-    c .before .loop .inv .2 ∙ ap (sets (a .out .now) (a .at)) (take-all (c .before .loop .i) (a .part .now) (c .loop-test .left))
+    let a = c .before .before .before .before .args in
+    c .before .loop .inv .2 ∙ ap (sets (a .out .now) (a .at)) (take-all (c .before .loop .from) (a .part .now) (c .loop-test .left))
 
 pub put-part-spec : {M : Type 1} → statement M
 put-part-spec =
@@ -62,10 +81,14 @@ put-part-spec =
     Inv-loop
     μ-loop
     loop-holds
-    shared-slice-read-out
-    add-out
-    slice-write-out
-    add-i
+    block-end-requires
+    sub-block
+    part-block-start
+    part-block-end
+    add-fetch-lines
+    fetch-lines-requires
+    add-put-block
+    put-block-requires
     loop-less
     loop-again
     same-length

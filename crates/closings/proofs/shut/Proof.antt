@@ -1,0 +1,48 @@
+-- The two words that are stored are the closing's.
+-- The idea: the length is that of the contents.
+use mathlib.Core.Path.{_≡_, ap, _∙_}
+use mathlib.Core.List.{[], _∷_}
+use Prim.Native.Nat.{ℕ, _+_, _-_}
+use native.Mathlib.Omega.{arith}
+use denote.Ref.{now}
+use lib.Seq.{sets}
+use Rattle.note.specs.Words.{words}
+use borrow.Author.Needs.{needs}
+use Rattle.closings.proofs.shut.Statement.{statement}
+use Rattle.closings.proofs.shut.Tie as tie
+use Rattle.closings.proofs.shut.Reads as reads
+use Rattle.closings.proofs.shut.Lts as lts
+use Rattle.stores.proofs.put_words.Reads as put-words-reads
+
+sub-t9 : tie.Need-sub-t9
+sub-t9 c = search needs
+
+sub-t10 : tie.Need-sub-t10
+sub-t10 c = search needs
+
+cast-t11 : tie.Need-cast-t11
+cast-t11 c = search needs
+
+slice-aggregate-put-words : tie.Need-slice-aggregate-put-words
+slice-aggregate-put-words c = search needs
+
+put-words-requires : tie.Need-put-words-requires
+put-words-requires c κs = search needs
+
+same-length : tie.Need-same-length
+same-length c = search needs
+
+returns : tie.Need-returns
+returns c = let a = c .before .before .before .before .before .before .args in let n : a .end - a .place - 8 ≡ a .end - (a .place + 8) = omega arith in c .before .before .put-words .ensures ∙ ap (λ (m : ℕ). sets (now (a .out)) (a .place) (words (a .word ∷ m ∷ []))) n
+
+pub shut-spec : {M : Type 1} → statement M
+shut-spec =
+    tie.close
+    (tie.spec
+    sub-t9
+    sub-t10
+    cast-t11
+    slice-aggregate-put-words
+    put-words-requires
+    same-length
+    returns)
