@@ -7,8 +7,8 @@ use lib.ListN.{replicate}
 use Rattle.theory.specs.Tests.{ok}
 use Rattle.note.specs.Examples.{p14}
 use Rattle.note.proofs.Computing.{computing}
-use Rattle.demands.specs.Pieces.{administrative, tlb, writtenOf, PieceFits}
-use Rattle.demands.specs.Assembly.{FilePieces, FileFits, recordsAssembled, containerAssembled, eventsAssembled, fileAssembled}
+use Rattle.demands.specs.Pieces.{administrative, tlb, writtenOf, recordOf, PieceFits}
+use Rattle.demands.specs.Assembly.{FilePieces, FileFits, FileFaultless, FilePlaced, recordsAssembled, containerAssembled, eventsAssembled, fileAssembled}
 
 abbrev pieces : FilePieces
 pieces = record {
@@ -32,3 +32,12 @@ example-assembled = refl
 pub example-fits : FileFits pieces
 unfolding PieceFits
 example-fits = record { major = omega arith; minor = omega arith; entries = tt; events = (omega arith, tt) }
+
+-- What its writers and its closings ask, it has.
+pub example-faultless : FileFaultless pieces
+unfolding computing writtenOf
+example-faultless = record { entries = tt; events = (record { word = refl; records = (refl, (refl, tt)) }, tt) }
+
+pub example-placed : FilePlaced pieces
+unfolding computing recordOf
+example-placed = record { entries = tt; events = (record { some = omega arith; records = (refl, refl, (refl, refl, tt)) }, tt) }

@@ -2,12 +2,13 @@
 -- The idea: the calls lay the bytes of the tree; a closing's own check reads the pieces and nothing else, so its acceptance makes them valid.
 use mathlib.Core.Path.{_≡_, refl, sym, ap, ap₂, _∙_, subst}
 use mathlib.Core.List.{List, [], _∷_, _++_, map}
-use Prim.Native.Nat.{ℕ, zero, suc, _+_, _-_, _%_, _≤_}
+use Prim.Native.Nat.{ℕ, zero, suc, _+_, _%_, _≤_}
 use native.Mathlib.Omega.{arith}
 use lib.ListN.{length, take, drop, length-append}
 use lib.Seq.{take-at, drop-at}
 use Rattle.theory.specs.Words.{Bytes, Fits, wordAt, put}
 use Rattle.theory.specs.Tests.{Res, ok, bind}
+use Rattle.theory.specs.Structures.{Structure, structureBytes}
 use Rattle.theory.proofs.WordLaws.{Bytes-append, Bytes-put, word-after-put}
 use Rattle.theory.proofs.TestLaws.{need-ok, bind-ok, ok-inj, equal-passes}
 use Rattle.theory.proofs.Items.{seqs, Oks, turn, seq-open}
@@ -24,7 +25,7 @@ use Rattle.demands.specs.Outputs.{Laid}
 use Rattle.demands.specs.Assembly.{AllFitting, EventPieces, FilePieces, containerOf, Built, recordsAssembled, containerAssembled, configurationAssembled, eventAssembled, eventsAssembled, fileAssembled, EventsFitting, FileFits, eventOf, fileOf, Assembled}
 use Rattle.demands.proofs.Bundles.{recordItem, eventItem, parts, same-records}
 use Rattle.demands.proofs.Follows.{read-within}
-use Rattle.demands.proofs.OutputLaws.{structure-apart, none-laid, both-laid, around-laid, laid-within, granted}
+use Rattle.demands.proofs.OutputLaws.{structure-apart, none-laid, both-laid, around-laid, laid-within, laid-contents, granted}
 use Rattle.demands.proofs.WriterLaws.{record-granted, record-laid, header-laid, piece-writes}
 use Rattle.demands.proofs.ClosingLaws.{box, Checked, container-ok, container-laid, configuration-checked, event-checked}
 
@@ -80,18 +81,20 @@ pieces-kinds : (ps : List Piece) → AllFitting ps → KindsFit (map recordOf ps
 pieces-kinds [] h = tt
 pieces-kinds (p ∷ ps) h = (piece-writes p (h .0) .kind-fits, pieces-kinds ps (h .1))
 
-record-bytes : (r : Record) → Bytes (r .body) → Bytes (recordBytes r)
-record-bytes r h =
-    Bytes-append (put order 4 (r .kind)) _ (Bytes-put order 4 (r .kind)) (Bytes-append (put order 4 (length (r .body))) (r .body) (Bytes-put order 4 (length (r .body))) h)
+pub structure-bytes : {B : Type 0} (bodyBytes : B → List ℕ) (c : Structure B) → Bytes (bodyBytes (c .body)) → Bytes (structureBytes order bodyBytes c)
+structure-bytes bodyBytes c h =
+    let body : List ℕ = bodyBytes (c .body) in
+    Bytes-append (put order 4 (c .kind)) _ (Bytes-put order 4 (c .kind)) (Bytes-append (put order 4 (length body)) body (Bytes-put order 4 (length body)) h)
 
-pieces-bytes : (ps : List Piece) → AllFitting ps → Bytes (recordsBytes (map recordOf ps))
+pub pieces-bytes : (ps : List Piece) → AllFitting ps → Bytes (recordsBytes (map recordOf ps))
 pieces-bytes [] h = tt
 pieces-bytes (p ∷ ps) h =
-    Bytes-append (recordBytes (recordOf p)) (recordsBytes (map recordOf ps)) (record-bytes (recordOf p) (piece-writes p (h .0) .body-bytes)) (pieces-bytes ps (h .1))
+    Bytes-append (recordBytes (recordOf p)) (recordsBytes (map recordOf ps))
+    (structure-bytes (λ (b : List ℕ). b) (recordOf p) (piece-writes p (h .0) .body-bytes)) (pieces-bytes ps (h .1))
 
 -- ---- what the calls have laid
 
-records-laid : (b : Built) (ps : List Piece) (after : Built) → AllFitting ps → recordsAssembled b ps ≡ ok after
+pub records-laid : (b : Built) (ps : List Piece) (after : Built) → AllFitting ps → recordsAssembled b ps ≡ ok after
     → Laid (b .out) (after .out) (b .next) (after .next) (recordsBytes (map recordOf ps))
 unfolding recordsAssembled
 records-laid b [] after h e = subst (λ (x : Built). Laid (b .out) (x .out) (b .next) (x .next) []) (ok-inj e) (none-laid (b .out) (b .next))
@@ -104,6 +107,18 @@ records-laid b (p ∷ ps) after h e =
     subst (λ (x : List ℕ). Laid (b .out) out (b .next) next x) (piece-writes p (h .0) .bytes-are) (record-laid (b .out) (b .next) next w e1) in
     both-laid (b .out) out (after .out) _ _ (b .next) next (after .next) (omega (arith, g .room, g .is)) one
     (records-laid (record { next = next; out = out }) ps after (h .1) e2)
+
+-- A container's calls: its records, then its closing.
+pub container-calls : (closed : List ℕ → ℕ → ℕ → Res ℕ) (output : List ℕ → ℕ → ℕ → List ℕ) (b : Built) (ps : List Piece) (after : Built)
+    → containerAssembled closed output b ps ≡ ok after
+    → (filled : Built) × (next : ℕ) × (recordsAssembled (record { next = b .next + 8; out = b .out }) ps ≡ ok filled)
+    × (closed (filled .out) (b .next) (filled .next) ≡ ok next) × (record { next = next; out = output (filled .out) (b .next) (filled .next) } ≡ after)
+unfolding containerAssembled
+container-calls closed output b ps after e =
+    let made : Built → ℕ → Res Built = λ filled next. ok (record { next = next; out = output (filled .out) (b .next) (filled .next) }) in
+    let (filled, e1, e2) = bind-ok (recordsAssembled (record { next = b .next + 8; out = b .out }) ps) (λ filled. bind (closed (filled .out) (b .next) (filled .next)) (made filled)) e in
+    let (next, e3, e4) = bind-ok (closed (filled .out) (b .next) (filled .next)) (made filled) e2 in
+    (filled, next, e1, e3, ok-inj e4)
 
 -- A container: what stands afterwards is the container of the pieces, and it is valid.
 pub record Stood (head : Unit {0} → ℕ → ℕ) (late : Unit {0} → ℕ → ℕ → ℕ) (c : Context) (b after : Built) (x : Container) : Type 0 where
@@ -125,8 +140,7 @@ module _ (head : Unit {0} → ℕ → ℕ) (late : Unit {0} → ℕ → ℕ → 
       let place : ℕ = b .next in
       let end : ℕ = filled .next in
       let k = checked old place end next e in
-      let n : end - (place + 8) ≡ length (recordsBytes rs) = omega (arith, l .ends) in
-      let contents : contentsOf old place end ≡ recordsBytes rs = ap (λ (m : ℕ). take m (drop (place + 8) old)) n ∙ l .here in
+      let contents : contentsOf old place end ≡ recordsBytes rs = laid-contents (b .out) old (recordsBytes rs) place end l .1 in
       let bytes : Bytes (contentsOf old place end) = subst Bytes (sym contents) (pieces-bytes ps h) in
       let same : k .read ≡ rs =
       records-exact c (place + 8) rs (k .read) (pieces-kinds ps h) (omega (arith, l .ends, k .limit, k .room)) (sym (ap (readRecords c (place + 8)) contents) ∙ k .contents) in
@@ -142,21 +156,17 @@ module _ (head : Unit {0} → ℕ → ℕ) (late : Unit {0} → ℕ → ℕ → 
 
   container-stands : (b : Built) (ps : List Piece) (after : Built) → AllFitting ps → containerAssembled closed output b ps ≡ ok after
       → Stood head late c b after (containerOf word ps)
-  unfolding containerAssembled
   container-stands b ps after h e =
-      let inner : Built = record { next = b .next + 8; out = b .out } in
-      let made : Built → ℕ → Res Built = λ filled next. ok (record { next = next; out = output (filled .out) (b .next) (filled .next) }) in
-      let (filled, e1, e2) = bind-ok (recordsAssembled inner ps) (λ filled. bind (closed (filled .out) (b .next) (filled .next)) (made filled)) e in
-      let (next, e3, e4) = bind-ok (closed (filled .out) (b .next) (filled .next)) (made filled) e2 in
-      subst (λ (x : Built). Stood head late c b x (containerOf word ps)) (ok-inj e4) (closed-stands b filled ps next h (records-laid inner ps filled h e1) e3)
+      let (filled, next, e1, e2, is) = container-calls closed output b ps after e in
+      subst (λ (x : Built). Stood head late c b x (containerOf word ps)) is (closed-stands b filled ps next h (records-laid _ ps filled h e1) e2)
 
-configuration-stands : (b : Built) (ps : List Piece) (after : Built) → AllFitting ps → configurationAssembled b ps ≡ ok after
+pub configuration-stands : (b : Built) (ps : List Piece) (after : Built) → AllFitting ps → configurationAssembled b ps ≡ ok after
     → Stood configurationHead configurationLate entry b after (containerOf configurationWord ps)
 unfolding configurationOutput
 configuration-stands =
     container-stands configurationHead configurationLate entry configurationWord configurationClosed configurationOutput configuration-checked (λ out place end. refl)
 
-event-stands : (b : Built) (e : EventPieces) (after : Built) → AllFitting (e .records) → eventAssembled b e ≡ ok after
+pub event-stands : (b : Built) (e : EventPieces) (after : Built) → AllFitting (e .records) → eventAssembled b e ≡ ok after
     → Stood eventHead eventLate (event none) b after (eventOf e)
 unfolding eventOutput
 event-stands b e after h q =
@@ -177,27 +187,38 @@ events-stand b (e ∷ es) after h q =
 
 -- ---- the file
 
-module _ (out : List ℕ) (f : FilePieces) (h : FileFits f) where
-  version-ok : (versionRule (versionWord (f .major) (f .minor)) ≡ 0) × Fits 4 (versionWord (f .major) (f .minor))
-  version-ok =
-      let low : versionWord (f .major) (f .minor) % 65536 ≡ format = omega (arith, h .major, h .minor) in
-      (equal-passes 4 low, omega (arith, h .major, h .minor))
+pub version-ok : (f : FilePieces) → FileFits f → (versionRule (versionWord (f .major) (f .minor)) ≡ 0) × Fits 4 (versionWord (f .major) (f .minor))
+version-ok f h =
+    let low : versionWord (f .major) (f .minor) % 65536 ≡ format = omega (arith, h .major, h .minor) in
+    (equal-passes 4 low, omega (arith, h .major, h .minor))
 
+-- A file's calls: the header, the configuration, the events.
+pub file-calls : (out : List ℕ) (f : FilePieces) (b : Built) → fileAssembled out f ≡ ok b
+    → (next : ℕ) × (mid : Built) × (headerWrote out ≡ ok next)
+    × (configurationAssembled (record { next = next; out = headerOutput out (f .major) (f .minor) }) (f .entries) ≡ ok mid) × (eventsAssembled mid (f .events) ≡ ok b)
+unfolding fileAssembled
+file-calls out f b e =
+    let rest : Built → Res Built = λ mid. eventsAssembled mid (f .events) in
+    let top : ℕ → Built = λ next. record { next = next; out = headerOutput out (f .major) (f .minor) } in
+    let (next, e1, e2) = bind-ok (headerWrote out) (λ next. bind (configurationAssembled (top next) (f .entries)) rest) e in
+    let (mid, e3, e4) = bind-ok (configurationAssembled (top next) (f .entries)) rest e2 in
+    (next, mid, e1, e3, e4)
+
+module _ (out : List ℕ) (f : FilePieces) (h : FileFits f) where
   -- The calls lay the bytes of the tree, which is valid.
-  file-stands : (b : Built) → fileAssembled out f ≡ ok b → Laid out (b .out) 0 (b .next) (fileBytes (fileOf f)) × (length out ≤ fileLimit) × parts .Ok tt (fileOf f)
-  unfolding fileAssembled fileOf headerWrote
+  pub file-stands : (b : Built) → fileAssembled out f ≡ ok b → Laid out (b .out) 0 (b .next) (fileBytes (fileOf f)) × (length out ≤ fileLimit) × parts .Ok tt (fileOf f)
+  unfolding fileOf headerWrote
   file-stands b e =
       let top : List ℕ = headerOutput out (f .major) (f .minor) in
-      let (next, e1, e2) = bind-ok (headerWrote out) (λ next. bind (configurationAssembled (record { next = next; out = top }) (f .entries)) (λ mid. eventsAssembled mid (f .events))) e in
-      let (mid, e3, e4) = bind-ok (configurationAssembled (record { next = next; out = top }) (f .entries)) (λ mid. eventsAssembled mid (f .events)) e2 in
+      let (next, mid, e1, e2, e3) = file-calls out f b e in
       let g = granted (length out) 0 0 8 next e1 in
       let header = header-laid out (f .major) (f .minor) next e1 in
-      let configuration = configuration-stands (record { next = next; out = top }) (f .entries) mid (h .entries) e3 in
-      let (events, oks) = events-stand mid (f .events) b (h .events) e4 in
+      let configuration = configuration-stands (record { next = next; out = top }) (f .entries) mid (h .entries) e2 in
+      let (events, oks) = events-stand mid (f .events) b (h .events) e3 in
       let rest = both-laid top (mid .out) (b .out) _ _ next (mid .next) (b .next) (configuration .room) (configuration .laid) events in (
         both-laid out top (b .out) _ _ 0 next (b .next) (omega (arith, g .room, g .is)) header rest,
         g .limit,
-        (version-ok, (configuration .valid, oks)),
+        (version-ok f h, (configuration .valid, oks)),
       )
 
   pub assembled-accepted : (b : Built) → fileAssembled out f ≡ ok b → Assembled out f b

@@ -153,6 +153,11 @@ within-ok n place end r next e =
     let (w, e4) = need-ok (unless (leb (place + 8) end) 13) place r e3 in
     (most-passed n fileLimit 0 l, most-passed end n 12 q, most-passed (place + 8) end 12 w, e4)
 
+within-grants : (n place end : ℕ) (r : Res ℕ) → n ≤ fileLimit → end ≤ n → place + 8 ≤ end → within n place end r ≡ r
+within-grants n place end r limit room wide =
+    let low : place ≤ n = omega arith in
+    rw (most-passes 1 limit, most-passes 13 low, most-passes 13 room, most-passes 13 wide)
+
 ended-ok : (end next : ℕ) (r : Res (List Record)) → ended end r ≡ ok next → (rs : List Record) × (r ≡ ok rs) × (end ≡ next)
 ended-ok end next r e = let (rs, is, q) = bind-ok r (λ rs. ok end) e in (rs, is, ok-inj q)
 
@@ -163,6 +168,13 @@ configuration-checked out place end next e =
     let (limit, room, wide, q) = within-ok (length out) place end _ next e in
     let (rs, read, is) = ended-ok end next _ q in
     record { limit = limit; room = room; wide = wide; fits = omega arith; head-ok = refl; late-ok = refl; read = rs; contents = read; is = is }
+
+-- And what a closing asks is no more.
+pub configuration-grants : (out : List ℕ) (place end : ℕ) → Checked configurationHead configurationLate entry out place end end configurationWord
+    → configurationClosed out place end ≡ ok end
+unfolding configurationClosed
+configuration-grants out place end k =
+    within-grants (length out) place end _ (k .limit) (k .room) (k .wide) ∙ ap (ended end) (k .contents)
 
 -- The word of an admitted class, category and type is an event's first word.
 module _ (class category type : ℕ) (e : eventFault class category type ≡ 0) where
@@ -208,6 +220,19 @@ event-checked out place end class category type next e =
       contents = read;
       is = is;
     }
+
+pub event-faultless : (out : List ℕ) (place end class category type next : ℕ) → eventClosed out place end class category type ≡ ok next
+    → eventFault class category type ≡ 0
+unfolding eventClosed
+event-faultless out place end class category type next e = need-ok (eventFault class category type) place _ (within-ok (length out) place end _ next e .3) .0
+
+-- And what a closing asks is no more than that and a class, category and type without fault.
+pub event-grants : (out : List ℕ) (place end class category type : ℕ) → eventFault class category type ≡ 0
+    → Checked eventHead eventLate (event none) out place end end (eventWord class category type) → eventClosed out place end class category type ≡ ok end
+unfolding eventClosed
+event-grants out place end class category type fault k =
+    let some : place + 9 ≤ end = omega (arith, most-passed 1 (end - (place + 8)) 8 (k .late-ok)) in
+    within-grants (length out) place end _ (k .limit) (k .room) (k .wide) ∙ rw (fault, most-passes 9 some) (ap (ended end) (k .contents))
 
 -- The contents of an output of bytes are bytes.
 contents-bytes : (out : List ℕ) (place end : ℕ) → Bytes out → Bytes (contentsOf out place end)

@@ -17,4 +17,5 @@ pub mod OutputLaws
 pub mod WriterLaws
 pub mod ClosingLaws
 pub mod AssemblyLaws
+pub mod GrantLaws
 pub mod AssemblyExample

@@ -2,7 +2,7 @@
 -- The idea: before, here and behind determine a list, so outputs of calls one after the other are put together without a look at a byte.
 use mathlib.Core.Path.{_≡_, refl, sym, ap, ap₂, _∙_}
 use mathlib.Core.List.{List, [], _++_, append-assoc}
-use Prim.Native.Nat.{ℕ, _+_, _≤_, min}
+use Prim.Native.Nat.{ℕ, _+_, _-_, _≤_, min}
 use native.Mathlib.Omega.{arith}
 use lib.Dec.{leb}
 use lib.ListN.{length, take, drop, length-append, length-take, length-drop, take-append-drop}
@@ -10,10 +10,10 @@ use lib.Seq.{take-at, drop-at, drop-drop, take-take, length-take-le}
 use Rattle.theory.specs.Words.{put}
 use Rattle.theory.specs.Structures.{Structure, structureBytes}
 use Rattle.theory.specs.Tests.{Res, ok, bad, unless}
-use Rattle.theory.proofs.TestLaws.{need-ok, most-passed, ok-inj}
+use Rattle.theory.proofs.TestLaws.{need-ok, most-passed, most-passes, ok-inj}
 use Rattle.note.specs.Limits.{fileLimit}
 use Rattle.note.specs.Words.{order}
-use Rattle.note.specs.Writers.{wrote, written}
+use Rattle.note.specs.Writers.{wrote, written, contentsOf}
 use Rattle.demands.specs.Outputs.{Laid}
 
 -- A structure's bytes in front of others: its two words, its body, the others.
@@ -95,6 +95,13 @@ laid-within old new bytes next l =
     let n : length bytes ≡ min (length bytes) (length new) = sym (ap length (l .here)) ∙ length-take (length bytes) new in
     omega (arith, n, l .size)
 
+-- Bytes that were laid behind eight free ones are what a closing finds between its place and its end.
+pub laid-contents : (old new bytes : List ℕ) (place end : ℕ) → Laid old new (place + 8) end bytes
+    → (end - (place + 8) ≡ length bytes) × (contentsOf new place end ≡ bytes)
+laid-contents old new bytes place end l =
+    let n : end - (place + 8) ≡ length bytes = omega (arith, l .ends) in
+    (n, ap (λ (m : ℕ). take m (drop (place + 8) new)) n ∙ l .here)
+
 -- ---- what an accepted writer says
 
 pub record Granted (n place fault size next : ℕ) : Type 0 where
@@ -110,6 +117,11 @@ granted n place fault size next e =
     let (f, e2) = need-ok fault place _ e1 in
     let (r, e3) = need-ok (unless (leb (place + size) n) 13) place _ e2 in
     record { limit = most-passed n fileLimit 0 l; fine = f; room = most-passed (place + size) n 12 r; is = ok-inj e3 }
+
+-- And what a writer asks is no more: no fault, and room.
+pub grants : (n place fault size : ℕ) → n ≤ fileLimit → fault ≡ 0 → place + size ≤ n → wrote n place fault size ≡ ok (place + size)
+unfolding wrote
+grants n place fault size limit fine room = rw (most-passes 1 limit, fine, most-passes 13 room)
 
 -- A refusal leaves the output as it was, whichever call gave it.
 pub refusal-keeps : (r : Res ℕ) (out bytes : List ℕ) (place c p : ℕ) → r ≡ bad c p → written r out place bytes ≡ out

@@ -19,7 +19,7 @@ use Rattle.note.specs.Kinds.{Kind}
 use Rattle.note.specs.Phonon.{Phonon, phononKind, phononBytes}
 use Rattle.note.specs.Charge.{Charge, chargeKind, chargeBytes}
 use Rattle.note.specs.Administrative.{Administrative, administrativeKind, administrativeBytes}
-use Rattle.note.specs.Trace.{Trace, traceKind, traceWords, traceBytes, traceOf}
+use Rattle.note.specs.Trace.{Trace, TraceFits, traceKind, traceWords, traceBytes, traceOf}
 use Rattle.note.specs.History.{Section, History, historyKind, widthAt, widthOf, after, triggerAt, sectionOf, historyOf, sectionBytes, historyBytes, historyFault, sectionValues}
 use Rattle.note.specs.Gps.{Gps, gpsKind, gpsBytes}
 use Rattle.note.specs.Trigger.{Trigger, triggerKind, triggerBytes}
@@ -30,7 +30,7 @@ use Rattle.note.specs.Writers.{Written, wrapped, recordWrote, recordOutput, hea
 use Rattle.note.specs.Answers.{Value, accepted, count, counts}
 use Rattle.note.specs.Calls.{recordFound, recordGiven, recordAt, partGiven, samplesPart, samplesAt}
 use Rattle.note.proofs.FieldLaws.{phonon-read-back, charge-read-back, administrative-read-back, trigger-read-back, tlb-read-back}
-use Rattle.note.proofs.TraceLaws.{TraceFits, trace-read-back, trace-length}
+use Rattle.note.proofs.TraceLaws.{trace-read-back, trace-length}
 use Rattle.note.proofs.HistoryLaws.{history-read-back}
 use Rattle.note.proofs.GpsLaws.{gps-read-back}
 use Rattle.demands.specs.Valid.{ValidRecord}

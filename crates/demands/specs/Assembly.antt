@@ -1,11 +1,13 @@
 -- Document 01, 'Rows and calls', of writers: a file assembled in one output by header, entries, closing, records, closings, each call from
 -- the place that the call before it answered.
-use Prim.Native.Nat.{ℕ, _+_, _<_}
+use Prim.Native.Nat.{ℕ, _+_, _≤_, _<_}
 use mathlib.Core.Path.{_≡_}
+use mathlib.Core.Bool.{true}
 use mathlib.Core.List.{List, [], _∷_, map}
 use lib.ListN.{length, take, drop}
 use Rattle.theory.specs.Tests.{Res, ok, bind}
-use Rattle.note.specs.Events.{Container, eventWord}
+use Rattle.note.specs.Records.{Context, entry, event, none, isKind, isAllowed, behind}
+use Rattle.note.specs.Events.{Container, eventWord, eventFault}
 use Rattle.note.specs.Files.{File, versionWord, configurationWord, readFile}
 use Rattle.note.specs.Writers.{recordWrote, recordOutput, headerWrote, headerOutput, configurationClosed, configurationOutput, eventClosed, eventOutput}
 use Rattle.demands.specs.Pieces.{Piece, writtenOf, recordOf, PieceFits}
@@ -40,6 +42,43 @@ pub record FileFits (f : FilePieces) : Type 0 where
   pub minor : f .minor < 256
   pub entries : AllFitting (f .entries)
   pub events : EventsFitting (f .events)
+
+-- "Writers: 1, then fields in word order": the fields of each piece are without fault, and so are an event's class, category and type. The
+-- tree's words alone don't say so: a number may be larger than its bits.
+abbrev pub AllFaultless : List Piece → Type 0
+AllFaultless [] = Unit {0}
+AllFaultless (p ∷ ps) = (writtenOf p .fault ≡ 0) × AllFaultless ps
+
+pub record EventFaultless (e : EventPieces) : Type 0 where
+  pub word : eventFault (e .class) (e .category) (e .type) ≡ 0
+  pub records : AllFaultless (e .records)
+
+abbrev pub EventsFaultless : List EventPieces → Type 0
+EventsFaultless [] = Unit {0}
+EventsFaultless (e ∷ es) = EventFaultless e × EventsFaultless es
+
+pub record FileFaultless (f : FilePieces) : Type 0 where
+  pub entries : AllFaultless (f .entries)
+  pub events : EventsFaultless (f .events)
+
+-- A container's contents "are checked by the reading rules": what these ask beyond the fields is that each kind is one of this container's
+-- and stands where it may, and that no event is empty.
+abbrev pub AllPlaced : Context → List Piece → Type 0
+AllPlaced c [] = Unit {0}
+AllPlaced c (p ∷ ps) =
+    (isKind c (recordOf p .kind) ≡ true) × (isAllowed c (recordOf p .kind) ≡ true) × AllPlaced (behind c (recordOf p .kind)) ps
+
+pub record EventPlaced (e : EventPieces) : Type 0 where
+  pub some : 1 ≤ length (e .records)
+  pub records : AllPlaced (event none) (e .records)
+
+abbrev pub EventsPlaced : List EventPieces → Type 0
+EventsPlaced [] = Unit {0}
+EventsPlaced (e ∷ es) = EventPlaced e × EventsPlaced es
+
+pub record FilePlaced (f : FilePieces) : Type 0 where
+  pub entries : AllPlaced entry (f .entries)
+  pub events : EventsPlaced (f .events)
 
 -- The tree that they make.
 abbrev pub containerOf : ℕ → List Piece → Container

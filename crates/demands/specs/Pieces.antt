@@ -2,11 +2,12 @@
 use Prim.Native.Nat.{ℕ, _+_, _*_}
 use mathlib.Core.List.{List, [], _∷_, _++_}
 use Rattle.theory.specs.Words.{Bytes, AllFit}
+use Rattle.note.specs.Words.{AllSigned}
 use Rattle.note.specs.Answers.{Given, accepted, whole, count, counts, wholes}
 use Rattle.note.specs.Phonon.{Phonon, phononKind, phononWords, phononBytes}
 use Rattle.note.specs.Charge.{Charge, chargeKind, chargeWords, chargeBytes}
 use Rattle.note.specs.Administrative.{Administrative, administrativeKind, administrativeWords, administrativeBytes}
-use Rattle.note.specs.Trace.{Trace, traceKind, traceBytes}
+use Rattle.note.specs.Trace.{Trace, TraceFits, traceKind, traceBytes}
 use Rattle.note.specs.History.{Section, History, historyKind, historyBytes}
 use Rattle.note.specs.Gps.{Gps, gpsKind, gpsNumbers, gpsBytes}
 use Rattle.note.specs.Trigger.{Trigger, triggerKind, triggerMasks, triggerBytes}
@@ -14,8 +15,6 @@ use Rattle.note.specs.Tlb.{Tlb, tlbKind, tlbWords, tlbBytes}
 use Rattle.note.specs.Kinds.{Kind}
 use Rattle.note.specs.Records.{Record}
 use Rattle.note.specs.Writers.{Written, phononWritten, chargeWritten, administrativeWritten, traceWritten, historyWritten, gpsWritten, triggerWritten, tlbWritten}
-use Rattle.note.proofs.SignedLaws.{AllSigned}
-use Rattle.note.proofs.TraceLaws.{TraceFits}
 
 -- The fields of one record or entry, as its writer takes them.
 pub data Piece : Type 0 where

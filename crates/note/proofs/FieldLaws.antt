@@ -11,13 +11,13 @@ use Rattle.theory.specs.Words.{Bytes, wordsAt, AllFit}
 use Rattle.theory.specs.Tests.{first, unless}
 use Rattle.theory.proofs.TestLaws.{Passed, first-at, first-passes, equal-passed, equal-passes}
 use Rattle.theory.proofs.WordLaws.{words-of-puts, puts-fill, words-fit, length-puts}
-use Rattle.note.specs.Words.{order, word, words, signed, unsigned}
+use Rattle.note.specs.Words.{order, word, words, signed, unsigned, AllSigned}
 use Rattle.note.specs.Phonon.{Phonon, phononWords, phononOf, phononBytes, phononFault, phononRule}
 use Rattle.note.specs.Charge.{Charge, chargeWords, chargeOf, chargeBytes, chargeFault, chargeRule}
 use Rattle.note.specs.Administrative.{Administrative, administrativeWords, administrativeOf, administrativeBytes, administrativeFault, administrativeRule}
 use Rattle.note.specs.Trigger.{Trigger, triggerMasks, triggerOf, triggerBytes, triggerRule}
 use Rattle.note.specs.Tlb.{Tlb, tlbWords, tlbOf, tlbBytes, tlbFault, tlbRule}
-use Rattle.note.proofs.SignedLaws.{AllSigned, all-signed-again, all-unsigned-again, all-unsigned-fit}
+use Rattle.note.proofs.SignedLaws.{all-signed-again, all-unsigned-again, all-unsigned-fit}
 
 -- ---- any k words
 

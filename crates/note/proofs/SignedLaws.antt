@@ -8,7 +8,7 @@ use mir.Val.{SFits}
 use mir.Syntax.{w32}
 use mir.Facts.{toZ-ofZ, ofZ-toZ, fits-ofZ}
 use Rattle.theory.specs.Words.{Fits, AllFit}
-use Rattle.note.specs.Words.{signed, unsigned}
+use Rattle.note.specs.Words.{signed, unsigned, AllSigned}
 
 pub signed-again : (w : ℕ) → Fits 4 w → unsigned (signed w) ≡ w
 signed-again w h = ofZ-toZ {w = w32} (record { fits = h })
@@ -18,11 +18,6 @@ unsigned-again z h = toZ-ofZ h
 
 pub unsigned-fits : (z : ℤ) → SFits w32 z → Fits 4 (unsigned z)
 unsigned-fits z h = fits-ofZ h .fits
-
--- Every number fits a signed word.
-abbrev pub AllSigned : List ℤ → Type 0
-AllSigned [] = Unit {0}
-AllSigned (z ∷ zs) = SFits w32 z × AllSigned zs
 
 pub all-signed-again : (ws : List ℕ) → AllFit 4 ws → map unsigned (map signed ws) ≡ ws
 all-signed-again [] h = refl

@@ -12,14 +12,12 @@ use lib.Dec.{eqb}
 use lib.ListN.{length, drop, set, getD, length-append, length-set}
 use lib.Seq.{drop-at}
 use lib.IntN.{ℤ}
-use mir.Val.{SFits}
-use mir.Syntax.{w32}
 use Rattle.theory.specs.declared.Order.the-variants.{Little}
 use Rattle.theory.specs.Words.{Bytes, Fits, wordAt, wordsAt}
 use Rattle.theory.proofs.TestLaws.{first-at, first-passes, equal-passed, equal-passes, most-passed, most-passes}
 use Rattle.theory.proofs.WordLaws.{words-of-puts, puts-of-words, length-puts, word-fits, word-set-other, word-set-here, words-set-behind, word-low, word-high, Bytes-set}
 use Rattle.note.specs.Words.{order, word, words, signed, unsigned}
-use Rattle.note.specs.Trace.{Trace, traceOf, traceWords, traceBytes, channelFault, codeFault, deltaFault, countFault, bookkeepingRule, timebaseRule, samplesRule, traceRule, traceFault, sampleIn, traceKind}
+use Rattle.note.specs.Trace.{Trace, TraceFits, traceOf, traceWords, traceBytes, channelFault, codeFault, deltaFault, countFault, bookkeepingRule, timebaseRule, samplesRule, traceRule, traceFault, sampleIn, traceKind}
 use Rattle.note.proofs.SignedLaws.{signed-again, unsigned-again, unsigned-fits}
 use Rattle.note.proofs.FieldLaws.{read}
 
@@ -65,15 +63,6 @@ pub trace-length : (b : List ℕ) → traceRule b ≡ 0 → (length b ≡ 48 + 2
 trace-length b e = let a : AcceptedTrace b = trace-accepted b e in (a .size, a .even, a .fewest, a .most)
 
 -- ---- fields written and read back
-
--- The fields fit their words.
-pub record TraceFits (f : Trace) : Type 0 where
-  pub address : Fits 4 (f .address)
-  pub channel : Fits 4 (f .channel)
-  pub code : Fits 4 (f .code)
-  pub t0 : SFits w32 (f .t0)
-  pub delta : Fits 4 (f .delta)
-  pub n : Fits 4 (f .n)
 
 abbrev fields : List ℕ → ℤ → List ℕ → Trace
 fields ns t ss = record { address = getD ns 2 0; channel = getD ns 3 0; code = getD ns 4 0; t0 = t; delta = getD ns 8 0; n = getD ns 11 0; samples = ss }

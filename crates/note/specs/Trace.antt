@@ -5,6 +5,9 @@ use mathlib.Core.List.{List, [], _∷_, _++_}
 use lib.Dec.{leb, eqb}
 use lib.IntN.{ℤ}
 use lib.ListN.{length, drop}
+use mir.Val.{SFits}
+use mir.Syntax.{w32}
+use Rattle.theory.specs.Words.{Fits}
 use Rattle.theory.specs.Tests.{unless, first}
 use Rattle.note.specs.Limits.{fewestSamples, mostSamples}
 use Rattle.note.specs.Words.{word, words, signed, unsigned}
@@ -22,6 +25,15 @@ pub record Trace : Type 0 where
   pub delta : ℕ
   pub n : ℕ
   pub samples : List ℕ
+
+-- The fields fit their words.
+pub record TraceFits (f : Trace) : Type 0 where
+  pub address : Fits 4 (f .address)
+  pub channel : Fits 4 (f .channel)
+  pub code : Fits 4 (f .code)
+  pub t0 : SFits w32 (f .t0)
+  pub delta : Fits 4 (f .delta)
+  pub n : Fits 4 (f .n)
 
 -- The fields of a body, and the body of fields.
 unfoldable pub traceOf : List ℕ → Trace

@@ -1,8 +1,8 @@
 -- Document 01, 'Words and nesting': the words of this format. Every definition of the note speaks of them by these names.
 use Prim.Native.Nat.{ℕ, _+_, _*_, _/_, _%_}
-use mathlib.Core.List.{List}
+use mathlib.Core.List.{List, [], _∷_}
 use lib.IntN.{ℤ}
-use mir.Val.{toZ, ofZ}
+use mir.Val.{toZ, ofZ, SFits}
 use mir.Syntax.{w32}
 use Rattle.theory.specs.declared.Order.{Order}
 use Rattle.theory.specs.declared.Order.the-variants.{Little}
@@ -26,6 +26,11 @@ signed w = toZ w32 w
 
 abbrev pub unsigned : ℤ → ℕ
 unsigned z = ofZ w32 z
+
+-- Every number fits a signed word.
+abbrev pub AllSigned : List ℤ → Type 0
+AllSigned [] = Unit {0}
+AllSigned (z ∷ zs) = SFits w32 z × AllSigned zs
 
 -- A count is "signed and not negative" where its word is at most this.
 abbrev pub greatestSigned : ℕ
