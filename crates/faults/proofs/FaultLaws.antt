@@ -1,21 +1,11 @@
--- Faults asked one after the other, as the writers' code has them, and a part of so many words.
--- The idea: the first fault of a list and one more is the first of the first and that one.
-use Prim.Native.Nat.{ℕ, zero, suc, _*_, _/_, _%_}
+-- A part of so many words: its size asked by division.
+-- The idea: four times the quotient is the size where nothing is left over.
+use Prim.Native.Nat.{ℕ, _*_, _/_, _%_}
 use mathlib.Core.Path.{_≡_, refl, sym}
 use mathlib.Core.Bool.{Bool, true, false}
-use mathlib.Core.List.{List, [], _∷_, _++_}
 use native.Mathlib.Omega.{arith}
 use borrow.Author.Tests.{eq-eqb, ne-eqb, eqb-true, eqb-false}
 use lib.Dec.{eqb}
-use Rattle.theory.specs.Tests.{first}
-
-pub one-more : (cs : List ℕ) (c : ℕ) → first (first cs ∷ c ∷ []) ≡ first (cs ++ (c ∷ []))
-unfolding first
-one-more [] c = refl
-one-more (zero ∷ cs) c = one-more cs c
-one-more (suc b ∷ cs) c = refl
-
--- ---- a part of so many words
 
 pub filled : (size n : ℕ) → size % 4 ≡ 0 → eqb (size / 4) n ≡ eqb size (4 * n)
 filled size n h = go (eqb (size / 4) n) refl

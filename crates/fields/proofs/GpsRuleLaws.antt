@@ -6,15 +6,10 @@ use mathlib.Core.List.{List, [], _∷_, _++_}
 use lib.Dec.{eqb}
 use lib.ListN.{length}
 use Rattle.theory.specs.Tests.{unless, first}
+use Rattle.theory.proofs.TestLaws.{first-of-part}
 use Rattle.note.specs.Words.{word}
 use Rattle.note.specs.Gps.{gpsOf, gpsFault, gpsRule}
 use Rattle.fields.specs.Digits.{gpsDigitsFault}
-
-first-of-part : (cs ds : List ℕ) → first (first cs ∷ ds) ≡ first (cs ++ ds)
-unfolding first
-first-of-part [] ds = refl
-first-of-part (zero ∷ cs) ds = first-of-part cs ds
-first-of-part (suc c ∷ cs) ds = refl
 
 pub first-of-parts : (b : ℕ) (cs ds : List ℕ) → first (b ∷ first cs ∷ ds) ≡ first (b ∷ (cs ++ ds))
 unfolding first

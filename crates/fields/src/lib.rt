@@ -1,9 +1,12 @@
 // The fields of a file's structures as numbers: how a word is taken apart, and whether a field keeps its rule, in document 01's order.
-// A rule answers 0 or the number of the refusal; readers and writers ask the same ones. Places and bytes are other crates' matter.
+// A rule answers 0 or the number of the refusal, of several tests the first that fails; readers and writers ask the same ones. Places and
+// bytes are other crates' matter.
+ghost use mathlib.Core.Bool.{_&&_};
 ghost use mathlib.Core.List.{[], _∷_};
 ghost use mathlib.Core.Path.{_≡_};
 ghost use Prim.Native.Nat.{_/_, _%_, _^_, _≤_};
-ghost use Rattle.theory.specs.Tests.{among};
+ghost use lib.Dec.{leb};
+ghost use Rattle.theory.specs.Tests.{unless, first, among};
 ghost use Rattle.note.specs.Words.{signed, unsigned};
 ghost use Rattle.note.specs.Calls.{hundredth};
 ghost use Rattle.note.specs.Events.{classOf, categoryOf, eventTypeOf, eventFault, eventWordRule};
@@ -13,6 +16,29 @@ ghost use Rattle.note.specs.History.{isWidth};
 ghost use Rattle.note.specs.Gps.{areDigits, decimal, daysOfYear, gpsFault};
 ghost use Rattle.note.specs.Tlb.{isTower, tlbFault, zipSet};
 ghost use Rattle.fields.specs.Digits.{gpsDigitsFault};
+
+// ---- faults, asked one after the other
+
+/// The fault of a test: none where it holds.
+pub fn unless(holds: bool, number: u32) -> u32
+    ensures { λ r. ⌜ r ≡ unless holds number ⌝ }
+{
+    if holds { 0 } else { number }
+}
+
+/// The first of two faults.
+pub fn earlier(one: u32, two: u32) -> u32
+    ensures { λ r. ⌜ r ≡ first (one ∷ two ∷ []) ⌝ }
+{
+    if one != 0 { one } else { two }
+}
+
+/// The first of the fault so far and the fault of one more test.
+pub fn or_unless(fault: u32, holds: bool, number: u32) -> u32
+    ensures { λ r. ⌜ r ≡ first (fault ∷ unless holds number ∷ []) ⌝ }
+{
+    earlier(fault, unless(holds, number))
+}
 
 // ---- words
 
@@ -116,19 +142,10 @@ fn is_category(category: u32) -> bool
 pub fn event_fault(class: u32, category: u32, kind: u32) -> u32
     ensures { λ r. ⌜ r ≡ eventFault class category kind ⌝ }
 {
-    if !is_class(class) {
-        return 7;
-    }
-    if !is_category(category) {
-        return 7;
-    }
-    if kind > LAST_TYPE {
-        return 7;
-    }
-    if kind == MONITORING {
-        return 8;
-    }
-    0
+    let fault = unless(is_class(class), 7);
+    let fault = or_unless(fault, is_category(category), 7);
+    let fault = or_unless(fault, kind <= LAST_TYPE, 7);
+    or_unless(fault, kind != MONITORING, 8)
 }
 
 /// 5 where the upper half of an event's first word isn't the mark, then the fault of its class, category and type.
@@ -198,16 +215,18 @@ pub fn is_clock(w: u32) -> bool
 pub fn administrative_fault(date: u32, clock: u32) -> u32
     ensures { λ r. ⌜ r ≡ administrativeFault date clock ⌝ }
 {
-    if !is_series(date) {
-        return 10;
-    }
-    if !is_clock(clock) {
-        return 10;
-    }
-    0
+    let fault = unless(is_series(date), 10);
+    or_unless(fault, is_clock(clock), 10)
 }
 
 // ---- trace
+
+/// Whether a digitizer has this channel.
+pub fn is_channel(channel: u32) -> bool
+    ensures { λ r. ⌜ r ≡ (leb 1 channel && leb channel 8) ⌝ }
+{
+    1 <= channel && channel <= 8
+}
 
 // A trace has 2 to 32,768 samples.
 const FEWEST_SAMPLES: u32 = 2;
@@ -292,6 +311,13 @@ pub fn days_of_year(y: u32) -> u32
     366
 }
 
+// Whether a year has this day.
+fn is_day(year: u32, day: u32) -> bool
+    ensures { λ r. ⌜ r ≡ (leb 1 day && leb day (daysOfYear year)) ⌝ }
+{
+    1 <= day && day <= days_of_year(year)
+}
+
 /// 10 where a field of a GPS record is outside its rule.
 pub fn gps_fault(
     year: u32,
@@ -312,50 +338,23 @@ pub fn gps_fault(
       tenths = tenths;
     }) ⌝ }
 {
-    if year > 9999 {
-        return 10;
-    }
-    if day < 1 {
-        return 10;
-    }
-    if day > days_of_year(year) {
-        return 10;
-    }
-    if status > 15 {
-        return 10;
-    }
-    if hour > 23 {
-        return 10;
-    }
-    if minute > 59 {
-        return 10;
-    }
-    if second > 59 {
-        return 10;
-    }
-    if tenths > 9_999_999 {
-        return 10;
-    }
-    0
+    let fault = unless(year <= 9999, 10);
+    let fault = or_unless(fault, is_day(year, day), 10);
+    let fault = or_unless(fault, status <= 15, 10);
+    let fault = or_unless(fault, hour <= 23, 10);
+    let fault = or_unless(fault, minute <= 59, 10);
+    let fault = or_unless(fault, second <= 59, 10);
+    or_unless(fault, tenths <= 9_999_999, 10)
 }
 
 /// 10 where a digit of a GPS record's three words isn't a decimal digit, or the digit after the status isn't zero; the status is free.
 pub fn gps_digits_fault(w0: u32, w1: u32, w2: u32) -> u32
     ensures { λ r. ⌜ r ≡ gpsDigitsFault w0 w1 w2 ⌝ }
 {
-    if !are_digits(8, w0) {
-        return 10;
-    }
-    if nibble(w1, 6) != 0 {
-        return 10;
-    }
-    if !are_digits(6, w1) {
-        return 10;
-    }
-    if !are_digits(8, w2) {
-        return 10;
-    }
-    0
+    let fault = unless(are_digits(8, w0), 10);
+    let fault = or_unless(fault, nibble(w1, 6) == 0, 10);
+    let fault = or_unless(fault, are_digits(6, w1), 10);
+    or_unless(fault, are_digits(8, w2), 10)
 }
 
 // ---- TLB mask
@@ -378,25 +377,12 @@ pub fn tlb_fault(t1: u32, t2: u32, t3: u32, t4: u32, t5: u32, t6: u32) -> u32
       tower6 = t6;
     }) ⌝ }
 {
-    if !is_tower(1, t1) {
-        return 10;
-    }
-    if !is_tower(2, t2) {
-        return 10;
-    }
-    if !is_tower(3, t3) {
-        return 10;
-    }
-    if !is_tower(4, t4) {
-        return 10;
-    }
-    if !is_tower(5, t5) {
-        return 10;
-    }
-    if !is_tower(6, t6) {
-        return 10;
-    }
-    0
+    let fault = unless(is_tower(1, t1), 10);
+    let fault = or_unless(fault, is_tower(2, t2), 10);
+    let fault = or_unless(fault, is_tower(3, t3), 10);
+    let fault = or_unless(fault, is_tower(4, t4), 10);
+    let fault = or_unless(fault, is_tower(5, t5), 10);
+    or_unless(fault, is_tower(6, t6), 10)
 }
 
 /// Whether the bit of ZIP z, from 1 to 24, is set in a TLB word. By shift and mask (document 01).

@@ -5,10 +5,14 @@ use channels::is_phonon;
 use fields::administrative_fault;
 use fields::count_fault;
 use fields::decimal;
+use fields::earlier;
 use fields::gps_digits_fault;
 use fields::gps_fault;
+use fields::is_channel;
 use fields::is_width;
+use fields::or_unless;
 use fields::tlb_fault;
+use fields::unless;
 use words::word_at;
 ghost use mathlib.Core.Path.{_≡_};
 ghost use Prim.Native.Nat.{_+_, _≤_, _<_};
@@ -44,20 +48,14 @@ pub const TLB: u32 = 0x81;
 pub fn phonon_fault(code: u32) -> u32
     ensures { λ r. ⌜ r ≡ phononFault code ⌝ }
 {
-    if !is_phonon(code) {
-        return 10;
-    }
-    0
+    unless(is_phonon(code), 10)
 }
 
 /// The fault of a charge entry's code.
 pub fn charge_fault(code: u32) -> u32
     ensures { λ r. ⌜ r ≡ chargeFault code ⌝ }
 {
-    if !is_charge(code) {
-        return 10;
-    }
-    0
+    unless(is_charge(code), 10)
 }
 
 /// A phonon entry's rule.
@@ -95,23 +93,10 @@ fn bookkeeping_rule(b: &[u8]) -> u32
     requires { ⌜ 48 ≤ length (now b) ⌝ }
     ensures { λ r. ⌜ r ≡ bookkeepingRule (now (b .entry)) ⌝ }
 {
-    if word_at(b, 0) != 0x11 {
-        return 5;
-    }
-    if word_at(b, 4) != 12 {
-        return 6;
-    }
-    let channel = word_at(b, 12);
-    if channel < 1 {
-        return 10;
-    }
-    if 8 < channel {
-        return 10;
-    }
-    if !is_named(word_at(b, 16)) {
-        return 10;
-    }
-    0
+    let fault = unless(word_at(b, 0) == 0x11, 5);
+    let fault = or_unless(fault, word_at(b, 4) == 12, 6);
+    let fault = or_unless(fault, is_channel(word_at(b, 12)), 10);
+    or_unless(fault, is_named(word_at(b, 16)), 10)
 }
 
 // Its second: the timebase.
@@ -119,16 +104,9 @@ fn timebase_rule(b: &[u8]) -> u32
     requires { ⌜ 48 ≤ length (now b) ⌝ }
     ensures { λ r. ⌜ r ≡ timebaseRule (now (b .entry)) ⌝ }
 {
-    if word_at(b, 20) != 0x12 {
-        return 5;
-    }
-    if word_at(b, 24) != 12 {
-        return 6;
-    }
-    if word_at(b, 32) < 1 {
-        return 10;
-    }
-    0
+    let fault = unless(word_at(b, 20) == 0x12, 5);
+    let fault = or_unless(fault, word_at(b, 24) == 12, 6);
+    or_unless(fault, 1 <= word_at(b, 32), 10)
 }
 
 // Its third: the samples' count, the same as the first.
@@ -136,18 +114,9 @@ fn samples_rule(b: &[u8]) -> u32
     requires { ⌜ 48 ≤ length (now b) ⌝ }
     ensures { λ r. ⌜ r ≡ samplesRule (now (b .entry)) ⌝ }
 {
-    if word_at(b, 40) != 0x13 {
-        return 5;
-    }
     let n = word_at(b, 44);
-    let fault = count_fault(n);
-    if fault != 0 {
-        return fault;
-    }
-    if word_at(b, 36) != n {
-        return 11;
-    }
-    0
+    let fault = earlier(unless(word_at(b, 40) == 0x13, 5), count_fault(n));
+    or_unless(fault, word_at(b, 36) == n, 11)
 }
 
 /// A trace's rule: it reads the first 48 bytes and no sample.
@@ -157,22 +126,9 @@ pub fn trace_rule(b: &[u8]) -> u32
     if b.len() < 48 {
         return 6;
     }
-    let bookkeeping = bookkeeping_rule(b);
-    if bookkeeping != 0 {
-        return bookkeeping;
-    }
-    let timebase = timebase_rule(b);
-    if timebase != 0 {
-        return timebase;
-    }
-    let samples = samples_rule(b);
-    if samples != 0 {
-        return samples;
-    }
-    if b.len() != 48 + 2 * word_at(b, 44) as usize {
-        return 6;
-    }
-    0
+    let fault = earlier(bookkeeping_rule(b), timebase_rule(b));
+    let fault = earlier(fault, samples_rule(b));
+    or_unless(fault, b.len() == 48 + 2 * word_at(b, 44) as usize, 6)
 }
 
 // A history section's rule, its count standing at place p.
@@ -193,13 +149,8 @@ fn section_rule(trigger: bool, p: usize, b: &[u8]) -> u32
         return 6;
     }
     let width = word_at(b, q);
-    if 0x7FFF_FFFF < width {
-        return 10;
-    }
-    if !is_width(trigger, times, width) {
-        return 10;
-    }
-    0
+    let fault = unless(width <= 0x7FFF_FFFF, 10);
+    or_unless(fault, is_width(trigger, times, width), 10)
 }
 
 /// Where a section that follows its rule ends.
@@ -251,10 +202,7 @@ pub fn gps_rule(b: &[u8]) -> u32
     let clock = word_at(b, 4);
     let tenths = word_at(b, 8);
     let digits = gps_digits_fault(date, clock, tenths);
-    if digits != 0 {
-        return digits;
-    }
-    gps_fault(
+    let fault = gps_fault(
         decimal(4, date >> 16),
         decimal(4, date),
         clock >> 28,
@@ -262,7 +210,8 @@ pub fn gps_rule(b: &[u8]) -> u32
         decimal(2, clock >> 8),
         decimal(2, clock),
         decimal(8, tenths),
-    )
+    );
+    earlier(digits, fault)
 }
 
 /// A trigger record's rule.

@@ -1,7 +1,7 @@
 -- The laws of refusals and of rules: what a test that passed says, and how a chain of tests goes on.
 use mathlib.Core.Path.{_≡_, refl, sym, ap, _∙_, subst}
 use mathlib.Core.Bool.{Bool, true, false, _||_}
-use mathlib.Core.List.{List, [], _∷_}
+use mathlib.Core.List.{List, [], _∷_, _++_}
 use Prim.Native.Nat.{ℕ, zero, suc, _-_, _≤_, _<_}
 use native.Mathlib.Omega.{arith}
 use borrow.Author.Tests.{leb-true, le-leb, eqb-true, eq-eqb}
@@ -98,3 +98,15 @@ pub last : (c : ℕ) → c ≡ first (c ∷ [])
 unfolding first
 last zero = refl
 last (suc c) = refl
+
+-- A rule in front of other tests: of them all the first fault counts. So tests that are asked one after the other are one list.
+pub first-of-part : (cs ds : List ℕ) → first (first cs ∷ ds) ≡ first (cs ++ ds)
+unfolding first
+first-of-part [] ds = refl
+first-of-part (zero ∷ cs) ds = first-of-part cs ds
+first-of-part (suc c ∷ cs) ds = refl
+
+-- A test that has passed is left behind.
+pub pass-over : (cs : List ℕ) → first (0 ∷ cs) ≡ first cs
+unfolding first
+pass-over cs = refl

@@ -6,7 +6,7 @@ use Rattle.faults.proofs.history_fault.Statement.{statement}
 use Rattle.faults.proofs.history_fault.Tie as tie
 use Rattle.faults.proofs.history_fault.Reads as reads
 use Rattle.faults.proofs.history_fault.Lts as lts
-use Rattle.faults.proofs.earlier.Reads as earlier-reads
+use Rattle.fields.proofs.earlier.Reads as earlier-reads
 use Rattle.faults.proofs.section_fault.Reads as section-fault-reads
 
 section-fault-requires : tie.Need-section-fault-requires

@@ -1,117 +1,57 @@
--- `fields::gps_fault` meets its contract. Each return has the tests passed before it and the one that failed.
--- The definition's list of tests computes with those facts.
-use borrow.Author.Needs.{needs}
-use borrow.Author.Tests.{le-leb, lt-leb}
-use Rattle.theory.specs.Tests.{first}
+-- `fields::gps_fault` meets its contract: its tests in order, each asked after the first fault of those before it.
+-- The idea: one more at a time they are the definition's list.
+use Rattle.theory.proofs.TestLaws.{first-of-part}
 use Rattle.note.specs.Gps.{gpsFault}
+use borrow.Author.Needs.{needs}
 use Rattle.fields.proofs.gps_fault.Statement.{statement}
 use Rattle.fields.proofs.gps_fault.Tie as tie
 
+unless-requires : tie.Need-unless-requires
+unless-requires c κs = search needs
+
+is-day-requires : tie.Need-is-day-requires
+is-day-requires c κs = search needs
+
+or-unless-requires : tie.Need-or-unless-requires
+or-unless-requires c κs = search needs
+
+or-unless-requires-2 : tie.Need-or-unless-requires-2
+or-unless-requires-2 c κs = search needs
+
+or-unless-requires-3 : tie.Need-or-unless-requires-3
+or-unless-requires-3 c κs = search needs
+
+or-unless-requires-4 : tie.Need-or-unless-requires-4
+or-unless-requires-4 c κs = search needs
+
+or-unless-requires-5 : tie.Need-or-unless-requires-5
+or-unless-requires-5 c κs = search needs
+
+or-unless-requires-6 : tie.Need-or-unless-requires-6
+or-unless-requires-6 c κs = search needs
+
 returns : tie.Need-returns
-unfolding gpsFault first
-returns c = rw (lt-leb _ _ (c .if1 .taken))
-
-returns-2 : tie.Need-returns-2
-unfolding gpsFault first
-returns-2 c = rw (le-leb _ _ (c .before .if1 .left), lt-leb _ _ (c .if2 .taken))
-
-days-of-year-requires : tie.Need-days-of-year-requires
-days-of-year-requires c κs = search needs
-
-returns-3 : tie.Need-returns-3
-unfolding gpsFault first
-returns-3 c = rw (
-  le-leb _ _ (c .before .before .before .if1 .left),
-  le-leb _ _ (c .before .before .if2 .left),
-  ← c .before .days-of-year .ensures,
-  lt-leb _ _ (c .if3 .taken),
-)
-
-returns-4 : tie.Need-returns-4
-unfolding gpsFault first
-returns-4 c = rw (
-  le-leb _ _ (c .before .before .before .before .if1 .left),
-  le-leb _ _ (c .before .before .before .if2 .left),
-  ← c .before .before .days-of-year .ensures,
-  le-leb _ _ (c .before .if3 .left),
-  lt-leb _ _ (c .if4 .taken),
-)
-
-returns-5 : tie.Need-returns-5
-unfolding gpsFault first
-returns-5 c = rw (
-  le-leb _ _ (c .before .before .before .before .before .if1 .left),
-  le-leb _ _ (c .before .before .before .before .if2 .left),
-  ← c .before .before .before .days-of-year .ensures,
-  le-leb _ _ (c .before .before .if3 .left),
-  le-leb _ _ (c .before .if4 .left),
-  lt-leb _ _ (c .if5 .taken),
-)
-
-returns-6 : tie.Need-returns-6
-unfolding gpsFault first
-returns-6 c = rw (
-  le-leb _ _ (c .before .before .before .before .before .before .if1 .left),
-  le-leb _ _ (c .before .before .before .before .before .if2 .left),
-  ← c .before .before .before .before .days-of-year .ensures,
-  le-leb _ _ (c .before .before .before .if3 .left),
-  le-leb _ _ (c .before .before .if4 .left),
-  le-leb _ _ (c .before .if5 .left),
-  lt-leb _ _ (c .if6 .taken),
-)
-
-returns-7 : tie.Need-returns-7
-unfolding gpsFault first
-returns-7 c = rw (
-  le-leb _ _ (c .before .before .before .before .before .before .before .if1 .left),
-  le-leb _ _ (c .before .before .before .before .before .before .if2 .left),
-  ← c .before .before .before .before .before .days-of-year .ensures,
-  le-leb _ _ (c .before .before .before .before .if3 .left),
-  le-leb _ _ (c .before .before .before .if4 .left),
-  le-leb _ _ (c .before .before .if5 .left),
-  le-leb _ _ (c .before .if6 .left),
-  lt-leb _ _ (c .if7 .taken),
-)
-
-returns-8 : tie.Need-returns-8
-unfolding gpsFault first
-returns-8 c = rw (
-  le-leb _ _ (c .before .before .before .before .before .before .before .before .if1 .left),
-  le-leb _ _ (c .before .before .before .before .before .before .before .if2 .left),
-  ← c .before .before .before .before .before .before .days-of-year .ensures,
-  le-leb _ _ (c .before .before .before .before .before .if3 .left),
-  le-leb _ _ (c .before .before .before .before .if4 .left),
-  le-leb _ _ (c .before .before .before .if5 .left),
-  le-leb _ _ (c .before .before .if6 .left),
-  le-leb _ _ (c .before .if7 .left),
-  lt-leb _ _ (c .if8 .taken),
-)
-
-returns-9 : tie.Need-returns-9
-unfolding gpsFault first
-returns-9 c = rw (
-  le-leb _ _ (c .before .before .before .before .before .before .before .before .if1 .left),
-  le-leb _ _ (c .before .before .before .before .before .before .before .if2 .left),
-  ← c .before .before .before .before .before .before .days-of-year .ensures,
-  le-leb _ _ (c .before .before .before .before .before .if3 .left),
-  le-leb _ _ (c .before .before .before .before .if4 .left),
-  le-leb _ _ (c .before .before .before .if5 .left),
-  le-leb _ _ (c .before .before .if6 .left),
-  le-leb _ _ (c .before .if7 .left),
-  le-leb _ _ (c .if8 .left),
-)
+unfolding gpsFault
+returns c =
+    let at1 = c .before in
+    let at2 = at1 .before in
+    let at3 = at2 .before in
+    let at4 = at3 .before in
+    let at5 = at4 .before in
+    let at6 = at5 .before in
+    let at7 = at6 .before in
+    rw (c .or-unless6 .ensures, at1 .or-unless5 .ensures, at2 .or-unless4 .ensures, at3 .or-unless3 .ensures, at4 .or-unless2 .ensures, at5 .or-unless .ensures, at6 .is-day .ensures, at7 .unless .ensures) (simp first-of-part)
 
 pub gps-fault-spec : {M : Type 1} → statement M
 gps-fault-spec =
     tie.close
     (tie.spec
-    returns
-    returns-2
-    days-of-year-requires
-    returns-3
-    returns-4
-    returns-5
-    returns-6
-    returns-7
-    returns-8
-    returns-9)
+    unless-requires
+    is-day-requires
+    or-unless-requires
+    or-unless-requires-2
+    or-unless-requires-3
+    or-unless-requires-4
+    or-unless-requires-5
+    or-unless-requires-6
+    returns)

@@ -1,23 +1,19 @@
-use borrow.Author.Tests.{not-false, not-true}
-use Rattle.theory.specs.Tests.{first}
+-- `rules::charge_fault` meets its contract: 10 where the list has no such code.
+-- The idea: the definition is the same test.
 use Rattle.note.specs.Charge.{chargeFault}
 use borrow.Author.Needs.{needs}
 use Rattle.rules.proofs.charge_fault.Statement.{statement}
 use Rattle.rules.proofs.charge_fault.Tie as tie
-use Rattle.rules.proofs.charge_fault.Reads as reads
-use Rattle.rules.proofs.charge_fault.Lts as lts
-use Rattle.channels.proofs.is_charge.Reads as is-charge-reads
 
 is-charge-requires : tie.Need-is-charge-requires
 is-charge-requires c κs = search needs
 
-returns : tie.Need-returns
-unfolding chargeFault first
-returns c = rw (← c .before .is-charge .ensures, not-true (c .before .is-charge .result) (c .if1 .taken))
+unless-requires : tie.Need-unless-requires
+unless-requires c κs = search needs
 
-returns-2 : tie.Need-returns-2
-unfolding chargeFault first
-returns-2 c = rw (← c .before .is-charge .ensures, not-false (c .before .is-charge .result) (c .if1 .left))
+returns : tie.Need-returns
+unfolding chargeFault
+returns c = rw (c .unless .ensures, c .before .is-charge .ensures)
 
 pub charge-fault-spec : {M : Type 1} → statement M
-charge-fault-spec = tie.close (tie.spec is-charge-requires returns returns-2)
+charge-fault-spec = tie.close (tie.spec is-charge-requires unless-requires returns)

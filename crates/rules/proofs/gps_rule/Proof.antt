@@ -1,22 +1,13 @@
--- The digits first, then the fields that they write, each by shift and mask.
-use mathlib.Core.Path.{_≡_, refl, sym, ap, _∙_}
-use Prim.Native.Nat.{_/_}
-use denote.Ref.{now}
+-- `rules::gps_rule` meets its contract: the length, then the digits, then the fields that they write.
+-- The idea: the definition in those three parts; each field is its digits by shift and mask.
 use borrow.Author.Tests.{eq-eqb, ne-eqb}
-use Rattle.theory.proofs.TestLaws.{positive, last}
-use Rattle.fields.proofs.GpsRuleLaws.{gps-rule-in-parts}
-use Rattle.note.specs.Gps.{gpsFault}
 use Rattle.theory.specs.Tests.{first}
-use Rattle.note.specs.Gps.{Gps, gpsOf, gpsRule}
+use Rattle.theory.proofs.TestLaws.{pass-over}
+use Rattle.note.specs.Gps.{gpsOf}
+use Rattle.fields.proofs.GpsRuleLaws.{gps-rule-in-parts}
 use borrow.Author.Needs.{needs}
 use Rattle.rules.proofs.gps_rule.Statement.{statement}
 use Rattle.rules.proofs.gps_rule.Tie as tie
-use Rattle.rules.proofs.gps_rule.Reads as reads
-use Rattle.rules.proofs.gps_rule.Lts as lts
-use Rattle.fields.proofs.decimal.Reads as decimal-reads
-use Rattle.fields.proofs.gps_digits_fault.Reads as gps-digits-fault-reads
-use Rattle.fields.proofs.gps_fault.Reads as gps-fault-reads
-use Rattle.words.proofs.word_at.Reads as word-at-reads
 
 returns : tie.Need-returns
 unfolding first
@@ -33,10 +24,6 @@ word-at-requires-3 c κs = search needs
 
 gps-digits-fault-requires : tie.Need-gps-digits-fault-requires
 gps-digits-fault-requires c κs = search needs
-
-returns-2 : tie.Need-returns-2
-unfolding first
-returns-2 c = rw (gps-rule-in-parts, eq-eqb _ _ (c .before .before .before .before .before .if1 .left), ← c .before .before .before .before .word-at .ensures, ← c .before .before .before .word-at2 .ensures, ← c .before .before .word-at3 .ensures, ← c .before .gps-digits-fault .ensures, positive (c .before .gps-digits-fault .result) (c .if2 .taken))
 
 decimal-requires : tie.Need-decimal-requires
 decimal-requires c κs = search needs
@@ -59,14 +46,25 @@ decimal-requires-6 c κs = search needs
 gps-fault-requires : tie.Need-gps-fault-requires
 gps-fault-requires c κs = search needs
 
--- the fields as the code reads them
-same-fields : (c : tie.After-gps-fault) → _≡_ {A = Gps} (record { year = c .before .before .before .before .before .before .decimal .result; day = c .before .before .before .before .before .decimal2 .result; status = c .before .before .before .before .before .before .before .before .before .before .word-at2 .result / 268435456; hour = c .before .before .before .before .decimal3 .result; minute = c .before .before .before .decimal4 .result; second = c .before .before .decimal5 .result; tenths = c .before .decimal6 .result }) (gpsOf (now (c .before .before .before .before .before .before .before .before .before .before .before .before .before .before .args .b)))
-unfolding gpsOf
-same-fields c = rw (← c .before .before .before .before .before .before .before .before .before .before .before .word-at .ensures, ← c .before .before .before .before .before .before .before .before .before .before .word-at2 .ensures, ← c .before .before .before .before .before .before .before .before .before .word-at3 .ensures, ← c .before .before .before .before .before .before .decimal .ensures, ← c .before .before .before .before .before .decimal2 .ensures, ← c .before .before .before .before .decimal3 .ensures, ← c .before .before .before .decimal4 .ensures, ← c .before .before .decimal5 .ensures, ← c .before .decimal6 .ensures)
+earlier-requires : tie.Need-earlier-requires
+earlier-requires c κs = search needs
 
-returns-3 : tie.Need-returns-3
-unfolding first
-returns-3 c = rw (gps-rule-in-parts, eq-eqb _ _ (c .before .before .before .before .before .before .before .before .before .before .before .before .if1 .left), ← same-fields c, ← c .before .before .before .before .before .before .before .before .before .before .before .word-at .ensures, ← c .before .before .before .before .before .before .before .before .before .before .word-at2 .ensures, ← c .before .before .before .before .before .before .before .before .before .word-at3 .ensures, ← c .before .before .before .before .before .before .before .before .gps-digits-fault .ensures, c .before .before .before .before .before .before .before .if2 .left, ← c .gps-fault .ensures) (last (c .gps-fault .result))
+returns-2 : tie.Need-returns-2
+unfolding gpsOf
+returns-2 c =
+    let at1 = c .before in
+    let at2 = at1 .before in
+    let at3 = at2 .before in
+    let at4 = at3 .before in
+    let at5 = at4 .before in
+    let at6 = at5 .before in
+    let at7 = at6 .before in
+    let at8 = at7 .before in
+    let at9 = at8 .before in
+    let at10 = at9 .before in
+    let at11 = at10 .before in
+    let at12 = at11 .before in
+    rw (c .earlier .ensures, at1 .gps-fault .ensures, at2 .decimal6 .ensures, at3 .decimal5 .ensures, at4 .decimal4 .ensures, at5 .decimal3 .ensures, at6 .decimal2 .ensures, at7 .decimal .ensures, at8 .gps-digits-fault .ensures, at9 .word-at3 .ensures, at10 .word-at2 .ensures, at11 .word-at .ensures, gps-rule-in-parts, eq-eqb _ _ (at12 .if1 .left)) (simp pass-over)
 
 pub gps-rule-spec : {M : Type 1} → statement M
 gps-rule-spec =
@@ -77,7 +75,6 @@ gps-rule-spec =
     word-at-requires-2
     word-at-requires-3
     gps-digits-fault-requires
-    returns-2
     decimal-requires
     decimal-requires-2
     decimal-requires-3
@@ -85,4 +82,5 @@ gps-rule-spec =
     decimal-requires-5
     decimal-requires-6
     gps-fault-requires
-    returns-3)
+    earlier-requires
+    returns-2)

@@ -1,13 +1,12 @@
-use borrow.Author.Tests.{le-leb, lt-leb, not-false, not-true}
+-- `rules::section_rule` meets its contract: a word is read where the tests before it have passed.
+-- The idea: the definition's list of tests computes with those that have passed and the one that failed; the width's two are its end.
+use borrow.Author.Tests.{le-leb, lt-leb}
 use Rattle.theory.specs.Tests.{first}
+use Rattle.theory.proofs.TestLaws.{pass-over}
 use Rattle.note.specs.History.{sectionRule, widthAt, widthOf}
 use borrow.Author.Needs.{needs}
 use Rattle.rules.proofs.section_rule.Statement.{statement}
 use Rattle.rules.proofs.section_rule.Tie as tie
-use Rattle.rules.proofs.section_rule.Reads as reads
-use Rattle.rules.proofs.section_rule.Lts as lts
-use Rattle.fields.proofs.is_width.Reads as is-width-reads
-use Rattle.words.proofs.word_at.Reads as word-at-reads
 
 add-if1 : tie.Need-add-if1
 add-if1 c = search needs
@@ -50,45 +49,26 @@ returns-3 c = rw (
 word-at-requires-2 : tie.Need-word-at-requires-2
 word-at-requires-2 c κs = search needs
 
-returns-4 : tie.Need-returns-4
-unfolding sectionRule widthAt widthOf first
-returns-4 c = rw (
-  le-leb _ _ (c .before .before .before .before .before .if1 .left),
-  ← c .before .before .before .before .word-at .ensures,
-  le-leb _ _ (c .before .before .before .if2 .left),
-  le-leb _ _ (c .before .before .if3 .left),
-  ← c .before .word-at2 .ensures,
-  lt-leb _ _ (c .if4 .taken),
-)
+unless-requires : tie.Need-unless-requires
+unless-requires c κs = search needs
 
 is-width-requires : tie.Need-is-width-requires
 is-width-requires c κs = search needs
 
-returns-5 : tie.Need-returns-5
-unfolding sectionRule widthAt widthOf first
-returns-5 c = rw (
-  le-leb _ _ (c .before .before .before .before .before .before .before .if1 .left),
-  ← c .before .before .before .before .before .before .word-at .ensures,
-  le-leb _ _ (c .before .before .before .before .before .if2 .left),
-  le-leb _ _ (c .before .before .before .before .if3 .left),
-  ← c .before .before .before .word-at2 .ensures,
-  le-leb _ _ (c .before .before .if4 .left),
-  ← c .before .is-width .ensures,
-  not-true (c .before .is-width .result) (c .if5 .taken),
-)
+or-unless-requires : tie.Need-or-unless-requires
+or-unless-requires c κs = search needs
 
-returns-6 : tie.Need-returns-6
-unfolding sectionRule widthAt widthOf first
-returns-6 c = rw (
-  le-leb _ _ (c .before .before .before .before .before .before .before .if1 .left),
-  ← c .before .before .before .before .before .before .word-at .ensures,
-  le-leb _ _ (c .before .before .before .before .before .if2 .left),
-  le-leb _ _ (c .before .before .before .before .if3 .left),
-  ← c .before .before .before .word-at2 .ensures,
-  le-leb _ _ (c .before .before .if4 .left),
-  ← c .before .is-width .ensures,
-  not-false (c .before .is-width .result) (c .if5 .left),
-)
+returns-4 : tie.Need-returns-4
+unfolding sectionRule widthAt widthOf
+returns-4 c =
+    let at1 = c .before in
+    let at2 = at1 .before in
+    let at3 = at2 .before in
+    let at4 = at3 .before in
+    let at5 = at4 .before in
+    let at6 = at5 .before in
+    let at7 = at6 .before in
+    rw (le-leb _ _ (at7 .if1 .left), ← at6 .word-at .ensures, le-leb _ _ (at5 .if2 .left), le-leb _ _ (at4 .if3 .left), ← at3 .word-at2 .ensures, ← at1 .is-width .ensures, c .or-unless .ensures, at2 .unless .ensures) (simp pass-over)
 
 pub section-rule-spec : {M : Type 1} → statement M
 section-rule-spec =
@@ -105,7 +85,7 @@ section-rule-spec =
     add-if3
     returns-3
     word-at-requires-2
-    returns-4
+    unless-requires
     is-width-requires
-    returns-5
-    returns-6)
+    or-unless-requires
+    returns-4)

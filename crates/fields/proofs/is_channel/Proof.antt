@@ -1,10 +1,10 @@
--- `faults::is_channel` meets its contract: both tests, the second where the first holds.
+-- `fields::is_channel` meets its contract: both tests, the second where the first holds.
 -- The idea: each test is the definition's.
 use borrow.Author.Tests.{le-leb, lt-leb}
-use Rattle.faults.proofs.is_channel.Statement.{statement}
-use Rattle.faults.proofs.is_channel.Tie as tie
-use Rattle.faults.proofs.is_channel.Reads as reads
-use Rattle.faults.proofs.is_channel.Lts as lts
+use Rattle.fields.proofs.is_channel.Statement.{statement}
+use Rattle.fields.proofs.is_channel.Tie as tie
+use Rattle.fields.proofs.is_channel.Reads as reads
+use Rattle.fields.proofs.is_channel.Lts as lts
 
 returns : tie.Need-returns
 returns c = rw (le-leb _ _ (c .if1 .taken))

@@ -1,11 +1,11 @@
--- `faults::earlier` meets its contract: the first fault counts where there is one.
+-- `fields::earlier` meets its contract: the first fault counts where there is one.
 -- The idea: a number that isn't 0 is a successor, at which `first` computes.
 use Rattle.theory.proofs.TestLaws.{last, positive}
 use Rattle.theory.specs.Tests.{first}
-use Rattle.faults.proofs.earlier.Statement.{statement}
-use Rattle.faults.proofs.earlier.Tie as tie
-use Rattle.faults.proofs.earlier.Reads as reads
-use Rattle.faults.proofs.earlier.Lts as lts
+use Rattle.fields.proofs.earlier.Statement.{statement}
+use Rattle.fields.proofs.earlier.Tie as tie
+use Rattle.fields.proofs.earlier.Reads as reads
+use Rattle.fields.proofs.earlier.Lts as lts
 
 returns : tie.Need-returns
 unfolding first
