@@ -241,15 +241,19 @@ fn time_rewrite(file: &[u8]) -> [f64; 3] {
     let call = Call::Rewrite {
         file: file.to_vec(),
     };
+    // The bytes that the call has, for all sides: none finds them nearer than another.
+    let Call::Rewrite { file } = &call else {
+        unreachable!()
+    };
     let mut lent = Lent {
         next: 0,
         refused_at: 0,
     };
     let mut out = vec![1; file.len()];
     assert_eq!(writing::perform(&call, &mut out, &mut lent), 0);
-    assert!(lent.next == file.len() as u64 && out == file, "restored");
+    assert!(lent.next == file.len() as u64 && out == *file, "restored");
     out.fill(1);
-    assert!(writer::rewrite(file, &mut out) == Ok(file.len()) && out == file);
+    assert!(writer::rewrite(file, &mut out) == Ok(file.len()) && out == *file);
     let mut copies = [out.clone(), out.clone()];
     let [outside, copy] = &mut copies;
     best([
