@@ -2,7 +2,7 @@
  *
  * A call's result is 0 where it is accepted, or one of the refusal numbers
  *
- *    1  the file is longer than 16,777,216 bytes; place 0
+ *    1  the file or the output is longer than 16,777,216 bytes; place 0
  *    2  fewer than 8 bytes are left for a structure, or its length passes its parent
  *    3  the file's first word is not 0x01020304
  *    4  the format is not 2.0
@@ -14,7 +14,7 @@
  *   10  a field is outside its rule
  *   11  a trace's count is odd, below 2 or above 32,768, or its two counts differ; a sample's number is out of range
  *   12  the rows do not fit what was lent
- *   13  what is to be written does not fit the output from there on
+ *   13  the place or the end lies past the output, the end is below the place plus 8, or what is to be written does not fit from there on
  *
  * What a caller must see to, since C cannot check it:
  *  - each pointer is valid for the length given with it, or for the length named here, and aligned for its type; a length of 0
@@ -71,20 +71,21 @@ uint32_t dwj_setting(const uint8_t *file, size_t file_length, size_t place, int6
 void dwj_samples(const uint8_t *file, size_t file_length, size_t place, uint64_t *offset, uint64_t *size);
 
 /* Sample: of the trace at a place, the sample with a number, from 1. Record's refusals; then, at the place asked, 5 for another kind and
- * 11 for a number out of range. On a refusal *value is unchanged, on 0 *refused_at is.
+ * 11 for a number out of range. On a refusal *value is unchanged and *refused_at is its place, on 0 *refused_at is unchanged.
  */
 uint32_t dwj_sample(const uint8_t *file, size_t file_length, size_t place, size_t number, uint32_t *value, uint64_t *refused_at);
 
 /* Find: the first trace in file order whose event carries a number and whose code is a code. On 0 *place is its place, or 0 for
- * nothing (no trace stands there); *refused_at is unchanged. On a refusal, which is the file's, *place is unchanged.
+ * nothing (no trace stands there); *refused_at is unchanged. On a refusal, which is the file's, *place is unchanged and *refused_at is the
+ * refusal's place.
  */
 uint32_t dwj_find(const uint8_t *file, size_t file_length, uint32_t number, uint32_t code, uint64_t *place, uint64_t *refused_at);
 
 /* Walker: a file's rows one at a time. walker is its numbers; only dwj_open and dwj_next give meaningful ones, and any others are safe:
  * the call ends, with a row that lies in the file, at the end, or with the refusal that the numbers name. dwj_open checks the whole file
  * once and gives the first row; dwj_next gives the next one. On 0 row is the row, or zeros at the end (no row has kind 0), again and
- * again; *refused_at is unchanged. Over a refused file each call gives its refusal: row is unchanged and *refused_at is its place. The
- * file must be the same in each call.
+ * again; *refused_at is unchanged. Over a refused file each call gives its refusal: row is unchanged and *refused_at is its place.
+ * walker is written by every call, a refused one too. The file must be the same in each call.
  */
 uint32_t dwj_open(const uint8_t *file, size_t file_length, uint64_t walker[6], uint32_t row[6], uint64_t *refused_at);
 uint32_t dwj_next(const uint8_t *file, size_t file_length, uint64_t walker[6], uint32_t row[6], uint64_t *refused_at);
@@ -104,7 +105,7 @@ uint32_t dwj_channel(uint32_t code, uint32_t numbers[4], uint8_t analysis[4], ui
 /* Code: the detector code of a type, a number from 0 to 999 and an analysis name. 10 where there is none; *code is unchanged then. */
 uint32_t dwj_code(uint32_t type, uint32_t number, const uint8_t *name, size_t name_length, uint32_t *code);
 
-/* ZIP: 1 where the bit of a ZIP, from 1 to 24, is set in a TLB word, else 0. */
+/* ZIP: 1 where the bit of a ZIP, from 1 to 24, is set in a TLB word, else 0. The word's top byte, its tower, is not looked at. */
 uint32_t dwj_zip(uint32_t word, uint32_t zip);
 
 /* Writers: each writes one record or entry into an output, from a place on. On 0 the record's bytes stand there, every other byte of the
@@ -132,7 +133,7 @@ uint32_t dwj_write_trace(uint8_t *out, size_t out_length, size_t place, uint32_t
  */
 uint32_t dwj_write_history(uint8_t *out, size_t out_length, size_t place, uint32_t veto_times, const uint8_t *veto_times_bytes, size_t veto_times_length, uint32_t veto_width, const uint8_t *veto_masks, size_t veto_masks_length, uint32_t trigger_times, const uint8_t *trigger_times_bytes, size_t trigger_times_length, uint32_t trigger_width, const uint8_t *trigger_masks, size_t trigger_masks_length, uint64_t *next, uint64_t *refused_at);
 
-/* The file header, 8 bytes from byte 0 on: the two DAQ bytes. */
+/* The file header, 8 bytes from byte 0 on: the two DAQ bytes. 1 or 13, both at 0. */
 uint32_t dwj_write_header(uint8_t *out, size_t out_length, uint8_t major, uint8_t minor, uint64_t *next, uint64_t *refused_at);
 
 /* Closings: a container from place to end, over the contents already written from place + 8 on. 1; 13 at place, where place or end is
@@ -143,8 +144,8 @@ uint32_t dwj_write_header(uint8_t *out, size_t out_length, uint8_t major, uint8_
 uint32_t dwj_close_configuration(uint8_t *out, size_t out_length, size_t place, size_t end, uint64_t *next, uint64_t *refused_at);
 uint32_t dwj_close_event(uint8_t *out, size_t out_length, size_t place, size_t end, uint32_t event_class, uint32_t category, uint32_t type, uint64_t *next, uint64_t *refused_at);
 
-/* Rewrite: an accepted file's fields, written again from byte 0 of the output on; what stands there then is the file, and *next is its
- * length. 1 for either buffer, at 0; the file's refusal; 13 at 0 where the output is shorter than the file. The two must not overlap.
+/* Rewrite: an accepted file's fields, written again from byte 0 of the output on; what stands there then is the file, the output
+ * behind it is unchanged, and *next is the file's length. 1 for either buffer, at 0; the file's refusal; 13 at 0 where the output is shorter than the file. The two must not overlap.
  */
 uint32_t dwj_rewrite(const uint8_t *file, size_t file_length, uint8_t *out, size_t out_length, uint64_t *next, uint64_t *refused_at);
 

@@ -21,7 +21,7 @@ ghost use Rattle.note.specs.Writers.{writerGiven, written, closingBytes, header
 ghost use Rattle.record.specs.Steps.{contextOf};
 ghost use Rattle.closings.specs.Closing.{bounded, closed};
 
-// The bits of a number with the lowest `k` of another below them. By shift and mask (document 01).
+// The bits of a number with the `k` bits of another below them. By shift (document 01); its callers mask.
 fn above(high: u32, k: u32, low: u32) -> u32
     requires { ⌜ (k < 32) × (high * 2 ^ k ≤ 0xFFFFFFFF) × (low < 2 ^ k) ⌝ }
     ensures { λ r. ⌜ r ≡ high * 2 ^ k + low ⌝ }

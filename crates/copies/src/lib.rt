@@ -210,6 +210,7 @@ pub fn copy_record(kind: u32, body: &[u8], out: &mut [u8], place: usize)
         GPS => copy_gps(body, out, place),
         TRIGGER => copy_trigger(body, out, place),
         TLB => copy_tlb(body, out, place),
+        // Not reached: a body that follows a rule has its kind.
         _ => {}
     }
 }

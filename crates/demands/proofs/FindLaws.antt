@@ -10,28 +10,28 @@ use Rattle.theory.specs.Tests.{ok, bad}
 use Rattle.note.specs.Answers.{accepted, refused, counts}
 use Rattle.note.specs.Files.{File, readFile}
 use Rattle.note.specs.Rows.{rowsOf}
-use Rattle.note.specs.Calls.{Placed, matches, tracesOf, firstMatch, findAt}
+use Rattle.note.specs.Calls.{TraceAt, matches, tracesOf, firstMatch, findAt}
 use Rattle.note.proofs.AnswerLaws.{counts-determined}
 use Rattle.demands.specs.RowTraces.{rowTraces}
 use Rattle.demands.proofs.Follows.{file-sound}
 use Rattle.demands.proofs.TraceRows.{traces-are-rows}
 
 -- No trace of the list matches.
-abbrev pub NoneMatches : ℕ → ℕ → List Placed → Type 0
+abbrev pub NoneMatches : ℕ → ℕ → List TraceAt → Type 0
 NoneMatches number code [] = Unit {0}
 NoneMatches number code (t ∷ ts) = (matches number code t ≡ false) × NoneMatches number code ts
 
 -- The place is that of the first trace that matches.
-pub record FirstMatch (number code : ℕ) (ts : List Placed) (place : ℕ) : Type 0 where
-  pub before : List Placed
-  pub trace : Placed
-  pub later : List Placed
+pub record FirstMatch (number code : ℕ) (ts : List TraceAt) (place : ℕ) : Type 0 where
+  pub before : List TraceAt
+  pub trace : TraceAt
+  pub later : List TraceAt
   pub splits : ts ≡ before ++ trace ∷ later
   pub here : trace .place ≡ place
   pub fits : matches number code trace ≡ true
   pub none-before : NoneMatches number code before
 
-pub found-is-first : (number code : ℕ) (ts : List Placed) (place : ℕ) → firstMatch number code ts ≡ place ∷ [] → FirstMatch number code ts place
+pub found-is-first : (number code : ℕ) (ts : List TraceAt) (place : ℕ) → firstMatch number code ts ≡ place ∷ [] → FirstMatch number code ts place
 unfolding firstMatch
 found-is-first number code [] place e = let z : _≡_ {A = ℕ} 0 1 = cc in absurd (omega native.Mathlib.Omega.arith)
 found-is-first number code (t ∷ ts) place e = go (matches number code t) refl e (found-is-first number code ts place)
@@ -45,13 +45,13 @@ found-is-first number code (t ∷ ts) place e = go (matches number code t) refl 
           before = t ∷ r .before;
           trace = r .trace;
           later = r .later;
-          splits = ap (λ (l : List Placed). t ∷ l) (r .splits);
+          splits = ap (λ (l : List TraceAt). t ∷ l) (r .splits);
           here = r .here;
           fits = r .fits;
           none-before = (m, r .none-before);
         }
 
-pub nothing-matches : (number code : ℕ) (ts : List Placed) → firstMatch number code ts ≡ [] → NoneMatches number code ts
+pub nothing-matches : (number code : ℕ) (ts : List TraceAt) → firstMatch number code ts ≡ [] → NoneMatches number code ts
 unfolding firstMatch
 nothing-matches number code [] e = tt
 nothing-matches number code (t ∷ ts) e = go (matches number code t) refl e (nothing-matches number code ts)
@@ -84,4 +84,4 @@ module _ (bs : List ℕ) (f : File) (e : readFile bs ≡ ok f) (number code : �
 
   -- Find looks at nothing of an accepted file but its rows.
   pub find-by-rows : Bytes bs → findAt bs number code ≡ accepted (counts (firstMatch number code (rowTraces (rowsOf f) (rowsOf f))))
-  find-by-rows h = found-in ∙ ap (λ (ts : List Placed). accepted (counts (firstMatch number code ts))) (traces-are-rows f (file-sound bs f h e .1))
+  find-by-rows h = found-in ∙ ap (λ (ts : List TraceAt). accepted (counts (firstMatch number code ts))) (traces-are-rows f (file-sound bs f h e .1))

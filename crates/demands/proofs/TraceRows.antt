@@ -16,7 +16,7 @@ use Rattle.note.specs.Records.{Record, entry, event, none, behind, recordsBytes
 use Rattle.note.specs.Events.{Container, containerSize}
 use Rattle.note.specs.Files.{File, versionOf, configurationOf, eventsOf}
 use Rattle.note.specs.Rows.{childOf, childrenOf, eventNode, nodesOf, rowsOf}
-use Rattle.note.specs.Calls.{Placed, tracesIn, tracesFrom, tracesOf, numberOf}
+use Rattle.note.specs.Calls.{TraceAt, tracesIn, tracesFrom, tracesOf, eventNumber}
 use Rattle.demands.specs.Valid.{ValidRecords, ValidEvent, ValidEvents, Valid}
 use Rattle.demands.specs.RowTraces.{rowTraces}
 use Rattle.demands.proofs.EventLaws.{first-administrative}
@@ -26,12 +26,12 @@ use Rattle.demands.proofs.SpotLaws.{trace-kind, entry-no-trace}
 -- An event's first record's row: administrative, with the event's number.
 first-row : (i at : ℕ) (e : Container) (more : List Row) → ValidEvent e
     → (row (childRows i at (childrenOf (e .body)) ++ more) 0 .kind ≡ administrativeKind .row)
-    × (row (childRows i at (childrenOf (e .body)) ++ more) 0 .one ≡ numberOf (e .body))
+    × (row (childRows i at (childrenOf (e .body)) ++ more) 0 .one ≡ eventNumber (e .body))
 unfolding childRows childOf kindOf administrativeOf
 first-row i at e more v = go (e .body) (v .not-empty) (v .records-valid)
   where
     go : (rs : List Record) → 1 ≤ length (recordsBytes rs) → ValidRecords (event none) rs
-        → (row (childRows i at (childrenOf rs) ++ more) 0 .kind ≡ administrativeKind .row) × (row (childRows i at (childrenOf rs) ++ more) 0 .one ≡ numberOf rs)
+        → (row (childRows i at (childrenOf rs) ++ more) 0 .kind ≡ administrativeKind .row) × (row (childRows i at (childrenOf rs) ++ more) 0 .one ≡ eventNumber rs)
     go [] l w = absurd (omega arith)
     go (r ∷ rs) l w = let k : r .kind ≡ administrativeKind .word = first-administrative r (w .0) in (rw k, rw k)
 
@@ -51,7 +51,7 @@ module _ (all : List Row) where
   children i at (r ∷ rs) more =
       let rest = children i (at + (8 + length (r .body))) rs more in
       elim (ℕ-discrete (r .kind) (traceKind .word)) [
-        | yes k ↦ rw k (ap (λ (ts : List Placed). record { number = row all i .one; code = traceOf (r .body) .code; place = at } ∷ ts) rest)
+        | yes k ↦ rw k (ap (λ (ts : List TraceAt). record { number = row all i .one; code = traceOf (r .body) .code; place = at } ∷ ts) rest)
         | no d ↦ rw (ne-eqb (kindOf (r .kind) .row) (traceKind .row) (λ q. d (trace-kind (r .kind) q)), ne-eqb (r .kind) (traceKind .word) d) rest
       ]
 
@@ -81,13 +81,13 @@ module _ (all : List Row) where
       let more : List Row = rows (i + 1 + length ch) (at + (8 + total ch)) (map eventNode es) in
       let there : row all i ≡ row (kids ++ more) 0 = ap₂ row q (n ∙ omega arith) ∙ getD-append-add before (own ∷ (kids ++ more)) 1 noRow in
       let first = first-row i (at + 8) e more (v .0) in
-      let number : row all i .one ≡ numberOf (e .body) = ap (λ (r : Row). r .one) there ∙ first .1 in
+      let number : row all i .one ≡ eventNumber (e .body) = ap (λ (r : Row). r .one) there ∙ first .1 in
       let place : at + (8 + total ch) ≡ at + containerSize e = ap (λ (x : ℕ). at + (8 + x)) (children-total (e .body)) in
       let later = events (before ++ own ∷ kids) (i + 1 + length ch) (at + (8 + total ch)) es (v .1)
       (omega (arith, n, length-append before (own ∷ kids), length-childRows i (at + 8) ch))
       (q ∙ sym (append-assoc before (own ∷ kids) more)) in (
         children i (at + 8) (e .body) more
-            ∙ ap₂ (λ (m : ℕ) (ts : List Placed). tracesIn m (at + 8) (e .body) ++ ts) number (later .0 ∙ ap (λ (p : ℕ). tracesFrom p es) place),
+            ∙ ap₂ (λ (m : ℕ) (ts : List TraceAt). tracesIn m (at + 8) (e .body) ++ ts) number (later .0 ∙ ap (λ (p : ℕ). tracesFrom p es) place),
         (
           (λ k. absurd (omega arith)),
           All-append Headed kids more (headed-children i (at + 8) ch (ap (λ (r : Row). r .kind) there ∙ first .0)) (later .1),

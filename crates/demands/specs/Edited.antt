@@ -1,5 +1,5 @@
--- Demand 3: "One byte changed inside a trace's samples: still accepted, same rows, the sample that holds it changes, every other sample
--- and field reads as before."
+-- The third of the founders' demands: one byte changed inside a trace's samples: still accepted, same rows, the sample that holds it changes,
+-- every other sample and field reads as before.
 use Prim.Native.Nat.{ℕ, _+_, _-_, _/_, _<_}
 use mathlib.Core.Path.{_≡_}
 use mathlib.Core.Logic.{_≢_}

@@ -22,7 +22,7 @@ eventsRecords (e ∷ es) = containerRecords e ++ eventsRecords es
 unfoldable pub rowRecords : File → List (Option Record)
 rowRecords f = none ∷ (containerRecords (configurationOf f) ++ eventsRecords (eventsOf f))
 
--- What Record finds at a row's first byte: the record; 5 where the row is none ("container kinds give 5").
+-- What Record finds at a row's first byte: the record; 5 where the row is none: Record knows no container's kind and no header's.
 abbrev pub foundAs : ℕ → Option Record → Res Record
 foundAs place none = bad 5 place
 foundAs place (some r) = ok r

@@ -1,4 +1,5 @@
-// Every public call for C: numbers and lent buffers alone. include/dwejrasq.h documents each.
+// The reading calls for C: numbers and lent buffers alone. include/dwejrasq.h documents each. The visitor's call stands in `visiting`, the
+// writers' in `writing`.
 use note::CodeAnswer;
 use note::FindAnswer;
 use note::RecordAnswer;

@@ -23,7 +23,7 @@ use Rattle.note.specs.Administrative.{administrativeKind, administrativeOf}
 use Rattle.note.specs.Trace.{traceKind, traceOf}
 use Rattle.note.specs.Records.{Record, Context, behind, event, none, recordSize, recordsBytes, recordRule, kindOf, readRecords}
 use Rattle.note.specs.Events.{Container, containerSize, readEvents}
-use Rattle.note.specs.Calls.{Placed, isTrace, put, tracesIn, tracesFrom, numberOf, firstMatch}
+use Rattle.note.specs.Calls.{TraceAt, isTrace, keptIf, tracesIn, tracesFrom, eventNumber, firstMatch}
 use Rattle.demands.specs.Valid.{ValidRecord, ValidEvent}
 use Rattle.demands.proofs.Bundles.{recordItem, eventItem, same-record, same-records, same-events, record-valid, event-valid}
 use Rattle.demands.proofs.EventLaws.{first-administrative}
@@ -54,26 +54,26 @@ no-events at [] es l e = sym (ok-inj e)
 no-events at (b ∷ bs) es l e = absurd (omega arith)
 
 -- An event of another number has no match.
-other-number : (number code n : ℕ) → (n ≡ number → ⊥) → (at : ℕ) (rs : List Record) (ts : List Placed)
+other-number : (number code n : ℕ) → (n ≡ number → ⊥) → (at : ℕ) (rs : List Record) (ts : List TraceAt)
     → firstMatch number code (tracesIn n at rs ++ ts) ≡ firstMatch number code ts
 unfolding tracesIn firstMatch
 other-number number code n d at [] ts = refl
 other-number number code n d at (r ∷ rs) ts = go (isTrace r) (other-number number code n d (at + recordSize r) rs ts)
   where
-    t : Placed
+    t : TraceAt
     t = record { number = n; code = traceOf (r .body) .code; place = at }
 
-    more : List Placed
+    more : List TraceAt
     more = tracesIn n (at + recordSize r) rs
 
-    go : (b : Bool) → firstMatch number code (more ++ ts) ≡ firstMatch number code ts → firstMatch number code (put b t more ++ ts) ≡ firstMatch number code ts
+    go : (b : Bool) → firstMatch number code (more ++ ts) ≡ firstMatch number code ts → firstMatch number code (keptIf b t more ++ ts) ≡ firstMatch number code ts
     go true e = rw (ne-eqb n number d) e
     go false e = e
 
 -- ---- the records of an event that carries the number
 
 -- Records fill the part, and the first match among their traces and the later ones is the answer.
-pub record Looking (number code : ℕ) (answer : List ℕ) (next : ℕ) (later : List Placed) (place : ℕ) (bs : List ℕ) : Type 0 where
+pub record Looking (number code : ℕ) (answer : List ℕ) (next : ℕ) (later : List TraceAt) (place : ℕ) (bs : List ℕ) : Type 0 where
   pub state : Context
   pub rs : List Record
   pub reads : readRecords state place bs ≡ ok rs
@@ -81,7 +81,7 @@ pub record Looking (number code : ℕ) (answer : List ℕ) (next : ℕ) (later :
   pub ends : place + length bs ≡ next
   pub bytes : Bytes bs
 
-module _ {number code : ℕ} {answer : List ℕ} {next : ℕ} {later : List Placed} {place : ℕ} {bs : List ℕ} (i : Looking number code answer next later place bs) where
+module _ {number code : ℕ} {answer : List ℕ} {next : ℕ} {later : List TraceAt} {place : ℕ} {bs : List ℕ} (i : Looking number code answer next later place bs) where
   pub looked : length bs ≤ 0 → firstMatch number code later ≡ answer
   unfolding tracesIn
   looked l =
@@ -98,20 +98,20 @@ module _ {number code : ℕ} {answer : List ℕ} {next : ℕ} {later : List Plac
     pub record-fits : 8 + word 4 bs ≤ length bs
     record-fits = shown .0 .fits
 
-    abbrev this : Placed
+    abbrev this : TraceAt
     this = record { number = number; code = word 16 (take (word 4 bs) (drop 8 bs)); place = place }
 
-    abbrev others : List Placed
+    abbrev others : List TraceAt
     others = tracesIn number (place + (8 + word 4 bs)) (front .others)
 
     -- the record that stands next, and those behind it
-    split : firstMatch number code (put (eqb (word 0 bs) (traceKind .word)) this others ++ later) ≡ answer
+    split : firstMatch number code (keptIf (eqb (word 0 bs) (traceKind .word)) this others ++ later) ≡ answer
     unfolding tracesIn traceOf
     split =
         let a : Record = record { kind = word 0 bs; body = take (word 4 bs) (drop 8 bs) } in
         let size : place + recordSize a ≡ place + (8 + word 4 bs) = ap (λ (n : ℕ). place + (8 + n)) (shown .0 .size) in
         let both : i .rs ≡ a ∷ front .others = front .splits ∙ ap (λ (r : Record). r ∷ front .others) (shown .1) in
-        ap (λ (p : ℕ). firstMatch number code (put (eqb (word 0 bs) (traceKind .word)) this (tracesIn number p (front .others)) ++ later)) (sym size)
+        ap (λ (p : ℕ). firstMatch number code (keptIf (eqb (word 0 bs) (traceKind .word)) this (tracesIn number p (front .others)) ++ later)) (sym size)
         ∙ ap (λ (rs : List Record). firstMatch number code (tracesIn number place rs ++ later)) (sym both) ∙ i .still
 
     -- a trace has room for the words before its samples; its code is the record's word 24
@@ -174,7 +174,7 @@ pub record Searching (number code : ℕ) (answer : List ℕ) (at : ℕ) (bs : Li
   pub bytes : Bytes bs
 
 -- The traces behind the first n bytes of a part whose first byte stands at `at`.
-abbrev pub laterTraces : ℕ → ℕ → List ℕ → List Placed
+abbrev pub laterTraces : ℕ → ℕ → List ℕ → List TraceAt
 laterTraces n at bs = tracesRead (at + n) (readEvents tt (at + n) (behindOf n bs))
 
 pub begin : (number code from : ℕ) (bs : List ℕ) → Searchable from bs → Bytes bs
@@ -240,11 +240,11 @@ module _ {number code : ℕ} {answer : List ℕ} {at : ℕ} {bs : List ℕ} (i :
     pub first-fits : 40 ≤ length bs
     first-fits = omega (arith, first-long, inner-length, event-fits)
 
-    number-is : numberOf (front-event .item .body) ≡ word 24 bs
+    number-is : eventNumber (front-event .item .body) ≡ word 24 bs
     unfolding administrativeOf
     number-is =
         let body-is : inner-front .item .body ≡ take (word 4 inner) (drop 8 inner) = ap (λ (r : Record). r .body) (first-shown .1) in
-        ap numberOf (inner-front .splits)
+        ap eventNumber (inner-front .splits)
         ∙ ap (word 8) body-is
         ∙ word-of-part order 4 8 8 (word 4 inner) inner (omega (arith, first-room, ap length body-is))
         ∙ word-of-part order 4 16 8 (8 + word 4 bs - 8) bs (omega (arith, first-long))
@@ -265,7 +265,7 @@ module _ {number code : ℕ} {answer : List ℕ} {at : ℕ} {bs : List ℕ} (i :
         let rs : List Record = front-event .item .body in
         let size : containerSize (front-event .item) ≡ n = ap (λ (x : ℕ). 8 + x) (shown-event .size) in
         ap₂ (λ (w : ℕ) (r : Res (List Container)). firstMatch number code (tracesIn w (at + 8) rs ++ tracesRead (at + n) r)) (sym number-is) behind-event
-        ∙ ap (λ (x : ℕ). firstMatch number code (tracesIn (numberOf rs) (at + 8) rs ++ tracesFrom (at + x) (front-event .others))) (sym size)
+        ∙ ap (λ (x : ℕ). firstMatch number code (tracesIn (eventNumber rs) (at + 8) rs ++ tracesFrom (at + x) (front-event .others))) (sym size)
         ∙ ap (λ (es : List Container). firstMatch number code (tracesFrom at es)) (sym (front-event .splits))
         ∙ i .still
 

@@ -6,7 +6,7 @@ use lib.ListN.{length}
 use Rattle.theory.specs.Tests.{Res, ok, bad}
 use Rattle.note.specs.Limits.{fileLimit}
 use Rattle.note.specs.Events.{Container, readEvents}
-use Rattle.note.specs.Calls.{Placed, tracesFrom}
+use Rattle.note.specs.Calls.{TraceAt, tracesFrom}
 
 -- Events fill the part, which lies in a file of the greatest length or less.
 pub record Searchable (from : ℕ) (bs : List ℕ) : Type 0 where
@@ -15,6 +15,6 @@ pub record Searchable (from : ℕ) (bs : List ℕ) : Type 0 where
   pub within : from + length bs ≤ fileLimit
 
 -- The traces of the events that were read from the place `at` on; none where they weren't.
-unfoldable pub tracesRead : ℕ → Res (List Container) → List Placed
+unfoldable pub tracesRead : ℕ → Res (List Container) → List TraceAt
 tracesRead at (ok es) = tracesFrom at es
 tracesRead at (bad c p) = []

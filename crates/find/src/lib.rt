@@ -3,6 +3,7 @@
 use containers::Count;
 use containers::check;
 use note::FindAnswer;
+use rules::TRACE;
 use words::word_at;
 ghost use mathlib.Core.Path.{_≡_};
 ghost use Rattle.note.specs.Answers.{accepted, counts, givenFind};
@@ -26,7 +27,7 @@ fn search(part: &[u8], from: usize, number: u32, code: u32) -> FindAnswer
             let mut records = &rest[8..size];
             let mut place = at + 8;
             while 0 < records.len() {
-                if word_at(records, 0) == 0x11 {
+                if word_at(records, 0) == TRACE {
                     if word_at(records, 24) == code {
                         found = FindAnswer::Found { place };
                         break 'events;

@@ -84,38 +84,39 @@ unfoldable pub sampleAt : List ℕ → ℕ → ℕ → Given
 sampleAt bs place k = sampleGiven place k (recordFound bs place)
 
 -- A trace of a file: the number that its event carries, its code, its place.
-pub record Placed : Type 0 where
+pub record TraceAt : Type 0 where
   pub number : ℕ
   pub code : ℕ
   pub place : ℕ
 
+-- One more in front of the others, or not.
+abbrev pub keptIf : Bool → TraceAt → List TraceAt → List TraceAt
+keptIf keep t ts = cond keep (t ∷ ts) ts
+
 -- The traces among an event's records from the place `at` on; among events; of a file. An event carries the number of its
 -- administrative record, which is its first.
-abbrev pub put : Bool → Placed → List Placed → List Placed
-put keep t ts = cond keep (t ∷ ts) ts
-
-unfoldable pub tracesIn : ℕ → ℕ → List Record → List Placed
+unfoldable pub tracesIn : ℕ → ℕ → List Record → List TraceAt
 tracesIn number at [] = []
 tracesIn number at (r ∷ rs) =
-    put (isTrace r) (record { number = number; code = traceOf (r .body) .code; place = at }) (tracesIn number (at + recordSize r) rs)
+    keptIf (isTrace r) (record { number = number; code = traceOf (r .body) .code; place = at }) (tracesIn number (at + recordSize r) rs)
 
-abbrev pub numberOf : List Record → ℕ
-numberOf [] = 0
-numberOf (r ∷ rs) = administrativeOf (r .body) .number
+abbrev pub eventNumber : List Record → ℕ
+eventNumber [] = 0
+eventNumber (r ∷ rs) = administrativeOf (r .body) .number
 
-unfoldable pub tracesFrom : ℕ → List Container → List Placed
+unfoldable pub tracesFrom : ℕ → List Container → List TraceAt
 tracesFrom at [] = []
-tracesFrom at (e ∷ es) = tracesIn (numberOf (e .body)) (at + 8) (e .body) ++ tracesFrom (at + containerSize e) es
+tracesFrom at (e ∷ es) = tracesIn (eventNumber (e .body)) (at + 8) (e .body) ++ tracesFrom (at + containerSize e) es
 
-unfoldable pub tracesOf : File → List Placed
+unfoldable pub tracesOf : File → List TraceAt
 tracesOf f = tracesFrom (8 + containerSize (configurationOf f)) (eventsOf f)
 
 -- "Find: for an accepted file, the place of the first trace in file order whose event carries that number and whose code is that
 -- code; or nothing. A refused file gives its refusal."
-abbrev pub matches : ℕ → ℕ → Placed → Bool
+abbrev pub matches : ℕ → ℕ → TraceAt → Bool
 matches number code t = eqb (t .number) number && eqb (t .code) code
 
-unfoldable pub firstMatch : ℕ → ℕ → List Placed → List ℕ
+unfoldable pub firstMatch : ℕ → ℕ → List TraceAt → List ℕ
 firstMatch number code [] = []
 firstMatch number code (t ∷ ts) = cond (matches number code t) (t .place ∷ []) (firstMatch number code ts)
 

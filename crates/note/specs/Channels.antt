@@ -119,7 +119,7 @@ phononNamed w = beginsWith "P" (channelOf w)
 unfoldable pub chargeNamed : ℕ → Bool
 chargeNamed w = beginsWith "Q" (channelOf w)
 
--- "A code gives type, number, analysis name and cold name." "Anything not listed is refused with 10, place 0."
+-- "A code gives type, number, analysis name and cold name." "Anything not listed is refused with 10, place 0 when these two are asked alone."
 abbrev pub padded : List ℕ → List ℕ
 padded name = getD name 0 0 ∷ getD name 1 0 ∷ getD name 2 0 ∷ getD name 3 0 ∷ []
 

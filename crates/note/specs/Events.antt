@@ -46,10 +46,10 @@ eventFault class category type = first (
 unfoldable pub eventWordRule : ℕ → ℕ
 eventWordRule w = first (unless (eqb (w / 65536) eventMark) 5 ∷ eventFault (classOf w) (categoryOf w) (eventTypeOf w) ∷ [])
 
--- 9: "event of length 0".
 abbrev pub eventHead : Unit {0} → ℕ → ℕ
 eventHead s w = eventWordRule w
 
+-- 9: "event of length 0".
 abbrev pub eventLate : Unit {0} → ℕ → ℕ → ℕ
 eventLate s w n = unless (leb 1 n) 9
 

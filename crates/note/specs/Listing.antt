@@ -1,4 +1,4 @@
--- Document 01, 'Rows and calls': the listing program's lines.
+-- Document 01, 'Rows and calls': the listing program's lines, as numbers. Their text is no definition: it is compared with stored output.
 use Prim.Native.Nat.{ℕ, zero, suc, _+_}
 use mathlib.Core.Bool.{cond}
 use mathlib.Core.List.{List, [], _∷_}
@@ -15,7 +15,7 @@ unfoldable pub rowLines : ℕ → List Row → List (List ℕ)
 rowLines i [] = []
 rowLines i (r ∷ rs) = (i ∷ rowNumbers r) ∷ rowLines (i + 1) rs
 
--- "It prints answer, count, place; then each row's number and six values, in decimal, one blank between. Refused: the first line only."
+-- "It prints answer, count, place; then each row's number and six values .. Refused: the first line only."
 abbrev pub linesGiven : List ℕ → Res File → List (List ℕ)
 linesGiven bs (bad c p) = (c ∷ 0 ∷ p ∷ []) ∷ []
 linesGiven bs (ok f) = (0 ∷ length (rowsOf f) ∷ length bs ∷ []) ∷ rowLines 1 (rowsOf f)

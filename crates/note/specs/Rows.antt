@@ -1,4 +1,5 @@
--- Document 01, 'Rows and calls': the rows of a file, Table's answer and buffer, the walker's yields, and a visitor's.
+-- Document 01, 'Rows and calls': the rows of a file, Table's answer and buffer, the walker's yields. Last a visitor, which is no call of
+-- that document: Table's rows from a given one on.
 use Prim.Native.Nat.{ℕ, zero, suc, _+_, _*_, _/_, _%_}
 use mathlib.Core.Bool.{Bool, true, false, cond, _||_}
 use mathlib.Core.List.{List, [], _∷_, _++_, map}
@@ -20,7 +21,7 @@ childOf r = record { kind = kindOf (r .kind) .row; size = recordSize r; one = ki
 abbrev pub childrenOf : List Record → List Child
 childrenOf rs = map childOf rs
 
--- "1 header (version word, 0); 2 configuration (entries, 0); 5 event (low half of first word, records)."
+-- "1 header (version word, 0); 2 configuration (entries, 0); .. 5 event (low half of first word, records)."
 abbrev pub eventNode : Container → Node
 eventNode e = box 5 (e .kind % 65536) (length (e .body)) (childrenOf (e .body))
 

@@ -1,4 +1,6 @@
--- Document 01, 'Slips a reader makes here': the traces of that list, as files with their listings. A reader that slips gives others.
+-- Document 01, 'Slips a reader makes here', the third: a trace's inner words, as files with their listings; a reader that slips gives others.
+-- The first, the side taken from the channel number, is shut out by P2 and P3 (and `side-is-listed`), the second, BCD and plain numbers
+-- exchanged, by P6 and P8 (Examples).
 use Prim.Native.Nat.{ℕ}
 use mathlib.Core.List.{List, [], _∷_, _++_}
 use Rattle.note.specs.Examples.{Example, listed, after}

@@ -53,7 +53,7 @@ written (bad c p) out place bytes = out
 abbrev pub wrapped : Kind → List ℕ → List ℕ
 wrapped k body = recordBytes (record { kind = k .word; body = body })
 
--- A writer of fields: their first fault, and their body.
+-- A writer of fields: their first fault, and the bytes of the whole record.
 pub record Written : Type 0 where
   pub fault : ℕ
   pub bytes : List ℕ

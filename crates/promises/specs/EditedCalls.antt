@@ -1,4 +1,4 @@
--- Document 01, 'Rows and calls', under demand 3: what the calls give after one byte is changed inside a trace's samples.
+-- Document 01, 'Rows and calls', under the third demand (demands/specs/Edited): what the calls give after one byte is changed inside a trace's samples.
 use Prim.Native.Nat.{ℕ, _+_, _≤_, _<_}
 use mathlib.Core.Path.{_≡_}
 use mathlib.Core.Logic.{_≢_}
@@ -19,8 +19,7 @@ pub record SampleByte (bs old : List ℕ) (j i x : ℕ) : Type 0 where
   pub below : i < tableRow bs old j .start + tableRow bs old j .whole
   pub byte : x < 256
 
--- "One byte changed inside a trace's samples: still accepted, same rows, the sample that holds it changes, every other sample and field
--- reads as before." Byte i of bs becomes x: Table's answer for every capacity, its buffer, the walker's yields and what Find gives for
+-- Byte i of bs becomes x: Table's answer for every capacity, its buffer, the walker's yields and what Find gives for
 -- every number and code are the same; at the start of each row in the buffer Record and Setting answer the same; of the samples only
 -- the one that holds byte i changes.
 pub record EditedCalls (bs old : List ℕ) (j i x : ℕ) : Type 0 where

@@ -1,4 +1,12 @@
 // One record: what stands at the front of a part, in its context. Every loop over records takes this step.
+use rules::ADMINISTRATIVE;
+use rules::CHARGE;
+use rules::GPS;
+use rules::HISTORY;
+use rules::PHONON;
+use rules::TLB;
+use rules::TRACE;
+use rules::TRIGGER;
 use rules::rule;
 use words::word_at;
 ghost use mathlib.Core.Path.{_≡_};
@@ -49,8 +57,8 @@ fn is_entry_kind(kind: u32) -> bool
     ensures { λ r. ⌜ r ≡ among kind entryKinds ⌝ }
 {
     match kind {
-        0x0001_0001 => true,
-        0x0001_0002 => true,
+        PHONON => true,
+        CHARGE => true,
         _ => false,
     }
 }
@@ -59,12 +67,12 @@ fn is_record_kind(kind: u32) -> bool
     ensures { λ r. ⌜ r ≡ among kind recordKinds ⌝ }
 {
     match kind {
-        0x02 => true,
-        0x11 => true,
-        0x21 => true,
-        0x60 => true,
-        0x80 => true,
-        0x81 => true,
+        ADMINISTRATIVE => true,
+        TRACE => true,
+        HISTORY => true,
+        GPS => true,
+        TRIGGER => true,
+        TLB => true,
         _ => false,
     }
 }
@@ -89,22 +97,22 @@ fn is_kind(context: Context, kind: u32) -> bool
 fn is_placed(seen: Seen, kind: u32) -> bool
     ensures { λ r. ⌜ r ≡ isPlaced (seenOf seen) kind ⌝ }
 {
-    if kind == 0x02 {
+    if kind == ADMINISTRATIVE {
         return !seen.administrative;
     }
     if !seen.administrative {
         return false;
     }
-    if kind == 0x21 {
+    if kind == HISTORY {
         return !seen.history;
     }
-    if kind == 0x60 {
+    if kind == GPS {
         return !seen.gps;
     }
-    if kind == 0x80 {
+    if kind == TRIGGER {
         return !seen.trigger;
     }
-    if kind == 0x81 {
+    if kind == TLB {
         return !seen.tlb;
     }
     true
@@ -126,11 +134,11 @@ fn noted(seen: Seen, kind: u32) -> Seen
 {
     let mut next = seen;
     match kind {
-        0x02 => next.administrative = true,
-        0x21 => next.history = true,
-        0x60 => next.gps = true,
-        0x80 => next.trigger = true,
-        0x81 => next.tlb = true,
+        ADMINISTRATIVE => next.administrative = true,
+        HISTORY => next.history = true,
+        GPS => next.gps = true,
+        TRIGGER => next.trigger = true,
+        TLB => next.tlb = true,
         _ => {}
     }
     next

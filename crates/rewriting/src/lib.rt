@@ -1,4 +1,5 @@
-// Rewrite: the fields of an accepted file, read and written again through the writers, the header's writer and the closings, from byte 0.
+// Rewrite: the fields of an accepted file, read and written again through the writers, the header's writer and the closings' storing halves,
+// from byte 0.
 // The file is checked first and the output has room, so nothing refuses behind the first store, and places in the output are the file's.
 use closings::shut_configuration;
 use closings::shut_event;

@@ -1,4 +1,12 @@
 // Rows: a record's row kind and values out of its body, and a row's place in a lent buffer.
+use rules::ADMINISTRATIVE;
+use rules::CHARGE;
+use rules::GPS;
+use rules::HISTORY;
+use rules::PHONON;
+use rules::TLB;
+use rules::TRACE;
+use rules::TRIGGER;
 use rules::history_rule;
 use rules::section_end;
 use words::word_at;
@@ -9,6 +17,9 @@ ghost use Prim.Native.Nat.{_+_, _*_, _≤_, _<_};
 ghost use lib.ListN.{length};
 ghost use Rattle.rows.specs.Buffers.{rowOf, stored};
 ghost use Rattle.rows.specs.Values.{standingOf, hasValues, valuesOf};
+
+/// How many numbers a row has.
+pub const ROW_WIDTH: usize = 6;
 
 /// A row.
 pub struct Row {
@@ -39,42 +50,42 @@ fn value_places(kind: u32) -> Standing
     ensures { λ r. ⌜ r ≡ standingOf kind ⌝ }
 {
     match kind {
-        0x0001_0001 => Standing {
+        PHONON => Standing {
             kind: 3,
             one: 0,
             two: 4,
         },
-        0x0001_0002 => Standing {
+        CHARGE => Standing {
             kind: 4,
             one: 0,
             two: 4,
         },
-        0x02 => Standing {
+        ADMINISTRATIVE => Standing {
             kind: 6,
             one: 8,
             two: 12,
         },
-        0x11 => Standing {
+        TRACE => Standing {
             kind: 7,
             one: 16,
             two: 44,
         },
-        0x21 => Standing {
+        HISTORY => Standing {
             kind: 8,
             one: 0,
             two: 4,
         },
-        0x60 => Standing {
+        GPS => Standing {
             kind: 9,
             one: 0,
             two: 4,
         },
-        0x80 => Standing {
+        TRIGGER => Standing {
             kind: 10,
             one: 4,
             two: 8,
         },
-        0x81 => Standing {
+        TLB => Standing {
             kind: 11,
             one: 0,
             two: 4,
@@ -128,7 +139,7 @@ pub fn put_row(rows: &mut [u32], n: usize, row: Row)
     requires { ⌜ n * 6 + 6 ≤ length (now rows) ⌝ }
     ensures { λ _. ⌜ now (rows .exit) ≡ stored (now (rows .entry)) n (rowOf row ∷ []) ⌝ }
 {
-    let i = n * 6;
+    let i = n * ROW_WIDTH;
     rows[i] = row.kind;
     rows[i + 1] = row.start;
     rows[i + 2] = row.whole;

@@ -250,14 +250,14 @@ pub fn rule(kind: u32, b: &[u8]) -> u32
     ensures { λ r. ⌜ r ≡ recordRule kind (now (b .entry)) ⌝ }
 {
     match kind {
-        0x0001_0001 => phonon_rule(b),
-        0x0001_0002 => charge_rule(b),
-        0x02 => administrative_rule(b),
-        0x11 => trace_rule(b),
-        0x21 => history_rule(b),
-        0x60 => gps_rule(b),
-        0x80 => trigger_rule(b),
-        0x81 => tlb_rule(b),
+        PHONON => phonon_rule(b),
+        CHARGE => charge_rule(b),
+        ADMINISTRATIVE => administrative_rule(b),
+        TRACE => trace_rule(b),
+        HISTORY => history_rule(b),
+        GPS => gps_rule(b),
+        TRIGGER => trigger_rule(b),
+        TLB => tlb_rule(b),
         _ => 5,
     }
 }

@@ -2,6 +2,7 @@
 use containers::Count;
 use containers::check;
 use note::TableAnswer;
+use rows::ROW_WIDTH;
 use rows::Row;
 use rows::put_row;
 use rows::values_in;
@@ -120,7 +121,7 @@ pub fn table(file: &[u8], rows: &mut [u32]) -> TableAnswer
             place,
         },
         Count::Good { count } => {
-            if rows.len() / 6 < count {
+            if rows.len() / ROW_WIDTH < count {
                 return TableAnswer {
                     number: 12,
                     count,

@@ -1,6 +1,7 @@
 // The visitor, for callers who can't hold a walker: it runs a walk over a file and stores its yields, from a number on, as rows.
 use note::TableAnswer;
 use note::WalkerYield;
+use rows::ROW_WIDTH;
 use rows::Row;
 use rows::put_row;
 use walk::Spot;
@@ -20,7 +21,7 @@ fn store(file: &[u8], from: Spot, first: usize, rows: &mut [u32]) -> usize
     let mut at = from;
     let mut k = 0;
     let mut n = 0;
-    let room = rows.len() / 6;
+    let room = rows.len() / ROW_WIDTH;
     while n < room {
         at = step(file, at);
         match last(at) {

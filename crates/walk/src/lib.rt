@@ -3,6 +3,7 @@
 use containers::Count;
 use containers::check;
 use note::WalkerYield;
+use record::FILE_LIMIT;
 use rows::has_values;
 use rows::values_in;
 use words::word_at;
@@ -184,10 +185,10 @@ pub fn step(file: &[u8], at: Spot) -> Spot
         };
         return stayed(at, refusal);
     }
-    if 0x1000000 < room {
+    if FILE_LIMIT < room {
         return stayed(at, WalkerYield::End);
     }
-    if 0x1000000 < at.rows {
+    if FILE_LIMIT < at.rows as usize {
         return stayed(at, WalkerYield::End);
     }
     if room < end {

@@ -11,14 +11,14 @@ pub struct Walker<'a> {
     at: Spot,
 }
 
-// What a walk yielded last.
+// What a walk yielded last. It takes the slice too: a walker's two parts go to one call.
 fn last(_file: &[u8], at: Spot) -> WalkerYield
     ensures { λ r. ⌜ r ≡ at .last ⌝ }
 {
     at.last
 }
 
-/// Opens a file, which is checked once, and stands at the first yield.
+/// Opens a file, which is checked once, and stands at the first yield. k steps from here the yield is `yieldAt file k` (`walk-yields`).
 pub fn open<'a>(file: &'a [u8]) -> Walker<'a>
     ensures { λ r. ⌜ (r .file ≡ file .entry) × (r .at ≡ openedOf (now (file .entry))) ⌝ }
 {

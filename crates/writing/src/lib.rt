@@ -124,30 +124,30 @@ pub extern "C" fn dwj_write_trace(
 pub extern "C" fn dwj_write_history(
     out: &mut [u8],
     place: usize,
-    count: u32,
-    times: &[u8],
-    width: u32,
-    masks: &[u8],
-    triggers: u32,
-    instants: &[u8],
-    breadth: u32,
-    words: &[u8],
+    veto_count: u32,
+    veto_times: &[u8],
+    veto_width: u32,
+    veto_masks: &[u8],
+    trigger_count: u32,
+    trigger_times: &[u8],
+    trigger_width: u32,
+    trigger_masks: &[u8],
     next: &mut u64,
     refusal: &mut u64,
 ) -> u32
-    ensures { λ r. ⌜ RecordTold (now (out .entry)) place (historyWritten (record { veto = record { count = count; times = now (times .entry); width = width; masks = now (masks .entry) }; trigger = record { count = triggers; times = now (instants .entry); width = breadth; masks = now (words .entry) } })) r (now (out .exit)) (now (next .entry)) (now (next .exit)) (now (refusal .entry)) (now (refusal .exit)) ⌝ }
+    ensures { λ r. ⌜ RecordTold (now (out .entry)) place (historyWritten (record { veto = record { count = «veto_count»; times = now («veto_times» .entry); width = «veto_width»; masks = now («veto_masks» .entry) }; trigger = record { count = «trigger_count»; times = now («trigger_times» .entry); width = «trigger_width»; masks = now («trigger_masks» .entry) } })) r (now (out .exit)) (now (next .entry)) (now (next .exit)) (now (refusal .entry)) (now (refusal .exit)) ⌝ }
 {
     let answer = dwejrasq::write_history(
         out,
         place,
-        count,
-        times,
-        width,
-        masks,
-        triggers,
-        instants,
-        breadth,
-        words,
+        veto_count,
+        veto_times,
+        veto_width,
+        veto_masks,
+        trigger_count,
+        trigger_times,
+        trigger_width,
+        trigger_masks,
     );
     told(answer, next, refusal)
 }

@@ -26,6 +26,9 @@ stayed-requires-2 c κs = search needs
 returns-2 : tie.Need-returns-2
 returns-2 c = let a = c .before .before .before .before .before .args in let bs = now (a .file) in let z = c .before .before .if1 .left in c .stayed2 .ensures ∙ step-unusable bs (a .at) z (over-limit bs (a .at) z (c .before .if2 .taken))
 
+cast-if3 : tie.Need-cast-if3
+cast-if3 c = search needs
+
 stayed-requires-3 : tie.Need-stayed-requires-3
 stayed-requires-3 c κs = search needs
 
@@ -88,6 +91,7 @@ step-spec =
     returns
     stayed-requires-2
     returns-2
+    cast-if3
     stayed-requires-3
     returns-3
     stayed-requires-4
