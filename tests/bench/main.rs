@@ -250,7 +250,8 @@ fn time_rewrite(file: &[u8]) -> [f64; 3] {
         refused_at: 0,
     };
     let mut out = vec![1; file.len()];
-    assert_eq!(writing::perform(&call, &mut out, &mut lent), 0);
+    let parts = writing::parts(&call);
+    assert_eq!(writing::perform(&call, parts, &mut out, &mut lent), 0);
     assert!(lent.next == file.len() as u64 && out == *file, "restored");
     out.fill(1);
     assert!(writer::rewrite(file, &mut out) == Ok(file.len()) && out == *file);
@@ -258,7 +259,8 @@ fn time_rewrite(file: &[u8]) -> [f64; 3] {
     let [outside, copy] = &mut copies;
     best([
         &mut || {
-            opaque(writing::perform(opaque(&call), &mut out, &mut lent));
+            let (call, parts) = opaque((&call, parts));
+            opaque(writing::perform(call, parts, &mut out, &mut lent));
         },
         &mut || {
             opaque(writer::rewrite(opaque(file), outside)).ok();

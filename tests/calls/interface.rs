@@ -1,4 +1,4 @@
-//! The C interface of the static library exports, and a safe call for each of its functions.
+//! The static library of the C calls: its C interface, and a safe call for each of its functions.
 //! A part passes as a pointer and then its length; an answer comes back in places that are lent.
 
 extern "C" {

@@ -1,6 +1,6 @@
-//! calls [SEED [COUNT]]: compares the static library exports, call by call, with the outside
-//! implementation: all aimed cases, files at the limit and over it, then random and damaged files
-//! up to COUNT. It ends at the first difference, and fails too when some answer occurred too
+//! calls [SEED [COUNT]]: compares the static library of the C calls, call by call, with the
+//! outside implementation: all aimed cases, files at the limit and over it, then random and damaged
+//! files up to COUNT. It ends at the first difference, and fails too when some answer occurred too
 //! seldom for the run to say much.
 
 #[allow(dead_code)]

@@ -722,11 +722,20 @@ fn series_times() -> Vec<u32> {
     list
 }
 
+/// Section "The six records", trace: counts of samples around 512, 1,024 and 1,536 bytes; an
+/// implementation may store a part in blocks.
+const AROUND_BLOCKS: [u32; 9] = [254, 256, 258, 510, 512, 514, 766, 768, 770];
+
+/// Section "The six records", history: counts of times, or of masks, whose lists have 512 bytes
+/// or a multiple of it, or a little less or more: of 4 bytes each, or of 24.
+const LONG_LISTS: [u32; 13] = [21, 22, 42, 43, 63, 64, 65, 127, 128, 129, 255, 256, 257];
+
 // Section "The six records", trace: n with the size of the samples handed over.
 fn sample_sizes() -> Vec<(u32, usize)> {
     let mut list: Vec<(u32, usize)> = Vec::new();
     list.extend((0..=100).map(|n| (n, 2 * n as usize)));
     list.extend((32_764..=32_772).map(|n| (n, 2 * n as usize)));
+    list.extend(AROUND_BLOCKS.map(|n| (n, 2 * n as usize)));
     for n in [2, 4, 10, 32_768] {
         let right = 2 * n as usize;
         let around = [right - 4, right - 2, right - 1, right + 1, right + 2];
@@ -740,9 +749,16 @@ fn sample_sizes() -> Vec<(u32, usize)> {
     list
 }
 
-// The bytes of a part that is handed over; no two near ones alike.
-fn part(size: usize) -> Vec<u8> {
-    (0..size).map(|byte| (37 * byte + 11) as u8).collect()
+/// The bytes of a part that is handed over: no two near ones alike, and no two blocks of 256 in
+/// 65,536 bytes.
+pub fn part(size: usize) -> Vec<u8> {
+    let mut bytes = vec![0; size];
+    for (block, held) in bytes.chunks_mut(256).enumerate() {
+        for (place, byte) in held.iter_mut().enumerate() {
+            *byte = (37 * place + 101 * block + 11) as u8;
+        }
+    }
+    bytes
 }
 
 /// Versions of an entry's or a record's call, each with one field (with its part) at or around
@@ -861,26 +877,39 @@ fn trace_variants(call: &Call) -> Vec<Call> {
     list.extend(changed(call, &SIGNED.map(|value| value as u32), set(3)));
     list.extend(changed(call, &FREE, set(4)));
     list.extend(changed(call, &sample_sizes(), |call, (given, size)| {
-        if let Call::Trace { n, samples, .. } = call {
-            *n = given;
-            *samples = part(size);
-        }
+        set_samples(call, given, size);
     }));
     list
 }
 
-// Section "The six records", history: a call from counts and sizes of the four lists.
+// Section "The six records", trace: another n, and samples of a size.
+fn set_samples(call: &mut Call, given: u32, size: usize) {
+    if let Call::Trace { n, samples, .. } = call {
+        *n = given;
+        *samples = part(size);
+    }
+}
+
+// Section "The six records", history: a call from counts and sizes of the four lists; no list's
+// bytes are another's.
 fn history_call(counts: [u32; 4], sizes: [usize; 4]) -> Call {
+    let all = part(sizes.iter().sum());
+    let mut rest = &all[..];
+    let [veto_times, veto_masks, trigger_times, trigger_masks] = sizes.map(|size| {
+        let (list, behind) = rest.split_at(size);
+        rest = behind;
+        list.to_vec()
+    });
     Call::History {
         place: 0,
         nvt: counts[0],
-        veto_times: part(sizes[0]),
+        veto_times,
         nvw: counts[1],
-        veto_masks: part(sizes[1]),
+        veto_masks,
         ntt: counts[2],
-        trigger_times: part(sizes[2]),
+        trigger_times,
         ntw: counts[3],
-        trigger_masks: part(sizes[3]),
+        trigger_masks,
     }
 }
 
@@ -890,10 +919,11 @@ fn list_sizes(counts: [u32; 4]) -> [usize; 4] {
     [4 * nvt, 4 * nvt * nvw, 4 * ntt, 4 * ntt * ntw]
 }
 
-// Section "The six records": history; every small set of counts, then each count and each size
-// off from the call's own.
+// Section "The six records": history; every small set of counts, long lists, then each count and
+// each size off from the call's own.
 fn history_variants(call: &Call) -> Vec<Call> {
     let mut list = small_histories();
+    list.extend(long_histories());
     let (own_counts, own_sizes) = counts_and_sizes(call);
     for position in 0..4 {
         for count in COUNTS {
@@ -943,6 +973,18 @@ fn small_histories() -> Vec<Call> {
                     list.push(history_call(counts, list_sizes(counts)));
                 }
             }
+        }
+    }
+    list
+}
+
+// Section "The six records", history: long veto times with their masks, veto masks alone, trigger
+// times with their masks.
+fn long_histories() -> Vec<Call> {
+    let mut list = Vec::new();
+    for many in LONG_LISTS {
+        for counts in [[many, 1, 1, 6], [1, many, 1, 6], [1, 1, many, 6]] {
+            list.push(history_call(counts, list_sizes(counts)));
         }
     }
     list
@@ -1090,6 +1132,7 @@ pub fn aimed_calls() -> Vec<(Call, usize)> {
         aim_places(&base, &mut list);
         aim_limits(&base, &mut list);
     }
+    aim_long_parts(&mut list);
     aim_own_words(&mut list);
     aim_ends(&mut list);
     aim_contents(&mut list);
@@ -1150,6 +1193,24 @@ fn bases() -> Vec<Call> {
             masks: [0x0100_0004, 0x0200_0000, 0, 0x04FF_FFFF, 0x0500_0001, 0],
         },
     ]
+}
+
+// Section "The six records": traces and histories with long parts, at places of every alignment,
+// where they fit exactly.
+fn aim_long_parts(list: &mut Vec<(Call, usize)>) {
+    let mut long = long_histories();
+    for base in bases() {
+        if matches!(base, Call::Trace { .. }) {
+            long.extend(changed(&base, &AROUND_BLOCKS, |call, n| {
+                set_samples(call, n, 2 * n as usize);
+            }));
+        }
+    }
+    for call in long {
+        for place in 0..16 {
+            list.push((call.clone().at(place), place + call.size()));
+        }
+    }
 }
 
 // Section "Words and nesting": the file header; free DAQ bytes, lengths around 8 and the limit.

@@ -1,7 +1,9 @@
 //! One call, both implementations: the answer, the two lent numbers, and every byte of the output
-//! and around it.
+//! and around it. The output and what is handed over stand at any place of a line of memory.
 
-use super::interface::{perform, Lent};
+use std::ops::Range;
+
+use super::interface::{parts, perform, Lent};
 use super::random::Random;
 use super::tally::{name, Tally};
 use super::trees::{self, Call};
@@ -9,6 +11,10 @@ use super::writer::Answer;
 
 /// Bytes before and after an output that are not lent.
 const MARGIN: usize = 16;
+/// A line of memory. Outputs and parts start at any of its bytes.
+pub const LINE: usize = 64;
+/// What stands around the parts that are handed over.
+const BETWEEN: [u8; MARGIN + LINE] = [0x5C; MARGIN + LINE];
 /// How much of a call is shown.
 const SHOWN: usize = 600;
 
@@ -34,7 +40,7 @@ pub struct Output {
 impl Output {
     /// An output of those bytes, at any alignment, amid a pattern. The buffers are used again.
     pub fn hold(&mut self, random: &mut Random, bytes: &[u8]) {
-        self.start = MARGIN + random.below(8) as usize;
+        self.start = MARGIN + random.below(LINE as u64) as usize;
         let after = self.start + bytes.len();
         self.archive.clear();
         self.archive.resize(self.start, 0);
@@ -58,11 +64,55 @@ impl Output {
     }
 }
 
-/// The comparison's state: its random source, its counts, and an output that is used again.
+/// The parts of a call as they are handed over: copies in one buffer, which is used again.
+#[derive(Default)]
+struct Handed {
+    bytes: Vec<u8>,
+    places: [Range<usize>; 4],
+}
+
+impl Handed {
+    // Copies the parts, each to any byte of a line, with other bytes around it.
+    fn hold(&mut self, random: &mut Random, parts: [&[u8]; 4]) {
+        let sizes = parts.map(|part| BETWEEN.len() + part.len());
+        self.bytes.clear();
+        self.bytes.reserve(sizes.iter().sum::<usize>() + MARGIN);
+        let mut drawn = random.draw() as usize;
+        for (place, part) in self.places.iter_mut().zip(parts) {
+            let behind = self.bytes.as_ptr_range().end as usize;
+            let gap = MARGIN + drawn.wrapping_sub(behind) % LINE;
+            drawn /= LINE;
+            self.bytes.extend_from_slice(&BETWEEN[..gap]);
+            let start = self.bytes.len();
+            self.bytes.extend_from_slice(part);
+            *place = start..start + part.len();
+        }
+        self.bytes.extend_from_slice(&BETWEEN[..MARGIN]);
+    }
+
+    // The copies.
+    fn parts(&self) -> [&[u8]; 4] {
+        self.places.clone().map(|place| &self.bytes[place])
+    }
+
+    // Whether the copies, and the bytes around them, are as they were.
+    fn is_kept(&self, parts: [&[u8]; 4]) -> bool {
+        let starts = self.places.iter().map(|place| place.start);
+        let ends = self.places.iter().map(|place| place.end);
+        let mut gaps = std::iter::once(0)
+            .chain(ends)
+            .zip(starts.chain([self.bytes.len()]));
+        gaps.all(|(end, start)| self.bytes[end..start] == BETWEEN[..start - end])
+            && self.parts() == parts
+    }
+}
+
+/// The comparison's state: its random source, its counts, and buffers that are used again.
 pub struct Comparison {
     pub random: Random,
     pub tally: Tally,
     pub output: Output,
+    handed: Handed,
 }
 
 /// Bytes of a pattern.
@@ -88,6 +138,7 @@ impl Comparison {
             random: Random::new(seed),
             tally: Tally::default(),
             output: Output::default(),
+            handed: Handed::default(),
         }
     }
 
@@ -147,8 +198,9 @@ impl Comparison {
                 expected.1.refused_at = place as u64;
             }
         }
-        let handed = call.clone();
-        let number = perform(&handed, &mut output.archive[lent], &mut left);
+        self.handed.hold(&mut self.random, parts(call));
+        let handed = self.handed.parts();
+        let number = perform(call, handed, &mut output.archive[lent], &mut left);
         if (number, left) != expected {
             return Err(Difference(format!(
                 "{}\noutside  {}\narchive  {}",
@@ -160,7 +212,7 @@ impl Comparison {
         if output.archive != output.outside {
             return Err(self.bytes_difference(call, output));
         }
-        if handed != *call {
+        if !self.handed.is_kept(parts(call)) {
             let call = told(call, length);
             return Err(Difference(format!("{call}\nwhat was handed over changed")));
         }
@@ -177,7 +229,8 @@ impl Comparison {
         };
         let mut left = before;
         let length = out.len();
-        let number = perform(call, out, &mut left);
+        self.handed.hold(&mut self.random, parts(call));
+        let number = perform(call, self.handed.parts(), out, &mut left);
         let expected = Lent {
             refused_at: 0,
             ..before

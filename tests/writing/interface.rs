@@ -1,5 +1,6 @@
 //! The writers' C interface, and a call of any sort through it. A part passes as a pointer and then
 //! its length; the next place, or a refusal's place, comes back in a number that is lent.
+//! Parts are given beside their call, so that copies at other places in memory can be handed over.
 
 use super::trees::Call;
 
@@ -26,10 +27,28 @@ extern "C" {
     fn dwj_rewrite(file: *const u8, file_length: usize, out: *mut u8, length: usize, next: &mut u64, refused_at: &mut u64) -> u32;
 }
 
-/// One call over an output: 0 with the next place, or a refusal's number with its place.
+/// What a call hands over: a trace's samples, a history's four lists, a file; the rest is empty.
+pub fn parts(call: &Call) -> [&[u8]; 4] {
+    match call {
+        Call::Trace { samples, .. } => [samples, &[], &[], &[]],
+        Call::History {
+            veto_times,
+            veto_masks,
+            trigger_times,
+            trigger_masks,
+            ..
+        } => [veto_times, veto_masks, trigger_times, trigger_masks],
+        Call::Rewrite { file } => [file, &[], &[], &[]],
+        _ => [&[]; 4],
+    }
+}
+
+/// One call over an output, with its parts or copies of them: 0 with the next place, or a refusal's
+/// number with its place.
 #[rustfmt::skip]
-pub fn perform(call: &Call, out: &mut [u8], lent: &mut Lent) -> u32 {
+pub fn perform(call: &Call, parts: [&[u8]; 4], out: &mut [u8], lent: &mut Lent) -> u32 {
     let (length, out) = (out.len(), out.as_mut_ptr());
+    let [first, second, third, fourth] = parts;
     let Lent { next, refused_at } = lent;
     match call {
         Call::Header { major, minor } => unsafe {
@@ -45,17 +64,17 @@ pub fn perform(call: &Call, out: &mut [u8], lent: &mut Lent) -> u32 {
             let fields = [*series_date, *series_time, *event_number, *event_time, *since_last, *live];
             dwj_write_administrative(out, length, *place, &fields, next, refused_at)
         },
-        Call::Trace { place, base_address, channel, code, t0, delta_t, n, samples } => unsafe {
-            let part = samples.as_ptr();
-            dwj_write_trace(out, length, *place, *base_address, *channel, *code, *t0, *delta_t, *n, part, samples.len(), next, refused_at)
+        Call::Trace { place, base_address, channel, code, t0, delta_t, n, .. } => unsafe {
+            let samples = first.as_ptr();
+            dwj_write_trace(out, length, *place, *base_address, *channel, *code, *t0, *delta_t, *n, samples, first.len(), next, refused_at)
         },
-        Call::History { place, nvt, veto_times, nvw, veto_masks, ntt, trigger_times, ntw, trigger_masks } => unsafe {
+        Call::History { place, nvt, nvw, ntt, ntw, .. } => unsafe {
             dwj_write_history(
                 out, length, *place,
-                *nvt, veto_times.as_ptr(), veto_times.len(),
-                *nvw, veto_masks.as_ptr(), veto_masks.len(),
-                *ntt, trigger_times.as_ptr(), trigger_times.len(),
-                *ntw, trigger_masks.as_ptr(), trigger_masks.len(),
+                *nvt, first.as_ptr(), first.len(),
+                *nvw, second.as_ptr(), second.len(),
+                *ntt, third.as_ptr(), third.len(),
+                *ntw, fourth.as_ptr(), fourth.len(),
                 next, refused_at,
             )
         },
@@ -75,8 +94,8 @@ pub fn perform(call: &Call, out: &mut [u8], lent: &mut Lent) -> u32 {
         Call::CloseEvent { place, end, class, category, event_type, .. } => unsafe {
             dwj_close_event(out, length, *place, *end, *class, *category, *event_type, next, refused_at)
         },
-        Call::Rewrite { file } => unsafe {
-            dwj_rewrite(file.as_ptr(), file.len(), out, length, next, refused_at)
+        Call::Rewrite { .. } => unsafe {
+            dwj_rewrite(first.as_ptr(), first.len(), out, length, next, refused_at)
         },
     }
 }

@@ -38,10 +38,10 @@ use std::collections::BTreeMap;
 use std::process::ExitCode;
 use std::time::Instant;
 
-use compare::{fill, Around, Comparison, Difference, Output};
+use compare::{fill, Around, Comparison, Difference, Output, LINE};
 use random::Random;
 use reader::MOST_BYTES;
-use trees::{aimed_calls, calls, random_call, random_tree, tree_length, valid_tree, Call};
+use trees::{aimed_calls, calls, part, random_call, random_tree, tree_length, valid_tree, Call};
 
 const DEFAULT_SEED: u64 = 20_100_115;
 const DEFAULT_ROUNDS: u64 = 40_000;
@@ -130,7 +130,7 @@ fn run(comparison: &mut Comparison, rounds: u64) -> Result<(), Difference> {
 // all of them are lent is compared at the end.
 fn over_limit(comparison: &mut Comparison, aimed: &[(Call, usize)]) -> Result<(), Difference> {
     let mut random = Random::new(comparison.random.draw());
-    let mut out = vec![0; MOST_BYTES + MOST_OVER];
+    let mut out = vec![0; MOST_BYTES + MOST_OVER + LINE];
     fill(&mut out, random.draw());
     let before = out.clone();
     let mut made = BTreeMap::new();
@@ -143,7 +143,8 @@ fn over_limit(comparison: &mut Comparison, aimed: &[(Call, usize)]) -> Result<()
         }
         *times += 1;
         let length = MOST_BYTES + random.between(1, MOST_OVER as u64) as usize;
-        comparison.refused_over_limit(call, &mut out[..length])?;
+        let start = random.below(LINE as u64) as usize;
+        comparison.refused_over_limit(call, &mut out[start..start + length])?;
     }
     if out == before {
         Ok(())
@@ -245,13 +246,15 @@ fn file_at_limit(comparison: &mut Comparison) -> Result<(), Difference> {
         first.push(longest_trace(place));
         place += 56 + 65_536;
     }
-    let times = ((MOST_BYTES - place - 24) / 8) as u32;
+    let times = (MOST_BYTES - place - 24) / 8;
+    let mut veto_times = part(8 * times);
+    let veto_masks = veto_times.split_off(4 * times);
     first.push(Call::History {
         place,
-        nvt: times,
-        veto_times: vec![0x12; 4 * times as usize],
+        nvt: times as u32,
+        veto_times,
         nvw: 1,
-        veto_masks: vec![0x34; 4 * times as usize],
+        veto_masks,
         ntt: 0,
         trigger_times: Vec::new(),
         ntw: 0,
@@ -310,6 +313,6 @@ fn longest_trace(place: usize) -> Call {
         t0: -1,
         delta_t: 1,
         n: 32_768,
-        samples: vec![0x21; 65_536],
+        samples: part(65_536),
     }
 }

@@ -1,11 +1,24 @@
-//! How often each writer gave each answer, and how often it has to.
+//! How often each writer gave each answer and stored a long part, and how often it has to.
 
 use std::fmt::Write;
 
+use super::interface::parts;
 use super::trees::Call;
 
 /// The least times that a call gives a number that it can give.
 const LEAST: u64 = 100;
+
+/// How long a long part is: the writers store parts in blocks of so many bytes.
+const LONG: usize = 512;
+
+/// The parts that traces and histories store.
+const PARTS: [&str; 5] = [
+    "samples",
+    "veto times",
+    "veto masks",
+    "trigger times",
+    "trigger masks",
+];
 
 /// Each call's name, and the numbers that it can give.
 const CALLS: [(&str, &[usize]); 12] = [
@@ -27,6 +40,8 @@ const CALLS: [(&str, &[usize]); 12] = [
 #[derive(Default)]
 pub struct Tally {
     numbers: [[u64; 14]; 12],
+    /// Long parts of accepted calls.
+    long: [u64; 5],
     /// Files of valid trees, accepted and restored.
     pub restored: u64,
 }
@@ -58,6 +73,14 @@ impl Tally {
     /// One answer more.
     pub fn add(&mut self, call: &Call, number: u32) {
         self.numbers[which(call)][number as usize] += 1;
+        let first = match call {
+            Call::Trace { .. } => 0,
+            Call::History { .. } => 1,
+            _ => return,
+        };
+        for (times, part) in self.long[first..].iter_mut().zip(parts(call)) {
+            *times += u64::from(number == 0 && part.len() >= LONG);
+        }
     }
 
     /// How many calls were compared.
@@ -77,6 +100,11 @@ impl Tally {
                 let _ = write!(text, "{times:>8}");
             }
         }
+        let _ = write!(text, "\nstored, of {LONG} bytes or more:");
+        for (name, times) in PARTS.iter().zip(self.long) {
+            let _ = write!(text, " {name} {times};");
+        }
+        text.pop();
         text.push('\n');
         text
     }
@@ -89,6 +117,11 @@ impl Tally {
                 if times[*number] < LEAST {
                     found.push(format!("{name} gave {number} {} times", times[*number]));
                 }
+            }
+        }
+        for (name, times) in PARTS.iter().zip(self.long) {
+            if times < LEAST {
+                found.push(format!("long {name} were stored {times} times"));
             }
         }
         if self.restored < LEAST {
