@@ -1,5 +1,8 @@
 // The file header's writer and the closings of the two containers. All is known before the first store: a refusal changes no byte.
+use containers::CONFIGURATION;
 use containers::Count;
+use containers::FILE_MARK;
+use containers::FORMAT;
 use containers::records_in;
 use fields::EVENT_MARK;
 use fields::event_fault;
@@ -30,10 +33,6 @@ fn above(high: u32, k: u32, low: u32) -> u32
 }
 
 // ---- the header
-
-const FILE_MARK: u32 = 0x0102_0304;
-
-const FORMAT: u32 = 0x0200;
 
 // The header's second word.
 fn version_word(major: u8, minor: u8) -> u32
@@ -127,8 +126,6 @@ fn close(
 }
 
 // ---- the two containers
-
-const CONFIGURATION: u32 = 0x0001_0000;
 
 /// Closes a configuration over the entries written between its first eight bytes and the end.
 pub fn close_configuration(out: &mut [u8], place: usize, end: usize) -> WriterAnswer

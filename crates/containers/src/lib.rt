@@ -7,6 +7,7 @@ use record::next_context;
 use record::record_in;
 use words::word_at;
 ghost use mathlib.Core.Path.{_≡_};
+ghost use mathlib.Core.Bool.{true};
 ghost use Prim.Native.Nat.{_+_, _≤_};
 ghost use lib.ListN.{length};
 ghost use Rattle.note.specs.Records.{readRecords};
@@ -14,6 +15,14 @@ ghost use Rattle.note.specs.Events.{readEvent, readEvents};
 ghost use Rattle.note.specs.Files.{readConfiguration, readFile};
 ghost use Rattle.record.specs.Steps.{contextOf};
 ghost use Rattle.containers.specs.Counts.{recordCount, containerStep, eventRows, fileRows};
+
+/// The header's first word, and the lower half of its second: format 2.0.
+pub const FILE_MARK: u32 = 0x0102_0304;
+
+pub const FORMAT: u32 = 0x0200;
+
+/// A configuration's first word.
+pub const CONFIGURATION: u32 = 0x0001_0000;
 
 /// How many there are, or the refusal.
 pub enum Count {
@@ -34,11 +43,60 @@ pub enum Holding {
     },
 }
 
+// ---- heads of records, fetched ahead
+
+// Contents of so many bytes lie in more than one page of memory.
+const FAR: usize = 4096;
+
+// Whether a structure with this length word stands whole at the front of a part.
+fn is_alike(part: &[u8], known: usize) -> bool
+    ensures { λ r. ⌜ (r ≡ true → 8 + known ≤ length (now (part .entry))) ⌝ }
+{
+    if part.len() < 8 {
+        return false;
+    }
+    if part.len() - 8 < known {
+        return false;
+    }
+    word_at(part, 4) as usize == known
+}
+
+// How many bytes the structures have that stand at the front of a part, one after the other, with this length word. The step to the next
+// is known before the next is read: memory is asked for many at a time.
+fn alike_size(part: &[u8], known: usize) -> usize
+    ensures { λ r. ⌜ r ≤ length (now (part .entry)) ⌝ }
+{
+    let mut rest = part;
+    while is_alike(rest, known) {
+        rest = &rest[8 + known..];
+    }
+    part.len() - rest.len()
+}
+
+// Fetches the heads of the structures that fill far contents. It answers and changes nothing; what reads them next finds them near.
+fn fetch_heads(part: &[u8]) {
+    if part.len() < FAR {
+        return;
+    }
+    let mut rest = part;
+    while 8 <= rest.len() {
+        let known = word_at(rest, 4) as usize;
+        if rest.len() - 8 < known {
+            return;
+        }
+        let behind = &rest[8 + known..];
+        rest = &behind[alike_size(behind, known)..];
+    }
+}
+
+// ---- containers
+
 /// How many records fill a part whose first byte stands at `from`.
 pub fn records_in(part: &[u8], from: usize, context: Context) -> Count
     requires { ⌜ from + length (now part) ≤ 0x1000000 ⌝ }
     ensures { λ r. ⌜ r ≡ recordCount (readRecords (contextOf context) from (now (part .entry))) ⌝ }
 {
+    fetch_heads(part);
     let mut rest = part;
     let mut at = from;
     let mut count = 0;
@@ -71,7 +129,7 @@ pub fn configuration_in(part: &[u8], at: usize) -> Holding
         };
     }
     let word = word_at(part, 0);
-    if word != 0x0001_0000 {
+    if word != CONFIGURATION {
         return Holding::Bad {
             number: 5,
             place: at,
@@ -180,13 +238,13 @@ pub fn check(file: &[u8]) -> Count
             place: 0,
         };
     }
-    if word_at(file, 0) != 0x0102_0304 {
+    if word_at(file, 0) != FILE_MARK {
         return Count::Bad {
             number: 3,
             place: 0,
         };
     }
-    if word_at(file, 4) % 65536 != 0x0200 {
+    if word_at(file, 4) % 65536 != FORMAT {
         return Count::Bad {
             number: 4,
             place: 0,
