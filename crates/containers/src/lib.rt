@@ -45,9 +45,6 @@ pub enum Holding {
 
 // ---- heads of records, fetched ahead
 
-// Contents of so many bytes lie in more than one page of memory.
-const FAR: usize = 4096;
-
 // Whether a structure with this length word stands whole at the front of a part.
 fn is_alike(part: &[u8], known: usize) -> bool
     ensures { λ r. ⌜ (r ≡ true → 8 + known ≤ length (now (part .entry))) ⌝ }
@@ -73,11 +70,8 @@ fn alike_size(part: &[u8], known: usize) -> usize
     part.len() - rest.len()
 }
 
-// Fetches the heads of the structures that fill far contents. It answers and changes nothing; what reads them next finds them near.
-fn fetch_heads(part: &[u8]) {
-    if part.len() < FAR {
-        return;
-    }
+/// Fetches the heads of the structures that fill a part. It answers and changes nothing; what reads them next finds them near.
+pub fn fetch_heads(part: &[u8]) {
     let mut rest = part;
     while 8 <= rest.len() {
         let known = word_at(rest, 4) as usize;
@@ -96,7 +90,6 @@ pub fn records_in(part: &[u8], from: usize, context: Context) -> Count
     requires { ⌜ from + length (now part) ≤ 0x1000000 ⌝ }
     ensures { λ r. ⌜ r ≡ recordCount (readRecords (contextOf context) from (now (part .entry))) ⌝ }
 {
-    fetch_heads(part);
     let mut rest = part;
     let mut at = from;
     let mut count = 0;

@@ -6,6 +6,7 @@ use closings::shut_event;
 use closings::write_header;
 use containers::Count;
 use containers::check;
+use containers::fetch_heads;
 use copies::copy_record;
 use fields::category_of;
 use fields::class_of;
@@ -70,6 +71,37 @@ fn copy_file(file: &[u8], out: &mut [u8])
     copy_events(&file[end..], out, end);
 }
 
+// Contents of so many bytes lie in more than one page of memory.
+const FAR: usize = 4096;
+
+// Fetches the heads of the records of a file's events, before the file is checked, up to the first event whose records lie near each other. It
+// answers and changes nothing.
+fn fetch_file(file: &[u8]) {
+    if file.len() < 16 {
+        return;
+    }
+    if file.len() > FILE_LIMIT {
+        return;
+    }
+    let from = 16 + word_at(file, 12) as usize;
+    if file.len() < from {
+        return;
+    }
+    let mut rest = &file[from..];
+    while 8 <= rest.len() {
+        let length = word_at(rest, 4) as usize;
+        if length < FAR {
+            return;
+        }
+        if rest.len() - 8 < length {
+            return;
+        }
+        let end = 8 + length;
+        fetch_heads(&rest[8..end]);
+        rest = &rest[end..];
+    }
+}
+
 /// Rewrite: reads an accepted file's fields and writes them from byte 0 on; answers the next place. 1 for either buffer, the file's refusal,
 /// then 13 where the output has too little room; a refusal changes no byte.
 pub fn rewrite(file: &[u8], out: &mut [u8]) -> WriterAnswer
@@ -82,6 +114,7 @@ pub fn rewrite(file: &[u8], out: &mut [u8]) -> WriterAnswer
             place: 0,
         };
     }
+    fetch_file(file);
     match check(file) {
         Count::Bad { number, place } => WriterAnswer::Refused { number, place },
         Count::Good { count: _ } => {

@@ -16,9 +16,6 @@ Inv-loop part rest₀ rest = length rest ≤ length part
 abbrev μ-loop : tie.MeasureT-loop
 μ-loop part rest₀ rest = length rest
 
-returns : tie.Need-returns Inv-loop μ-loop
-returns c = search needs
-
 loop-holds : tie.Need-loop-holds Inv-loop μ-loop
 loop-holds c = omega arith
 
@@ -28,11 +25,11 @@ word-at-requires c κs = search needs
 cast-known : tie.Need-cast-known Inv-loop μ-loop
 cast-known c = search needs
 
-sub-if2 : tie.Need-sub-if2 Inv-loop μ-loop
-sub-if2 c = search needs
+sub-if1 : tie.Need-sub-if1 Inv-loop μ-loop
+sub-if1 c = search needs
 
-returns-2 : tie.Need-returns-2 Inv-loop μ-loop
-returns-2 c = search needs
+returns : tie.Need-returns Inv-loop μ-loop
+returns c = search needs
 
 add-behind : tie.Need-add-behind Inv-loop μ-loop
 add-behind c = search needs
@@ -64,8 +61,8 @@ loop-less c = search needs
 loop-again : tie.Need-loop-again Inv-loop μ-loop
 loop-again c = search needs
 
-returns-3 : tie.Need-returns-3 Inv-loop μ-loop
-returns-3 c = search needs
+returns-2 : tie.Need-returns-2 Inv-loop μ-loop
+returns-2 c = search needs
 
 pub fetch-heads-spec : {M : Type 1} → statement M
 fetch-heads-spec =
@@ -73,12 +70,11 @@ fetch-heads-spec =
     (tie.spec
     Inv-loop
     μ-loop
-    returns
     loop-holds
     word-at-requires
     cast-known
-    sub-if2
-    returns-2
+    sub-if1
+    returns
     add-behind
     sub-behind
     part-behind-start
@@ -89,4 +85,4 @@ fetch-heads-spec =
     part-rest-end
     loop-less
     loop-again
-    returns-3)
+    returns-2)

@@ -12,7 +12,6 @@ use Rattle.containers.proofs.records_in.Reads as reads
 use Rattle.containers.proofs.records_in.Lts as lts
 use Rattle.record.proofs.next_context.Reads as next-context-reads
 use Rattle.record.proofs.record_in.Reads as record-in-reads
-use Rattle.containers.proofs.fetch_heads.Reads as fetch-heads-reads
 
 abbrev Inv-loop : tie.InvT-loop
 Inv-loop part from rest₀ at₀ count₀ state₀ rest at count state = Counting (contextOf state₀) from part (contextOf state) at rest count
@@ -20,11 +19,8 @@ Inv-loop part from rest₀ at₀ count₀ state₀ rest at count state = Countin
 abbrev μ-loop : tie.MeasureT-loop
 μ-loop part from rest₀ at₀ count₀ state₀ rest at count state = length rest
 
-fetch-heads-requires : tie.Need-fetch-heads-requires Inv-loop μ-loop
-fetch-heads-requires c κs = search needs
-
 loop-holds : tie.Need-loop-holds Inv-loop μ-loop
-loop-holds c = let a = c .before .before .args in begin (contextOf (a .context)) (a .from) (now (a .part))
+loop-holds c = let a = c .before .args in begin (contextOf (a .context)) (a .from) (now (a .part))
 
 record-in-requires : tie.Need-record-in-requires Inv-loop μ-loop
 record-in-requires c κs = search needs
@@ -74,7 +70,6 @@ records-in-spec =
     (tie.spec
     Inv-loop
     μ-loop
-    fetch-heads-requires
     loop-holds
     record-in-requires
     enum-known-number
