@@ -1,5 +1,6 @@
 //! bench: Table, Record and Find through the exports, against the outside implementation and a loop
-//! in C that only follows the length words. All sides in one run, on the same bytes, each at its best.
+//! in C that only follows the length words. All sides in one run, on the same bytes, round by round; of each
+//! side the middle time counts: at its best a side may have found the memory idle for once.
 //!
 //! Table: the exports fill a row buffer that is made once, before the clock starts, and whose pages
 //! have been touched. The outside implementation has no such call: its `table` is timed as it is,
@@ -64,7 +65,7 @@ extern "C" {
 }
 
 /// How often each side is timed, and for how long at least each time.
-const ROUNDS: usize = 40;
+const ROUNDS: usize = 41;
 const LEAST_SECONDS: f64 = 0.002;
 
 /// What is aimed at: Find against the outside implementation, Visit against Table;
@@ -85,11 +86,11 @@ fn opaque<T>(value: T) -> T {
     value
 }
 
-// The sides in turn, round by round; the best of each, in nanoseconds. A short run is repeated until
-// the clock can tell.
-fn best<const N: usize>(mut sides: [&mut dyn FnMut(); N]) -> [f64; N] {
+// The sides in turn, round by round; the middle one of each side's times, in nanoseconds. A short run
+// is repeated until the clock can tell.
+fn middle<const N: usize>(mut sides: [&mut dyn FnMut(); N]) -> [f64; N] {
     let mut repeats = [1usize; N];
-    let mut best = [f64::INFINITY; N];
+    let mut times = [[0.0; ROUNDS]; N];
     let mut once = |side: usize, repeats: usize| {
         let started = Instant::now();
         for _ in 0..repeats {
@@ -102,13 +103,15 @@ fn best<const N: usize>(mut sides: [&mut dyn FnMut(); N]) -> [f64; N] {
             *repeats *= 2;
         }
     }
-    for _ in 0..ROUNDS {
-        for (side, best) in best.iter_mut().enumerate() {
-            let each = once(side, repeats[side]) * 1e9 / repeats[side] as f64;
-            *best = best.min(each);
+    for round in 0..ROUNDS {
+        for side in 0..N {
+            times[side][round] = once(side, repeats[side]) * 1e9 / repeats[side] as f64;
         }
     }
-    best
+    times.map(|mut times| {
+        times.sort_by(f64::total_cmp);
+        times[ROUNDS / 2]
+    })
 }
 
 // Table of a file; the three sides are first seen to agree.
@@ -124,7 +127,7 @@ fn time_table(file: &[u8]) -> [f64; 3] {
     assert!(rows_agree, "the rows agree");
     let structures = unsafe { floor_table(file.as_ptr(), file.len()) };
     assert_eq!(structures, count, "C finds every structure");
-    best([
+    middle([
         &mut || {
             let number = interface::table(opaque(file), &mut rows, &mut count, &mut place);
             opaque(number);
@@ -151,7 +154,7 @@ fn time_records(file: &[u8]) -> [f64; 3] {
         let expected = reader::record(file, *place as u64).map(|found| reader::row_kind(&found));
         assert_eq!((number, Ok(values[0] as u32)), (0, expected));
     }
-    best([
+    middle([
         &mut || {
             for place in &places {
                 let file = opaque(file);
@@ -183,7 +186,7 @@ fn time_find(file: &[u8], number: u32, code: u32) -> [f64; 2] {
     let answer = interface::find(file, number, code, &mut place, &mut refused_at);
     let found = Some(place).filter(|place| *place > 0);
     assert_eq!((answer, Ok(found)), (0, reader::find(file, number, code)));
-    best([
+    middle([
         &mut || {
             let file = opaque(file);
             let answer = interface::find(file, number, code, &mut place, &mut refused_at);
@@ -220,7 +223,7 @@ fn time_rows(file: &[u8]) -> [f64; 3] {
     assert_eq!(walk(file, &mut row), count, "a walk has every row");
     let mut table_rows = rows.clone();
     let (mut table_count, mut table_place) = (0, 0);
-    best([
+    middle([
         &mut || {
             let number = interface::visit(opaque(file), 0, &mut rows, &mut count, &mut place);
             opaque(number);
@@ -257,7 +260,7 @@ fn time_rewrite(file: &[u8]) -> [f64; 3] {
     assert!(writer::rewrite(file, &mut out) == Ok(file.len()) && out == *file);
     let mut copies = [out.clone(), out.clone()];
     let [outside, copy] = &mut copies;
-    best([
+    middle([
         &mut || {
             let (call, parts) = opaque((&call, parts));
             opaque(writing::perform(call, parts, &mut out, &mut lent));
@@ -361,7 +364,7 @@ fn print_further(file: &[u8], to_copy: Option<f64>, to_outside: Option<f64>) {
 }
 
 fn main() {
-    println!("bench: the best of {ROUNDS} rounds, the sides in turn, on the same bytes");
+    println!("bench: the middle of {ROUNDS} rounds, the sides in turn, on the same bytes");
     let file = events_with_traces(most_events(2_048), 2_048);
     print_case("(a) traces of 2,048 samples to 16 MiB", &file, Some(1.3));
     print_further(&file, Some(COPY_GOAL), None);
