@@ -6,7 +6,7 @@ use mathlib.Core.List.{List, [], _∷_, _++_, append-nil}
 use native.Mathlib.Omega.{arith}
 use native.Mathlib.Numerals.{add-one}
 use lib.ListN.{length, take, drop, getD, set, length-drop, drop-of-length-le}
-use lib.Seq.{sets, length-take-le, take-add, take-suc, take-all}
+use lib.Seq.{sets, sets-eq, length-take-le, take-add, take-suc, take-all, take-append-seam}
 use borrow.Rule.Slice.PartMut.{putMid, midOf}
 use Rattle.theory.proofs.WordLaws.{length-puts, puts-append}
 use Rattle.theory.proofs.StoreLaws.{sets-append}
@@ -51,6 +51,10 @@ word-more l ws at i h =
     stored-next l at (at + 4 * i) (words (take i ws)) (words (getD ws i 0 ∷ []))
     (omega (arith, length-puts order 4 (take i ws), length-take-le i ws (omega arith)))
     ∙ rw (add-one, take-suc ws i 0, puts-append)
+
+-- What was stored at the front stands there.
+pub front-stored : (l a : List ℕ) → 0 + length a ≤ length l → take (length a) (sets l 0 a) ≡ a
+front-stored l a h = ap (take (length a)) (sets-eq a l 0 h) ∙ take-append-seam a (drop (0 + length a) l)
 
 -- ---- into the part that is lent on from a place
 

@@ -1,1 +1,1 @@
-pub mod ToldLaws
+pub mod HandedLaws

@@ -1,48 +1,20 @@
--- What a C caller hands to a writer, and what it finds in the numbers that it lent: the next place, or a refusal's place; otherwise
--- what stood there.
+-- What a C caller hands to a writer: its fields, as numbers of a lent array.
 use Prim.Native.Nat.{ℕ}
-use mathlib.Core.Path.{_≡_}
 use mathlib.Core.List.{List}
 use lib.IntN.{ℤ, pos}
 use lib.ListN.{getD}
-use Rattle.theory.specs.Tests.{Res, ok, bad}
-use Rattle.note.specs.Answers.{givenWriter}
-use Rattle.note.specs.declared.WriterAnswer.{WriterAnswer}
 use Rattle.note.specs.Phonon.{Phonon}
 use Rattle.note.specs.Charge.{Charge}
 use Rattle.note.specs.Administrative.{Administrative}
 use Rattle.note.specs.Gps.{Gps}
 use Rattle.note.specs.Trigger.{Trigger}
 use Rattle.note.specs.Tlb.{Tlb}
-use Rattle.note.specs.Writers.{Written, writerGiven, recordWrote, recordOutput}
+use Rattle.note.specs.Writers.{Written, recordWrote, recordOutput}
+use Rattle.telling.specs.Told.{Told}
 
--- The number that a call returns, and the two lent numbers after it.
-unfoldable pub numberIn : Res ℕ → ℕ
-numberIn (ok next) = 0
-numberIn (bad c p) = c
-
-unfoldable pub nextAfter : ℕ → Res ℕ → ℕ
-nextAfter old (ok next) = next
-nextAfter old (bad c p) = old
-
-unfoldable pub refusedAfter : ℕ → Res ℕ → ℕ
-refusedAfter old (ok next) = old
-refusedAfter old (bad c p) = p
-
--- What a caller is told of a result, by the number n and the two lent numbers, before and after.
-abbrev pub Numbers : Res ℕ → ℕ → ℕ → ℕ → ℕ → ℕ → Type 0
-Numbers r n next₀ next refusal₀ refusal = (n ≡ numberIn r) × (next ≡ nextAfter next₀ r) × (refusal ≡ refusedAfter refusal₀ r)
-
--- The same, and the output afterwards; and for a record's fields.
-abbrev pub Told : Res ℕ → List ℕ → ℕ → List ℕ → ℕ → ℕ → ℕ → ℕ → Type 0
-Told r output n after next₀ next refusal₀ refusal = Numbers r n next₀ next refusal₀ refusal × (after ≡ output)
-
+-- What a caller is told of a record or an entry written from a place on, and the output afterwards.
 abbrev pub RecordTold : List ℕ → ℕ → Written → ℕ → List ℕ → ℕ → ℕ → ℕ → ℕ → Type 0
 RecordTold out place w = Told (recordWrote out place w) (recordOutput out place w)
-
--- An answer told, whatever result it is the answer of.
-abbrev pub Tells : WriterAnswer → ℕ → ℕ → ℕ → ℕ → ℕ → Type 0
-Tells answer n next₀ next refusal₀ refusal = (r : Res ℕ) → givenWriter answer ≡ writerGiven r → Numbers r n next₀ next refusal₀ refusal
 
 -- The fields of an array, in the order of their words.
 abbrev signedAt : List ℤ → ℕ → ℤ

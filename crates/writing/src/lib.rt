@@ -1,23 +1,8 @@
-// Every writer for C: numbers, lent arrays and buffers alone. include/dwejrasq.h documents each.
-use note::WriterAnswer;
-ghost use Rattle.note.specs.Writers.{headerWrote, headerOutput, configurationClosed, configurationOutput, eventClosed, eventOutput, rewriteWrote, rewriteOutput, phononWritten, chargeWritten, administrativeWritten, traceWritten, historyWritten, gpsWritten, triggerWritten, tlbWritten};
-ghost use Rattle.writing.specs.Handed.{Tells, Told, RecordTold, phononFrom, chargeFrom, administrativeFrom, gpsFrom, triggerFrom, tlbFrom};
-
-// A writer's answer, for C: the number; the next place, or the refusal's place lent.
-fn told(answer: WriterAnswer, next: &mut u64, refusal: &mut u64) -> u32
-    ensures { λ n. ⌜ Tells answer n (now (next .entry)) (now (next .exit)) (now (refusal .entry)) (now (refusal .exit)) ⌝ }
-{
-    match answer {
-        WriterAnswer::Next { place } => {
-            *next = place as u64;
-            0
-        }
-        WriterAnswer::Refused { number, place } => {
-            *refusal = place as u64;
-            number
-        }
-    }
-}
+// The writers and the closings for C: numbers, lent arrays and buffers alone. include/dwejrasq.h documents each.
+use telling::told;
+ghost use Rattle.note.specs.Writers.{headerWrote, headerOutput, configurationClosed, configurationOutput, eventClosed, eventOutput, phononWritten, chargeWritten, administrativeWritten, traceWritten, historyWritten, gpsWritten, triggerWritten, tlbWritten};
+ghost use Rattle.telling.specs.Told.{Told};
+ghost use Rattle.writing.specs.Handed.{RecordTold, phononFrom, chargeFrom, administrativeFrom, gpsFrom, triggerFrom, tlbFrom};
 
 /// A phonon entry: its eleven words in order.
 #[no_mangle]
@@ -270,14 +255,5 @@ pub extern "C" fn dwj_close_event(
     ensures { λ r. ⌜ Told (eventClosed (now (out .entry)) place end class category kind) (eventOutput (now (out .entry)) place end class category kind) r (now (out .exit)) (now (next .entry)) (now (next .exit)) (now (refusal .entry)) (now (refusal .exit)) ⌝ }
 {
     let answer = dwejrasq::close_event(out, place, end, class, category, kind);
-    told(answer, next, refusal)
-}
-
-/// Rewrite: an accepted file written again from its fields, from byte 0 of the output on.
-#[no_mangle]
-pub extern "C" fn dwj_rewrite(file: &[u8], out: &mut [u8], next: &mut u64, refusal: &mut u64) -> u32
-    ensures { λ r. ⌜ Told (rewriteWrote (now (file .entry)) (now (out .entry))) (rewriteOutput (now (file .entry)) (now (out .entry))) r (now (out .exit)) (now (next .entry)) (now (next .exit)) (now (refusal .entry)) (now (refusal .exit)) ⌝ }
-{
-    let answer = dwejrasq::rewrite(file, out);
     told(answer, next, refusal)
 }

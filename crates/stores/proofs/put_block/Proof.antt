@@ -1,72 +1,60 @@
--- `stores::put_block` meets its contract: after i turns the first i bytes of the block are stored.
--- The idea: a turn stores one byte more.
-use Prim.Native.Nat.{ℕ, _+_, _-_, _≤_}
-use mathlib.Core.Path.{_≡_, refl, ap, _∙_}
+-- `stores::put_block` meets its contract: what the array holds in front is the block.
+-- The idea: bytes stored at the front of a list that has room for them are read there again.
+use Prim.Native.Nat.{ℕ, _+_, _≤_}
+use mathlib.Core.Path.{_≡_, sym, ap, _∙_}
 use mathlib.Core.List.{List}
 use native.Mathlib.Omega.{arith}
-use lib.ListN.{length, length-set, take, set, getD}
-use lib.Seq.{sets, take-all}
-use Rattle.stores.proofs.StoreLaws.{byte-more}
+use lib.ListN.{length, take, replicate}
+use lib.Seq.{sets}
+use Rattle.stores.proofs.StoreLaws.{front-stored}
 use borrow.Author.Needs.{needs}
 use Rattle.stores.proofs.put_block.Statement.{statement}
 use Rattle.stores.proofs.put_block.Tie as tie
 use Rattle.stores.proofs.put_block.Reads as reads
 use Rattle.stores.proofs.put_block.Lts as lts
+use Rattle.stores.proofs.put_bytes.Reads as put-bytes-reads
 
-abbrev Inv-loop : tie.InvT-loop
-Inv-loop out₀ at block i₀ out i = (i ≤ length block) × (length out ≡ length out₀) × (out ≡ sets out₀ at (take i block))
+slice-aggregate-put-bytes : tie.Need-slice-aggregate-put-bytes
+slice-aggregate-put-bytes c = search needs
 
-abbrev μ-loop : tie.MeasureT-loop
-μ-loop out₀ at block i₀ out i = length block - i
+put-bytes-requires : tie.Need-put-bytes-requires
+put-bytes-requires c κs = search needs
 
-loop-holds : tie.Need-loop-holds Inv-loop μ-loop
-loop-holds c = (omega arith, refl, refl)
+array-share-prefix-held : tie.Need-array-share-prefix-held
+array-share-prefix-held c = search needs
 
-shared-slice-read-out : tie.Need-shared-slice-read-out Inv-loop μ-loop
-shared-slice-read-out c = search needs
+-- The array's first bytes, as many as the block has.
+held-is-block : (c : lts.After-held3 (put-bytes-reads.Asked, put-bytes-reads.Learnt) reads.Pre reads.Post)
+    → take (length (c .before .before .before .before .before .before .before .args .block .now)) (c .before .before .before .put-bytes .last .0)
+    ≡ c .before .before .before .before .before .before .before .args .block .now
+held-is-block c =
+    let first = c .before .before .before .before in
+    let block = first .before .before .before .args .block .now in
+    ap (take (length block)) (c .before .before .before .put-bytes .ensures) ∙ front-stored (replicate 4096 0) block (put-bytes-requires first (first .before .before .before .κs))
 
-add-out : tie.Need-add-out Inv-loop μ-loop
-add-out c = search needs
+slice-aggregate-put-bytes-2 : tie.Need-slice-aggregate-put-bytes-2
+slice-aggregate-put-bytes-2 c = sym (ap length (held-is-block c))
 
-slice-write-out : tie.Need-slice-write-out Inv-loop μ-loop
-slice-write-out c = search needs
+put-bytes-requires-2 : tie.Need-put-bytes-requires-2
+put-bytes-requires-2 c κs = omega (arith, ap length (held-is-block c), c .before .before .before .before .before .before .before .pre .0)
 
-add-i : tie.Need-add-i Inv-loop μ-loop
-add-i c = search needs
+same-length : tie.Need-same-length
+same-length c = search needs
 
-loop-less : tie.Need-loop-less Inv-loop μ-loop
-loop-less c = search needs
-
-loop-again : tie.Need-loop-again Inv-loop μ-loop
-loop-again c =
-    let a = c .before .before .before .args in
-    let turn = c .before .before .loop in (
-      omega arith,
-      simp length-set (turn .inv .1),
-      ap (λ (l : List ℕ). set l (a .at + turn .i) (getD (a .block .now) (turn .i) 0)) (turn .inv .2)
-          ∙ byte-more (a .out .now) (a .block .now) (a .at) (turn .i) (c .before .loop-test .taken),
-    )
-
-same-length : tie.Need-same-length Inv-loop μ-loop
-same-length c = c .before .loop .inv .1
-
-returns : tie.Need-returns Inv-loop μ-loop
+returns : tie.Need-returns
 returns c =
-    let a = c .before .before .args in
-    c .before .loop .inv .2 ∙ ap (sets (a .out .now) (a .at)) (take-all (c .before .loop .i) (a .block .now) (c .loop-test .left))
+    let a = c .before .before .before .before .before .before .before .before .before .before .args in
+    let stored = c .before .before .put-bytes2 in
+    stored .ensures ∙ ap (sets (a .out .now) (a .at)) (held-is-block (c .before .before .before))
 
 pub put-block-spec : {M : Type 1} → statement M
 put-block-spec =
     tie.close
     (tie.spec
-    Inv-loop
-    μ-loop
-    loop-holds
-    shared-slice-read-out
-    add-out
-    slice-write-out
-    add-i
-    loop-less
-    loop-again
+    slice-aggregate-put-bytes
+    put-bytes-requires
+    array-share-prefix-held
+    slice-aggregate-put-bytes-2
+    put-bytes-requires-2
     same-length
     returns)

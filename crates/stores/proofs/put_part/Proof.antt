@@ -1,5 +1,5 @@
 -- `stores::put_part` meets its contract: after each turn the bytes up to here are stored.
--- The idea: a turn stores one block more; what was stored in fetching its lines, the block covers.
+-- The idea: a turn stores one block more.
 use Prim.Native.Nat.{ℕ, _+_, _-_, _≤_}
 use mathlib.Core.Path.{_≡_, refl, ap, _∙_}
 use mathlib.Core.List.{List}
@@ -13,7 +13,6 @@ use Rattle.stores.proofs.put_part.Tie as tie
 use Rattle.stores.proofs.put_part.Reads as reads
 use Rattle.stores.proofs.put_part.Lts as lts
 use Rattle.stores.proofs.block_end.Reads as block-end-reads
-use Rattle.stores.proofs.fetch_lines.Reads as fetch-lines-reads
 use Rattle.stores.proofs.put_block.Reads as put-block-reads
 
 abbrev Inv-loop : tie.InvT-loop
@@ -28,23 +27,17 @@ loop-holds c = (omega arith, refl, refl)
 block-end-requires : tie.Need-block-end-requires Inv-loop μ-loop
 block-end-requires c κs = search needs
 
-sub-block : tie.Need-sub-block Inv-loop μ-loop
-sub-block c = search needs
-
-part-block-start : tie.Need-part-block-start Inv-loop μ-loop
-part-block-start c = search needs
-
-part-block-end : tie.Need-part-block-end Inv-loop μ-loop
-part-block-end c = search needs
-
-add-fetch-lines : tie.Need-add-fetch-lines Inv-loop μ-loop
-add-fetch-lines c = search needs
-
-fetch-lines-requires : tie.Need-fetch-lines-requires Inv-loop μ-loop
-fetch-lines-requires c κs = search needs
-
 add-put-block : tie.Need-add-put-block Inv-loop μ-loop
 add-put-block c = search needs
+
+sub-put-block : tie.Need-sub-put-block Inv-loop μ-loop
+sub-put-block c = search needs
+
+part-put-block-start : tie.Need-part-put-block-start Inv-loop μ-loop
+part-put-block-start c = search needs
+
+part-put-block-end : tie.Need-part-put-block-end Inv-loop μ-loop
+part-put-block-end c = search needs
 
 put-block-requires : tie.Need-put-block-requires Inv-loop μ-loop
 put-block-requires c κs = search needs
@@ -54,15 +47,14 @@ loop-less c = search needs
 
 loop-again : tie.Need-loop-again Inv-loop μ-loop
 loop-again c =
-    let a = c .before .before .before .before .before .before .before .before .before .before .before .before .before .before .args in
-    let turn = c .before .before .before .before .before .before .before .before .before .before .before .loop in
-    let end = c .before .before .before .before .before .before .before .before .before .block-end in
+    let a = c .before .before .before .before .before .before .before .before .before .before .args in
+    let turn = c .before .before .before .before .before .before .before .loop in
+    let end = c .before .before .before .before .before .block-end in
     let block : List ℕ = take (end .result - turn .from) (drop (turn .from) (a .part .now)) in
-    let last = c .before .before .put-block in
-    let first = c .before .before .before .before .before .before .fetch-lines in (
+    let stored = c .before .before .put-block in (
       end .ensures .1,
-      last .kept .0 ∙ first .kept .0 ∙ turn .inv .1,
-      last .ensures ∙ first .ensures ∙ ap (λ (l : List ℕ). sets l (a .at + turn .from) block) (turn .inv .2)
+      stored .kept .0 ∙ turn .inv .1,
+      stored .ensures ∙ ap (λ (l : List ℕ). sets l (a .at + turn .from) block) (turn .inv .2)
           ∙ block-more (a .out .now) (a .part .now) (a .at) (turn .from) (end .result) (omega (arith, end .ensures .0)) (end .ensures .1),
     )
 
@@ -82,12 +74,10 @@ put-part-spec =
     μ-loop
     loop-holds
     block-end-requires
-    sub-block
-    part-block-start
-    part-block-end
-    add-fetch-lines
-    fetch-lines-requires
     add-put-block
+    sub-put-block
+    part-put-block-start
+    part-put-block-end
     put-block-requires
     loop-less
     loop-again

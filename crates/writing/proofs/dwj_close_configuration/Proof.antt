@@ -5,7 +5,7 @@ use Rattle.writing.proofs.dwj_close_configuration.Tie as tie
 use Rattle.writing.proofs.dwj_close_configuration.Reads as reads
 use Rattle.writing.proofs.dwj_close_configuration.Lts as lts
 use Rattle.dwejrasq.proofs.close_configuration.Reads as close-configuration-reads
-use Rattle.writing.proofs.told.Reads as told-reads
+use Rattle.telling.proofs.told.Reads as told-reads
 
 close-configuration-requires : tie.Need-close-configuration-requires
 close-configuration-requires c κs = search needs

@@ -5,7 +5,7 @@ use Rattle.writing.proofs.dwj_close_event.Tie as tie
 use Rattle.writing.proofs.dwj_close_event.Reads as reads
 use Rattle.writing.proofs.dwj_close_event.Lts as lts
 use Rattle.dwejrasq.proofs.close_event.Reads as close-event-reads
-use Rattle.writing.proofs.told.Reads as told-reads
+use Rattle.telling.proofs.told.Reads as told-reads
 
 close-event-requires : tie.Need-close-event-requires
 close-event-requires c κs = search needs

@@ -6,7 +6,7 @@ use Rattle.writing.proofs.dwj_write_administrative.Tie as tie
 use Rattle.writing.proofs.dwj_write_administrative.Reads as reads
 use Rattle.writing.proofs.dwj_write_administrative.Lts as lts
 use Rattle.dwejrasq.proofs.write_administrative.Reads as write-administrative-reads
-use Rattle.writing.proofs.told.Reads as told-reads
+use Rattle.telling.proofs.told.Reads as told-reads
 
 element-copy-out-write-administrative : tie.Need-element-copy-out-write-administrative
 element-copy-out-write-administrative c = search needs

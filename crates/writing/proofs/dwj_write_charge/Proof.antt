@@ -4,7 +4,7 @@ use Rattle.note.specs.Writers.{chargeWritten}
 use denote.Ref.{now}
 use lib.IntN.{pos}
 use lib.ListN.{getD}
-use Rattle.writing.proofs.ToldLaws.{kept, handed}
+use Rattle.writing.proofs.HandedLaws.{kept, handed}
 use Rattle.writing.specs.Handed.{chargeFrom}
 use borrow.Author.Needs.{needs}
 use Rattle.writing.proofs.dwj_write_charge.Statement.{statement}
@@ -12,7 +12,7 @@ use Rattle.writing.proofs.dwj_write_charge.Tie as tie
 use Rattle.writing.proofs.dwj_write_charge.Reads as reads
 use Rattle.writing.proofs.dwj_write_charge.Lts as lts
 use Rattle.dwejrasq.proofs.write_charge.Reads as write-charge-reads
-use Rattle.writing.proofs.told.Reads as told-reads
+use Rattle.telling.proofs.told.Reads as told-reads
 
 element-copy-out-write-charge : tie.Need-element-copy-out-write-charge
 element-copy-out-write-charge c = search needs

@@ -6,7 +6,7 @@ use Rattle.writing.proofs.dwj_write_gps.Tie as tie
 use Rattle.writing.proofs.dwj_write_gps.Reads as reads
 use Rattle.writing.proofs.dwj_write_gps.Lts as lts
 use Rattle.dwejrasq.proofs.write_gps.Reads as write-gps-reads
-use Rattle.writing.proofs.told.Reads as told-reads
+use Rattle.telling.proofs.told.Reads as told-reads
 
 element-copy-out-write-gps : tie.Need-element-copy-out-write-gps
 element-copy-out-write-gps c = search needs

@@ -5,7 +5,7 @@ use Rattle.writing.proofs.dwj_write_header.Tie as tie
 use Rattle.writing.proofs.dwj_write_header.Reads as reads
 use Rattle.writing.proofs.dwj_write_header.Lts as lts
 use Rattle.dwejrasq.proofs.write_header.Reads as write-header-reads
-use Rattle.writing.proofs.told.Reads as told-reads
+use Rattle.telling.proofs.told.Reads as told-reads
 
 write-header-requires : tie.Need-write-header-requires
 write-header-requires c κs = search needs

@@ -5,7 +5,7 @@ use Rattle.writing.proofs.dwj_write_history.Tie as tie
 use Rattle.writing.proofs.dwj_write_history.Reads as reads
 use Rattle.writing.proofs.dwj_write_history.Lts as lts
 use Rattle.dwejrasq.proofs.write_history.Reads as write-history-reads
-use Rattle.writing.proofs.told.Reads as told-reads
+use Rattle.telling.proofs.told.Reads as told-reads
 
 write-history-requires : tie.Need-write-history-requires
 write-history-requires c κs = search needs

@@ -4,7 +4,7 @@ use Rattle.note.specs.Writers.{phononWritten}
 use denote.Ref.{now}
 use lib.IntN.{pos}
 use lib.ListN.{getD}
-use Rattle.writing.proofs.ToldLaws.{kept, handed}
+use Rattle.writing.proofs.HandedLaws.{kept, handed}
 use Rattle.writing.specs.Handed.{phononFrom}
 use borrow.Author.Needs.{needs}
 use Rattle.writing.proofs.dwj_write_phonon.Statement.{statement}
@@ -12,7 +12,7 @@ use Rattle.writing.proofs.dwj_write_phonon.Tie as tie
 use Rattle.writing.proofs.dwj_write_phonon.Reads as reads
 use Rattle.writing.proofs.dwj_write_phonon.Lts as lts
 use Rattle.dwejrasq.proofs.write_phonon.Reads as write-phonon-reads
-use Rattle.writing.proofs.told.Reads as told-reads
+use Rattle.telling.proofs.told.Reads as told-reads
 
 element-copy-out-write-phonon : tie.Need-element-copy-out-write-phonon
 element-copy-out-write-phonon c = search needs

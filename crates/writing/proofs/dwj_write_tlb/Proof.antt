@@ -6,7 +6,7 @@ use Rattle.writing.proofs.dwj_write_tlb.Tie as tie
 use Rattle.writing.proofs.dwj_write_tlb.Reads as reads
 use Rattle.writing.proofs.dwj_write_tlb.Lts as lts
 use Rattle.dwejrasq.proofs.write_tlb.Reads as write-tlb-reads
-use Rattle.writing.proofs.told.Reads as told-reads
+use Rattle.telling.proofs.told.Reads as told-reads
 
 element-copy-out-write-tlb : tie.Need-element-copy-out-write-tlb
 element-copy-out-write-tlb c = search needs

@@ -6,7 +6,7 @@ use Rattle.writing.proofs.dwj_write_trace.Tie as tie
 use Rattle.writing.proofs.dwj_write_trace.Reads as reads
 use Rattle.writing.proofs.dwj_write_trace.Lts as lts
 use Rattle.dwejrasq.proofs.write_trace.Reads as write-trace-reads
-use Rattle.writing.proofs.told.Reads as told-reads
+use Rattle.telling.proofs.told.Reads as told-reads
 
 write-trace-requires : tie.Need-write-trace-requires
 write-trace-requires c κs = search needs

@@ -6,7 +6,7 @@ use Rattle.writing.proofs.dwj_write_trigger.Tie as tie
 use Rattle.writing.proofs.dwj_write_trigger.Reads as reads
 use Rattle.writing.proofs.dwj_write_trigger.Lts as lts
 use Rattle.dwejrasq.proofs.write_trigger.Reads as write-trigger-reads
-use Rattle.writing.proofs.told.Reads as told-reads
+use Rattle.telling.proofs.told.Reads as told-reads
 
 element-copy-out-write-trigger : tie.Need-element-copy-out-write-trigger
 element-copy-out-write-trigger c = search needs

@@ -1,11 +1,11 @@
 -- Rewrite's own contract; its answer told in lent numbers.
 use borrow.Author.Needs.{needs}
-use Rattle.writing.proofs.dwj_rewrite.Statement.{statement}
-use Rattle.writing.proofs.dwj_rewrite.Tie as tie
-use Rattle.writing.proofs.dwj_rewrite.Reads as reads
-use Rattle.writing.proofs.dwj_rewrite.Lts as lts
+use Rattle.restoring.proofs.dwj_rewrite.Statement.{statement}
+use Rattle.restoring.proofs.dwj_rewrite.Tie as tie
+use Rattle.restoring.proofs.dwj_rewrite.Reads as reads
+use Rattle.restoring.proofs.dwj_rewrite.Lts as lts
 use Rattle.dwejrasq.proofs.rewrite.Reads as rewrite-reads
-use Rattle.writing.proofs.told.Reads as told-reads
+use Rattle.telling.proofs.told.Reads as told-reads
 
 rewrite-requires : tie.Need-rewrite-requires
 rewrite-requires c κs = search needs

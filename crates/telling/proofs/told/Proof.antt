@@ -1,11 +1,11 @@
 -- Each case of an answer, and the lent numbers that follow it.
 use denote.Ref.{now}
-use Rattle.writing.proofs.ToldLaws.{tells-next, tells-refusal}
+use Rattle.telling.proofs.ToldLaws.{tells-next, tells-refusal}
 use borrow.Author.Needs.{needs}
-use Rattle.writing.proofs.told.Statement.{statement}
-use Rattle.writing.proofs.told.Tie as tie
-use Rattle.writing.proofs.told.Reads as reads
-use Rattle.writing.proofs.told.Lts as lts
+use Rattle.telling.proofs.told.Statement.{statement}
+use Rattle.telling.proofs.told.Tie as tie
+use Rattle.telling.proofs.told.Reads as reads
+use Rattle.telling.proofs.told.Lts as lts
 
 enum-known-answer : tie.Need-enum-known-answer
 enum-known-answer c = search needs

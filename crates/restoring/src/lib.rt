@@ -1,0 +1,13 @@
+// Rewrite for C, in a library of its own: each writer, called in one place alone, is compiled into the loop over records.
+use telling::told;
+ghost use Rattle.note.specs.Writers.{rewriteWrote, rewriteOutput};
+ghost use Rattle.telling.specs.Told.{Told};
+
+/// Rewrite: an accepted file written again from its fields, from byte 0 of the output on.
+#[no_mangle]
+pub extern "C" fn dwj_rewrite(file: &[u8], out: &mut [u8], next: &mut u64, refusal: &mut u64) -> u32
+    ensures { λ r. ⌜ Told (rewriteWrote (now (file .entry)) (now (out .entry))) (rewriteOutput (now (file .entry)) (now (out .entry))) r (now (out .exit)) (now (next .entry)) (now (next .exit)) (now (refusal .entry)) (now (refusal .exit)) ⌝ }
+{
+    let answer = dwejrasq::rewrite(file, out);
+    told(answer, next, refusal)
+}

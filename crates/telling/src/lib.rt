@@ -1,0 +1,19 @@
+// A writer's answer, for C: a number, and two lent numbers.
+use note::WriterAnswer;
+ghost use Rattle.telling.specs.Told.{Tells};
+
+/// The number; the next place, or the refusal's place lent.
+pub fn told(answer: WriterAnswer, next: &mut u64, refusal: &mut u64) -> u32
+    ensures { λ n. ⌜ Tells answer n (now (next .entry)) (now (next .exit)) (now (refusal .entry)) (now (refusal .exit)) ⌝ }
+{
+    match answer {
+        WriterAnswer::Next { place } => {
+            *next = place as u64;
+            0
+        }
+        WriterAnswer::Refused { number, place } => {
+            *refusal = place as u64;
+            number
+        }
+    }
+}
