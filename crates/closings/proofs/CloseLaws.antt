@@ -10,14 +10,14 @@ use lib.Seq.{sets}
 use Rattle.theory.specs.Words.{bytes, put, puts}
 use Rattle.theory.specs.Tests.{Res, ok, bad, need, bind, unless}
 use Rattle.theory.proofs.WordLaws.{length-puts}
-use Rattle.theory.proofs.TestLaws.{bind-ok, need-ok}
+use Rattle.theory.proofs.TestLaws.{bind-ok}
 use Rattle.note.specs.Words.{order, words}
 use Rattle.note.specs.Answers.{Given, accepted, refused, counts, givenWriter}
 use Rattle.note.specs.Records.{Record, Context, entry, event, none, readRecords}
 use Rattle.note.specs.Events.{eventWord, eventFault}
 use Rattle.note.specs.Files.{fileMark, versionWord, headerBytes, configurationWord}
 use Rattle.note.specs.Writers.{writerGiven, written, contentsOf, ended, closingBytes, headerWrote, headerOutput, configurationClosed, configurationOutput, eventClosed, eventOutput}
-use Rattle.demands.proofs.ClosingLaws.{admitted, configuration-checked, event-checked, within-ok}
+use Rattle.demands.proofs.ClosingLaws.{admitted}
 use Rattle.note.specs.declared.WriterAnswer.{WriterAnswer}
 use Rattle.note.specs.declared.WriterAnswer.the-variants.{Next, Refused}
 use Rattle.stores.proofs.WriterLaws.{next-told, refusal-told, kept, stored}
@@ -107,7 +107,7 @@ bytes-unasked (ok next) out place a b h = ap (λ (x : List ℕ). take place out 
 bytes-unasked (bad c p) out place a b h = refl
 
 -- The first word of an admitted class, category and type has room for them.
-word-whole : (class category type : ℕ) → eventFault class category type ≡ 0 → eventWord (class % 16) (category % 16) (type % 256) ≡ eventWord class category type
+pub word-whole : (class category type : ℕ) → eventFault class category type ≡ 0 → eventWord (class % 16) (category % 16) (type % 256) ≡ eventWord class category type
 word-whole class category type e = let (a, b, c) = admitted class category type e in omega arith
 
 module _ (out : List ℕ) (place end class category type : ℕ) where
@@ -127,32 +127,3 @@ module _ (out : List ℕ) (place end class category type : ℕ) where
       let own : after ≡ written r out place (closingBytes (eventWord class category type) place end) =
       s .1 ∙ ap (λ (x : Res ℕ). written x out place (closingBytes word place end)) same ∙ bytes-unasked r out place _ _ words-same in
       (s .0 ∙ ap writerGiven (same ∙ is), own ∙ ap (λ (x : Res ℕ). written x out place (closingBytes (eventWord class category type) place end)) is)
-
--- ---- known to be accepted
-
-written-here : (out : List ℕ) (place end : ℕ) (w : Res ℕ) (bytes : List ℕ) → w ≡ ok end → place + length bytes ≤ length out → sets out place bytes ≡ written w out place bytes
-unfolding givenWriter writerGiven
-written-here out place end w bytes e l = stored out place w bytes {r = Next end} refl (sym (ap writerGiven e)) l
-
-event-clean : (out : List ℕ) (place end class category type next : ℕ) → eventClosed out place end class category type ≡ ok next → eventFault class category type ≡ 0
-unfolding eventClosed
-event-clean out place end class category type next e = need-ok (eventFault class category type) place _ (within-ok (length out) place end _ next e .3) .0
-
-closing-size : (word place end : ℕ) → length (closingBytes word place end) ≡ 8
-closing-size word place end = length-puts order 4 (word ∷ (end - (place + 8)) ∷ [])
-
-pub configuration-shut : (out : List ℕ) (place end : ℕ) → configurationClosed out place end ≡ ok end → sets out place (closingBytes configurationWord place end) ≡ configurationOutput out place end
-unfolding configurationOutput
-configuration-shut out place end e =
-    let k = configuration-checked out place end end e in
-    written-here out place end (configurationClosed out place end) (closingBytes configurationWord place end) e (omega (arith, closing-size configurationWord place end, k .room, k .wide))
-
-pub event-shut : (out : List ℕ) (place end class category type : ℕ) → eventClosed out place end class category type ≡ ok end
-    → (word : ℕ) → word ≡ eventWord (class % 16) (category % 16) (type % 256) → sets out place (closingBytes word place end) ≡ eventOutput out place end class category type
-unfolding eventOutput
-event-shut out place end class category type e word ew =
-    let k = event-checked out place end class category type end e in
-    let same : word ≡ eventWord class category type = ew ∙ word-whole class category type (event-clean out place end class category type end e) in
-    ap (λ (w : ℕ). sets out place (closingBytes w place end)) same
-    ∙ written-here out place end (eventClosed out place end class category type) (closingBytes (eventWord class category type) place end) e
-    (omega (arith, closing-size (eventWord class category type) place end, k .room, k .wide))

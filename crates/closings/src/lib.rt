@@ -16,10 +16,9 @@ ghost use mathlib.Core.Path.{_≡_};
 ghost use Prim.Native.Nat.{_+_, _*_, _%_, _^_, _≤_, _<_};
 ghost use lib.ListN.{length};
 ghost use lib.Seq.{sets};
-ghost use Rattle.theory.specs.Tests.{ok};
 ghost use Rattle.note.specs.Answers.{givenWriter};
-ghost use Rattle.note.specs.Events.{eventWord};
-ghost use Rattle.note.specs.Files.{versionWord};
+ghost use Rattle.note.specs.Events.{eventWord, eventFault};
+ghost use Rattle.note.specs.Files.{versionWord, configurationWord};
 ghost use Rattle.note.specs.Writers.{writerGiven, written, closingBytes, headerWrote, headerOutput, configurationClosed, configurationOutput, eventClosed, eventOutput};
 ghost use Rattle.record.specs.Steps.{contextOf};
 ghost use Rattle.closings.specs.Closing.{bounded, closed};
@@ -90,7 +89,7 @@ fn bounded(room: usize, place: usize, end: usize, fault: u32, least: usize) -> W
 }
 
 // Stores a container's two words in front of its contents.
-fn shut(out: &mut [u8], place: usize, end: usize, word: u32)
+fn put_head(out: &mut [u8], place: usize, end: usize, word: u32)
     requires { ⌜ (place + 8 ≤ end) × (end ≤ length (now out)) × (length (now out) ≤ 0x1000000) ⌝ }
     ensures { λ _. ⌜ now (out .exit) ≡ sets (now (out .entry)) place (closingBytes word place end) ⌝ }
 {
@@ -117,7 +116,7 @@ fn close(
             match records_in(&out[from..end], from, context) {
                 Count::Bad { number, place } => WriterAnswer::Refused { number, place },
                 Count::Good { count: _ } => {
-                    shut(out, place, end, word);
+                    put_head(out, place, end, word);
                     WriterAnswer::Next { place: next }
                 }
             }
@@ -166,18 +165,21 @@ pub fn close_event(
     )
 }
 
-/// Closes a configuration whose closing is known to be accepted: its contents are not read again.
-pub fn shut_configuration(out: &mut [u8], place: usize, end: usize)
-    requires { ⌜ configurationClosed (now out) place end ≡ ok end ⌝ }
-    ensures { λ _. ⌜ now (out .exit) ≡ configurationOutput (now (out .entry)) place end ⌝ }
+// ---- the closings' storing halves, for contents that were checked elsewhere
+
+/// Stores a configuration's two words in front of entries that end there, as its closing does.
+pub fn begin_configuration(out: &mut [u8], place: usize, end: usize)
+    requires { ⌜ (place + 8 ≤ end) × (end ≤ length (now out)) × (length (now out) ≤ 0x1000000) ⌝ }
+    ensures { λ _. ⌜ now (out .exit) ≡ sets (now (out .entry)) place (closingBytes configurationWord place end) ⌝ }
 {
-    shut(out, place, end, CONFIGURATION);
+    put_head(out, place, end, CONFIGURATION);
 }
 
-/// Closes an event whose closing is known to be accepted: its contents are not read again.
-pub fn shut_event(out: &mut [u8], place: usize, end: usize, class: u32, category: u32, kind: u32)
-    requires { ⌜ eventClosed (now out) place end class category kind ≡ ok end ⌝ }
-    ensures { λ _. ⌜ now (out .exit) ≡ eventOutput (now (out .entry)) place end class category kind ⌝ }
+/// Stores an event's two words in front of records that end there, as its closing does.
+pub fn begin_event(out: &mut [u8], place: usize, end: usize, class: u32, category: u32, kind: u32)
+    requires room { ⌜ (place + 8 ≤ end) × (end ≤ length (now out)) × (length (now out) ≤ 0x1000000) ⌝ }
+    requires word { ⌜ eventFault class category kind ≡ 0 ⌝ }
+    ensures { λ _. ⌜ now (out .exit) ≡ sets (now (out .entry)) place (closingBytes (eventWord class category kind) place end) ⌝ }
 {
-    shut(out, place, end, event_word(class, category, kind));
+    put_head(out, place, end, event_word(class, category, kind));
 }

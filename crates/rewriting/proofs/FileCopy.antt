@@ -5,7 +5,7 @@ use mathlib.Core.List.{List}
 use Prim.Native.Nat.{ℕ, _+_, _-_, _/_, _%_, _≤_}
 use native.Mathlib.Omega.{arith}
 use lib.ListN.{length, take, drop, length-drop}
-use lib.Seq.{length-take-le}
+use lib.Seq.{sets, length-take-le}
 use borrow.Author.Tests.{le-leb}
 use Rattle.theory.specs.Words.{Bytes}
 use Rattle.theory.specs.Tests.{ok}
@@ -15,8 +15,8 @@ use Rattle.note.specs.Limits.{fileLimit}
 use Rattle.note.specs.Words.{word}
 use Rattle.note.specs.Records.{entry, recordsBytes, readRecords}
 use Rattle.note.specs.Events.{Container, containerBytes, eventsBytes}
-use Rattle.note.specs.Files.{File, versionOf, configurationOf, eventsOf, format, versionWord, headerBytes, fileBytes}
-use Rattle.note.specs.Writers.{wrote, headerWrote, headerOutput, configurationClosed, configurationOutput}
+use Rattle.note.specs.Files.{File, versionOf, configurationOf, eventsOf, format, versionWord, headerBytes, configurationWord, fileBytes}
+use Rattle.note.specs.Writers.{wrote, headerWrote, headerOutput, closingBytes}
 use Rattle.demands.specs.Valid.{Valid}
 use Rattle.demands.specs.Outputs.{Laid}
 use Rattle.demands.proofs.Follows.{file-sound}
@@ -25,7 +25,7 @@ use Rattle.demands.proofs.WriterLaws.{header-laid}
 use Rattle.containers.proofs.RecordLoop.{left}
 use Rattle.containers.proofs.FileParts.{version-is, length-is, room, entries-read, events-part, events-read}
 use Rattle.rewriting.specs.Ready.{RecordsReady, EventsReady, FileReady, Stands}
-use Rattle.rewriting.proofs.ContainerCopy.{Laying, configuration-granted, configuration-copied}
+use Rattle.rewriting.proofs.ContainerCopy.{head-laid, container-copied}
 
 module _ (bs old : List ℕ) (h : Bytes bs) (r : FileReady bs (length old)) where
   abbrev tree : File
@@ -84,55 +84,53 @@ module _ (bs old : List ℕ) (h : Bytes bs) (r : FileReady bs (length old)) wher
       same-top : length top ≡ length old
       same-top = header .size
 
-      pub entries-ready : RecordsReady 16 entries (length top)
-      entries-ready = (
-        entry,
-        record {
-          is = conf .body;
-          reads = entries-found;
-          room = omega (arith, entries-size, end-fits, r .room, same-top);
-          limit = omega (arith, r .limit, same-top);
-        },
-      )
+      -- The configuration's two words have room.
+      pub begin-ready : (8 + 8 ≤ 16 + m) × (16 + m ≤ length top) × (length top ≤ fileLimit)
+      begin-ready = (omega arith, omega (arith, end-fits, r .room, same-top), omega (arith, r .limit, same-top))
 
-      laying : (mid : List ℕ) → Stands entries top 16 mid → Laying entry top mid 8 (16 + m) entries (conf .body)
-      laying mid stands =
-          let end : 16 + length entries ≡ 16 + m = ap (λ (n : ℕ). 16 + n) entries-size in
+      -- They were stored: its entries are next.
+      module _ (mid : List ℕ) (e : mid ≡ sets top 8 (closingBytes configurationWord 8 (16 + m))) where
+        begun : Laid top mid 8 16 (closingBytes configurationWord 8 (16 + m))
+        begun = head-laid top mid 8 (16 + m) configurationWord (begin-ready .0) (begin-ready .1) e
+
+        pub entries-ready : RecordsReady 16 entries (length mid)
+        entries-ready = (
+          entry,
           record {
-            laid = subst (λ (n : ℕ). Laid top mid 16 n entries) end stands;
-            bytes = Bytes-take (16 + m - 16) (drop 16 bs) (Bytes-drop 16 bs h);
+            is = conf .body;
             reads = entries-found;
-            room = omega (arith, end-fits, r .room, same-top);
-            limit = omega (arith, r .limit, same-top);
+            room = omega (arith, entries-size, begin-ready .1, begun .size);
+            limit = omega (arith, begin-ready .2, begun .size);
+          },
+        )
+
+        module _ (filled : List ℕ) (stands : Stands entries mid 16 filled) where
+          configuration-laid : Laid top filled 8 (16 + m) (containerBytes conf)
+          configuration-laid =
+              let end : 16 + length entries ≡ 16 + m = ap (λ (n : ℕ). 16 + n) entries-size in
+              subst (λ (w : ℕ). Laid top filled 8 (16 + m) (containerBytes (record { kind = w; body = conf .body }))) (sym (sound .1 .configuration-word))
+              (container-copied top mid 8 (16 + m) configurationWord (begin-ready .0) (begin-ready .1) e
+              entry entries filled (conf .body) (Bytes-take (16 + m - 16) (drop 16 bs) (Bytes-drop 16 bs h)) entries-found
+              (subst (λ (n : ℕ). Laid mid filled 16 n entries) end stands))
+
+          same-filled : length filled ≡ length old
+          same-filled = configuration-laid .size ∙ same-top
+
+          pub events-ready : EventsReady (16 + m) behind (length filled)
+          events-ready = record {
+            is = eventsOf tree;
+            reads = events-read bs tree h (r .reads) (16 + m) (ap (λ (n : ℕ). 16 + n) em);
+            room = omega (arith, behind-size, end-fits, r .room, same-filled);
+            limit = omega (arith, r .limit, same-filled);
           }
 
-      pub granted : (mid : List ℕ) → Stands entries top 16 mid → configurationClosed mid 8 (16 + m) ≡ ok (16 + m)
-      granted mid stands = configuration-granted (laying mid stands)
-
-      module _ (mid : List ℕ) (stands : Stands entries top 16 mid) (shut : List ℕ) (e : shut ≡ configurationOutput mid 8 (16 + m)) where
-        configuration-laid : Laid top shut 8 (16 + m) (containerBytes conf)
-        configuration-laid =
-            subst (λ (w : ℕ). Laid top shut 8 (16 + m) (containerBytes (record { kind = w; body = conf .body }))) (sym (sound .1 .configuration-word))
-            (configuration-copied (laying mid stands) shut e)
-
-        same-shut : length shut ≡ length old
-        same-shut = configuration-laid .size ∙ same-top
-
-        pub events-ready : EventsReady (16 + m) behind (length shut)
-        events-ready = record {
-          is = eventsOf tree;
-          reads = events-read bs tree h (r .reads) (16 + m) (ap (λ (n : ℕ). 16 + n) em);
-          room = omega (arith, behind-size, end-fits, r .room, same-shut);
-          limit = omega (arith, r .limit, same-shut);
-        }
-
-        pub file-copied : (new : List ℕ) → Stands behind shut (16 + m) new → Stands bs old 0 new
-        file-copied new last =
-            let end : 16 + m + length behind ≡ 0 + length bs = omega (arith, behind-size, end-fits) in
-            let events : Laid shut new (16 + m) (0 + length bs) (eventsBytes (eventsOf tree)) =
-            subst (λ (x : List ℕ). Laid shut new (16 + m) (0 + length bs) x) (events-part bs tree h (r .reads) (16 + m) (ap (λ (n : ℕ). 16 + n) em))
-            (subst (λ (n : ℕ). Laid shut new (16 + m) n behind) end last) in
-            let rest = both-laid top shut new (containerBytes conf) (eventsBytes (eventsOf tree)) 8 (16 + m) (0 + length bs)
-            (omega (arith, end-fits, r .room, same-top)) configuration-laid events in
-            subst (λ (x : List ℕ). Laid old new 0 (0 + length bs) x) (sym (sound .0))
-            (both-laid old top new (headerBytes (versionOf tree)) _ 0 8 (0 + length bs) (omega (arith, words-fit, r .room)) header rest)
+          pub file-copied : (new : List ℕ) → Stands behind filled (16 + m) new → Stands bs old 0 new
+          file-copied new last =
+              let end : 16 + m + length behind ≡ 0 + length bs = omega (arith, behind-size, end-fits) in
+              let events : Laid filled new (16 + m) (0 + length bs) (eventsBytes (eventsOf tree)) =
+              subst (λ (x : List ℕ). Laid filled new (16 + m) (0 + length bs) x) (events-part bs tree h (r .reads) (16 + m) (ap (λ (n : ℕ). 16 + n) em))
+              (subst (λ (n : ℕ). Laid filled new (16 + m) n behind) end last) in
+              let rest = both-laid top filled new (containerBytes conf) (eventsBytes (eventsOf tree)) 8 (16 + m) (0 + length bs)
+              (omega (arith, end-fits, r .room, same-top)) configuration-laid events in
+              subst (λ (x : List ℕ). Laid old new 0 (0 + length bs) x) (sym (sound .0))
+              (both-laid old top new (headerBytes (versionOf tree)) _ 0 8 (0 + length bs) (omega (arith, words-fit, r .room)) header rest)

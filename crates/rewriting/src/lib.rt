@@ -1,12 +1,11 @@
 // Rewrite: the fields of an accepted file, read and written again through the writers, the header's writer and the closings' storing halves,
-// from byte 0.
+// from byte 0 on.
 // The file is checked first and the output has room, so nothing refuses behind the first store, and places in the output are the file's.
-use closings::shut_configuration;
-use closings::shut_event;
+use closings::begin_configuration;
+use closings::begin_event;
 use closings::write_header;
 use containers::Count;
 use containers::check;
-use containers::fetch_heads;
 use copies::copy_record;
 use fields::category_of;
 use fields::class_of;
@@ -35,7 +34,7 @@ fn copy_records(part: &[u8], out: &mut [u8], place: usize)
     }
 }
 
-// Writes again the events that fill a part: each one's records behind eight free bytes, then its closing.
+// Writes again the events that fill a part: each one's two words, then its records. So the output is stored from its first byte to its last.
 fn copy_events(part: &[u8], out: &mut [u8], place: usize)
     requires { ⌜ EventsReady place (now part) (length (now out)) ⌝ }
     ensures { λ _. ⌜ Stands (now (part .entry)) (now (out .entry)) place (now (out .exit)) ⌝ }
@@ -46,11 +45,11 @@ fn copy_events(part: &[u8], out: &mut [u8], place: usize)
         let word = word_at(rest, 0);
         let size = 8 + word_at(rest, 4) as usize;
         let end = at + size;
-        copy_records(&rest[8..size], out, at + 8);
         let class = class_of(word);
         let category = category_of(word);
         let kind = event_type_of(word);
-        shut_event(out, at, end, class, category, kind);
+        begin_event(out, at, end, class, category, kind);
+        copy_records(&rest[8..size], out, at + 8);
         rest = &rest[size..];
         at = end;
     }
@@ -66,40 +65,9 @@ fn copy_file(file: &[u8], out: &mut [u8])
     let major = ((version >> 24) & 255) as u8;
     let minor = ((version >> 16) & 255) as u8;
     write_header(out, major, minor);
+    begin_configuration(out, 8, end);
     copy_records(&file[16..end], out, 16);
-    shut_configuration(out, 8, end);
     copy_events(&file[end..], out, end);
-}
-
-// Contents of so many bytes lie in more than one page of memory.
-const FAR: usize = 4096;
-
-// Fetches the heads of the records of a file's events, before the file is checked, up to the first event whose records lie near each other. It
-// answers and changes nothing.
-fn fetch_file(file: &[u8]) {
-    if file.len() < 16 {
-        return;
-    }
-    if file.len() > FILE_LIMIT {
-        return;
-    }
-    let from = 16 + word_at(file, 12) as usize;
-    if file.len() < from {
-        return;
-    }
-    let mut rest = &file[from..];
-    while 8 <= rest.len() {
-        let length = word_at(rest, 4) as usize;
-        if length < FAR {
-            return;
-        }
-        if rest.len() - 8 < length {
-            return;
-        }
-        let end = 8 + length;
-        fetch_heads(&rest[8..end]);
-        rest = &rest[end..];
-    }
 }
 
 /// Rewrite: reads an accepted file's fields and writes them from byte 0 on; answers the next place. 1 for either buffer, the file's refusal,
@@ -114,7 +82,6 @@ pub fn rewrite(file: &[u8], out: &mut [u8]) -> WriterAnswer
             place: 0,
         };
     }
-    fetch_file(file);
     match check(file) {
         Count::Bad { number, place } => WriterAnswer::Refused { number, place },
         Count::Good { count: _ } => {

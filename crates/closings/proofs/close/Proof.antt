@@ -19,7 +19,7 @@ use Rattle.closings.proofs.close.Reads as reads
 use Rattle.closings.proofs.close.Lts as lts
 use Rattle.closings.proofs.bounded.Reads as bounded-reads
 use Rattle.containers.proofs.records_in.Reads as records-in-reads
-use Rattle.closings.proofs.shut.Reads as shut-reads
+use Rattle.closings.proofs.put_head.Reads as put-head-reads
 
 -- Where the end was answered: what `bounded` said, and what that tells.
 abbrev start : tie.After-next → tie.Start
@@ -67,8 +67,8 @@ enum-known-number-2 c = search needs
 enum-told : tie.Need-enum-told
 enum-told c = search needs
 
-shut-requires : tie.Need-shut-requires
-shut-requires c κs = let k = told (c .before .before .before .before .before .before .before) in (k .wide, k .room, k .limit)
+put-head-requires : tie.Need-put-head-requires
+put-head-requires c κs = let k = told (c .before .before .before .before .before .before .before) in (k .wide, k .room, k .limit)
 
 returns : tie.Need-returns
 unfolding givenWriter
@@ -92,7 +92,7 @@ returns-3 c =
     let next = c .before .before .before .before .before .before .before .before .before .before in
     let k = told next in
     let end = shuts _ _ _ _ _ _ _ _ _ (said next) (sym (c .before .before .before .before .enum-told .given .1) ∙ c .before .before .before .before .before .before .records-in .ensures) (omega (arith, k .room, k .wide)) in
-    (end .0, c .before .before .shut .ensures ∙ end .1)
+    (end .0, c .before .before .put-head .ensures ∙ end .1)
 
 pub close-spec : {M : Type 1} → statement M
 close-spec =
@@ -108,7 +108,7 @@ close-spec =
     records-in-requires
     enum-known-number-2
     enum-told
-    shut-requires
+    put-head-requires
     returns
     same-length
     returns-2

@@ -1,5 +1,5 @@
 -- `rewriting::copy_events` meets its contract: what was written and what is left are the part, turn by turn.
--- The idea: the loop's laws answer each need; an event's records stand in the output when it is closed.
+-- The idea: the loop's laws answer each need; an event's two words stand in front of its records when these are written.
 use mathlib.Core.Path.{refl, sym, _∙_}
 use Prim.Native.Nat.{_+_, _≤_}
 use native.Mathlib.Omega.{arith}
@@ -9,13 +9,13 @@ use Rattle.theory.proofs.WordLaws.{Bytes-from}
 use Rattle.note.specs.Limits.{fileLimit}
 use Rattle.demands.proofs.Bundles.{eventItem, same-events}
 use Rattle.rewriting.proofs.CopyLoop.{Copying, begin, ended}
-use Rattle.rewriting.proofs.EventCopy.{event-turn, records-ready, granted, event-next}
+use Rattle.rewriting.proofs.EventCopy.{event-turn, begin-ready, records-ready, event-next}
 use borrow.Author.Needs.{needs}
 use Rattle.rewriting.proofs.copy_events.Statement.{statement}
 use Rattle.rewriting.proofs.copy_events.Tie as tie
 use Rattle.rewriting.proofs.copy_events.Reads as reads
 use Rattle.rewriting.proofs.copy_events.Lts as lts
-use Rattle.closings.proofs.shut_event.Reads as shut-event-reads
+use Rattle.closings.proofs.begin_event.Reads as begin-event-reads
 use Rattle.fields.proofs.category_of.Reads as category-of-reads
 use Rattle.fields.proofs.class_of.Reads as class-of-reads
 use Rattle.fields.proofs.event_type_of.Reads as event-type-of-reads
@@ -54,24 +54,6 @@ add-size c = let (fits, limit) = sized c in omega (arith, limit)
 add-end : tie.Need-add-end Inv-loop μ-loop
 add-end c = let (fits, limit) = sized c in omega (arith, limit)
 
-sub-copy-records : tie.Need-sub-copy-records Inv-loop μ-loop
-sub-copy-records c = search needs
-
-part-copy-records-start : tie.Need-part-copy-records-start Inv-loop μ-loop
-part-copy-records-start c = search needs
-
-part-copy-records-end : tie.Need-part-copy-records-end Inv-loop μ-loop
-part-copy-records-end c = sized c .0
-
-add-copy-records : tie.Need-add-copy-records Inv-loop μ-loop
-add-copy-records c = let (fits, limit) = sized (c .before .before) in omega (arith, limit)
-
-copy-records-requires : tie.Need-copy-records-requires Inv-loop μ-loop
-copy-records-requires c κs =
-    let read = c .before .before in
-    let turn = read .before .before in
-    records-ready (turn .before .loop .inv) (turn .loop-test .taken) _ _ (read .before .word-at .ensures) (read .word-at2 .ensures)
-
 class-of-requires : tie.Need-class-of-requires Inv-loop μ-loop
 class-of-requires c κs = search needs
 
@@ -81,8 +63,34 @@ category-of-requires c κs = search needs
 event-type-of-requires : tie.Need-event-type-of-requires Inv-loop μ-loop
 event-type-of-requires c κs = search needs
 
-shut-event-requires : tie.Need-shut-event-requires Inv-loop μ-loop
-shut-event-requires c κs = granted (c .before .before .before .before .before .before .before .before .before .before .before .before .loop .inv) (c .before .before .before .before .before .before .before .before .before .before .before .loop-test .taken) _ _ (c .before .before .before .before .before .before .before .before .before .before .word-at .ensures) (c .before .before .before .before .before .before .before .before .before .word-at2 .ensures) _ _ _ (c .before .before .before .class-of .ensures) (c .before .before .category-of .ensures) (c .before .event-type-of .ensures) _ (c .before .before .before .before .before .before .copy-records .ensures)
+begin-event-requires : tie.Need-begin-event-requires Inv-loop μ-loop
+begin-event-requires c κs =
+    let apart = c .before in
+    let read = apart .before .before .before in
+    let turn = read .before .before in
+    begin-ready (turn .before .loop .inv) (turn .loop-test .taken) _ _ (read .before .word-at .ensures) (read .word-at2 .ensures)
+    _ _ _ (apart .before .before .class-of .ensures) (apart .before .category-of .ensures) (apart .event-type-of .ensures)
+
+sub-copy-records : tie.Need-sub-copy-records Inv-loop μ-loop
+sub-copy-records c = search needs
+
+part-copy-records-start : tie.Need-part-copy-records-start Inv-loop μ-loop
+part-copy-records-start c = search needs
+
+part-copy-records-end : tie.Need-part-copy-records-end Inv-loop μ-loop
+part-copy-records-end c = sized (c .before .before .before .before .before .before .before) .0
+
+add-copy-records : tie.Need-add-copy-records Inv-loop μ-loop
+add-copy-records c = let (fits, limit) = sized (c .before .before .before .before .before .before .before .before .before) in omega (arith, limit)
+
+copy-records-requires : tie.Need-copy-records-requires Inv-loop μ-loop
+copy-records-requires c κs =
+    let begun = c .before .before .before .before in
+    let apart = begun .before .before in
+    let read = apart .before .before .before in
+    let turn = read .before .before in
+    records-ready (turn .before .loop .inv) (turn .loop-test .taken) _ _ (read .before .word-at .ensures) (read .word-at2 .ensures)
+    _ _ _ (apart .before .before .class-of .ensures) (apart .before .category-of .ensures) (apart .event-type-of .ensures) _ (begun .begin-event .ensures)
 
 sub-rest : tie.Need-sub-rest Inv-loop μ-loop
 sub-rest c = sized (c .before .before .before .before .before .before .before .before .before .before .before .before) .0
@@ -98,12 +106,14 @@ loop-less c = let (fits, limit) = sized (c .before .before .before .before .befo
 
 loop-again : tie.Need-loop-again Inv-loop μ-loop
 loop-again c =
-    let class = c .before .before .before .before .before .before .before in
-    let filled = class .before .before .before in
-    let read = filled .before .before .before in
+    let filled = c .before .before .before in
+    let begun = filled .before .before .before .before .before in
+    let apart = begun .before .before in
+    let read = apart .before .before .before in
     let turn = read .before .before in
-    event-next (turn .before .loop .inv) (turn .loop-test .taken) _ _ (read .before .word-at .ensures) (read .word-at2 .ensures) _ _ _
-    (class .class-of .ensures) (c .before .before .before .before .before .before .category-of .ensures) (c .before .before .before .before .before .event-type-of .ensures) _ (filled .copy-records .ensures) _ (c .before .before .before .shut-event .ensures)
+    event-next (turn .before .loop .inv) (turn .loop-test .taken) _ _ (read .before .word-at .ensures) (read .word-at2 .ensures)
+    _ _ _ (apart .before .before .class-of .ensures) (apart .before .category-of .ensures) (apart .event-type-of .ensures) _ (begun .begin-event .ensures)
+    _ (filled .copy-records .ensures)
 
 same-length : tie.Need-same-length Inv-loop μ-loop
 same-length c = c .before .loop .inv .laid .size
@@ -123,15 +133,15 @@ copy-events-spec =
     cast-size
     add-size
     add-end
+    class-of-requires
+    category-of-requires
+    event-type-of-requires
+    begin-event-requires
     sub-copy-records
     part-copy-records-start
     part-copy-records-end
     add-copy-records
     copy-records-requires
-    class-of-requires
-    category-of-requires
-    event-type-of-requires
-    shut-event-requires
     sub-rest
     part-rest-start
     part-rest-end

@@ -9,13 +9,13 @@ use Rattle.theory.specs.Words.{Bytes}
 use Rattle.theory.proofs.WordLaws.{Bytes-from}
 use Rattle.note.specs.Files.{versionOf, headerBytes}
 use Rattle.demands.specs.Outputs.{Laid}
-use Rattle.rewriting.proofs.FileCopy.{words-fit, header-copied, end-fits, entries-ready, granted, events-ready, file-copied}
+use Rattle.rewriting.proofs.FileCopy.{words-fit, header-copied, end-fits, begin-ready, entries-ready, events-ready, file-copied}
 use borrow.Author.Needs.{needs}
 use Rattle.rewriting.proofs.copy_file.Statement.{statement}
 use Rattle.rewriting.proofs.copy_file.Tie as tie
 use Rattle.rewriting.proofs.copy_file.Reads as reads
 use Rattle.rewriting.proofs.copy_file.Lts as lts
-use Rattle.closings.proofs.shut_configuration.Reads as shut-configuration-reads
+use Rattle.closings.proofs.begin_configuration.Reads as begin-configuration-reads
 use Rattle.closings.proofs.write_header.Reads as write-header-reads
 use Rattle.rewriting.proofs.copy_events.Reads as copy-events-reads
 use Rattle.rewriting.proofs.copy_records.Reads as copy-records-reads
@@ -64,6 +64,12 @@ cast-minor c = record { fits = omega (arith, and-mask (c .before .word-at .resul
 write-header-requires : tie.Need-write-header-requires
 write-header-requires c κs = search needs
 
+begin-configuration-requires : tie.Need-begin-configuration-requires
+begin-configuration-requires c κs =
+    let top = c .before .before .before in
+    let read = top .before .before in
+    begin-ready _ _ (held (read .before .before)) (start top .pre) _ (read .word-at2 .ensures) _ (header top)
+
 sub-copy-records : tie.Need-sub-copy-records
 sub-copy-records c = search needs
 
@@ -71,20 +77,14 @@ part-copy-records-start : tie.Need-part-copy-records-start
 part-copy-records-start c = search needs
 
 part-copy-records-end : tie.Need-part-copy-records-end
-part-copy-records-end c = ending (c .before .before .before .before)
+part-copy-records-end c = ending (c .before .before .before .before .before .before .before .before)
 
 copy-records-requires : tie.Need-copy-records-requires
 copy-records-requires c κs =
-    let top = c .before .before .before .before in
+    let begun = c .before .before .before .before in
+    let top = begun .before .before .before .before in
     let read = top .before .before in
-    entries-ready _ _ (held (read .before .before)) (start top .pre) _ (read .word-at2 .ensures) _ (header top)
-
-shut-configuration-requires : tie.Need-shut-configuration-requires
-shut-configuration-requires c κs =
-    let filled = c .before .before .before in
-    let top = filled .before .before .before .before .before in
-    let read = top .before .before in
-    granted _ _ (held (read .before .before)) (start top .pre) _ (read .word-at2 .ensures) _ (header top) _ (filled .copy-records .ensures)
+    entries-ready _ _ (held (read .before .before)) (start top .pre) _ (read .word-at2 .ensures) _ (header top) _ (begun .begin-configuration .ensures)
 
 sub-copy-events : tie.Need-sub-copy-events
 sub-copy-events c = ending (c .before .before .before .before .before .before .before .before .before .before .before .before .before)
@@ -97,24 +97,24 @@ part-copy-events-end c = search needs
 
 copy-events-requires : tie.Need-copy-events-requires
 copy-events-requires c κs =
-    let shut = c .before .before .before .before in
-    let filled = shut .before .before .before .before in
-    let top = filled .before .before .before .before .before in
+    let filled = c .before .before .before .before in
+    let begun = filled .before .before .before .before .before in
+    let top = begun .before .before .before .before in
     let read = top .before .before in
     events-ready _ _ (held (read .before .before)) (start top .pre) _ (read .word-at2 .ensures) _ (header top)
-    _ (filled .copy-records .ensures) _ (shut .shut-configuration .ensures)
+    _ (begun .begin-configuration .ensures) _ (filled .copy-records .ensures)
 
 same-length : tie.Need-same-length
 same-length c = search needs
 
 returns : tie.Need-returns
 returns c =
-    let shut = c .before .before .before .before .before .before .before in
-    let filled = shut .before .before .before .before in
-    let top = filled .before .before .before .before .before in
+    let filled = c .before .before .before .before .before .before .before in
+    let begun = filled .before .before .before .before .before in
+    let top = begun .before .before .before .before in
     let read = top .before .before in
     file-copied _ _ (held (read .before .before)) (start top .pre) _ (read .word-at2 .ensures) _ (header top)
-    _ (filled .copy-records .ensures) _ (shut .shut-configuration .ensures) _ (c .before .before .copy-events .ensures)
+    _ (begun .begin-configuration .ensures) _ (filled .copy-records .ensures) _ (c .before .before .copy-events .ensures)
 
 pub copy-file-spec : {M : Type 1} → statement M
 copy-file-spec =
@@ -127,11 +127,11 @@ copy-file-spec =
     cast-major
     cast-minor
     write-header-requires
+    begin-configuration-requires
     sub-copy-records
     part-copy-records-start
     part-copy-records-end
     copy-records-requires
-    shut-configuration-requires
     sub-copy-events
     part-copy-events-start
     part-copy-events-end

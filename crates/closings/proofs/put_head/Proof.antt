@@ -8,10 +8,10 @@ use denote.Ref.{now}
 use lib.Seq.{sets}
 use Rattle.note.specs.Words.{words}
 use borrow.Author.Needs.{needs}
-use Rattle.closings.proofs.shut.Statement.{statement}
-use Rattle.closings.proofs.shut.Tie as tie
-use Rattle.closings.proofs.shut.Reads as reads
-use Rattle.closings.proofs.shut.Lts as lts
+use Rattle.closings.proofs.put_head.Statement.{statement}
+use Rattle.closings.proofs.put_head.Tie as tie
+use Rattle.closings.proofs.put_head.Reads as reads
+use Rattle.closings.proofs.put_head.Lts as lts
 use Rattle.stores.proofs.put_words.Reads as put-words-reads
 
 sub-t9 : tie.Need-sub-t9
@@ -35,8 +35,8 @@ same-length c = search needs
 returns : tie.Need-returns
 returns c = let a = c .before .before .before .before .before .before .args in let n : a .end - a .place - 8 ≡ a .end - (a .place + 8) = omega arith in c .before .before .put-words .ensures ∙ ap (λ (m : ℕ). sets (now (a .out)) (a .place) (words (a .word ∷ m ∷ []))) n
 
-pub shut-spec : {M : Type 1} → statement M
-shut-spec =
+pub put-head-spec : {M : Type 1} → statement M
+put-head-spec =
     tie.close
     (tie.spec
     sub-t9
