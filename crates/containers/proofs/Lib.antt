@@ -1,4 +1,5 @@
 pub mod RecordLoop
+pub mod RunLaws
 pub mod ContainerLaws
 pub mod EventLoop
 pub mod FileLaws

@@ -10,6 +10,7 @@ ghost use mathlib.Core.Path.{_≡_};
 ghost use mathlib.Core.Bool.{true};
 ghost use Prim.Native.Nat.{_+_, _≤_};
 ghost use lib.ListN.{length};
+ghost use Rattle.note.specs.Words.{word};
 ghost use Rattle.note.specs.Records.{readRecords};
 ghost use Rattle.note.specs.Events.{readEvent, readEvents};
 ghost use Rattle.note.specs.Files.{readConfiguration, readFile};
@@ -43,49 +44,30 @@ pub enum Holding {
     },
 }
 
-// ---- heads of records, fetched ahead
+// ---- containers
 
-// Whether a structure with this length word stands whole at the front of a part.
-fn is_alike(part: &[u8], known: usize) -> bool
-    ensures { λ r. ⌜ (r ≡ true → 8 + known ≤ length (now (part .entry))) ⌝ }
+// The length word at the front of a part; 0 where there is none.
+fn length_at(part: &[u8]) -> usize
+    ensures { λ r. ⌜ (8 ≤ length (now (part .entry)) → r ≡ word 4 (now (part .entry))) ⌝ }
 {
     if part.len() < 8 {
-        return false;
+        return 0;
     }
-    if part.len() - 8 < known {
+    word_at(part, 4) as usize
+}
+
+// Whether a part goes on with a structure of this length word.
+fn is_alike(part: &[u8], known: usize) -> bool
+    ensures { λ r. ⌜ (r ≡ true → (8 ≤ length (now (part .entry))) × (known ≡ word 4 (now (part .entry)))) ⌝ }
+{
+    if part.len() < 8 {
         return false;
     }
     word_at(part, 4) as usize == known
 }
 
-// How many bytes the structures have that stand at the front of a part, one after the other, with this length word. The step to the next
-// is known before the next is read: memory is asked for many at a time.
-fn alike_size(part: &[u8], known: usize) -> usize
-    ensures { λ r. ⌜ r ≤ length (now (part .entry)) ⌝ }
-{
-    let mut rest = part;
-    while is_alike(rest, known) {
-        rest = &rest[8 + known..];
-    }
-    part.len() - rest.len()
-}
-
-/// Fetches the heads of the structures that fill a part. It answers and changes nothing; what reads them next finds them near.
-pub fn fetch_heads(part: &[u8]) {
-    let mut rest = part;
-    while 8 <= rest.len() {
-        let known = word_at(rest, 4) as usize;
-        if rest.len() - 8 < known {
-            return;
-        }
-        let behind = &rest[8 + known..];
-        rest = &behind[alike_size(behind, known)..];
-    }
-}
-
-// ---- containers
-
-/// How many records fill a part whose first byte stands at `from`.
+/// How many records fill a part whose first byte stands at `from`. Over a run of records of one length the step to the next is known, and a
+/// record's own length word is only compared with it: memory is asked for many records at a time.
 pub fn records_in(part: &[u8], from: usize, context: Context) -> Count
     requires { ⌜ from + length (now part) ≤ 0x1000000 ⌝ }
     ensures { λ r. ⌜ r ≡ recordCount (readRecords (contextOf context) from (now (part .entry))) ⌝ }
@@ -95,14 +77,19 @@ pub fn records_in(part: &[u8], from: usize, context: Context) -> Count
     let mut count = 0;
     let mut state = context;
     while 0 < rest.len() {
-        match record_in(rest, at, state) {
-            Step::Bad { number, place } => return Count::Bad { number, place },
-            Step::Good { kind, length } => {
-                let size = 8 + length;
-                state = next_context(state, kind);
-                rest = &rest[size..];
-                at = at + size;
-                count = count + 1;
+        let known = length_at(rest);
+        let mut more = true;
+        while more {
+            match record_in(rest, at, state) {
+                Step::Bad { number, place } => return Count::Bad { number, place },
+                Step::Good { kind, length: _ } => {
+                    let size = 8 + known;
+                    state = next_context(state, kind);
+                    rest = &rest[size..];
+                    at = at + size;
+                    count = count + 1;
+                    more = is_alike(rest, known);
+                }
             }
         }
     }

@@ -1,17 +1,29 @@
--- The loop's laws answer each need: so many records were read, and the rest is read as from here.
+-- The laws of a run answer the needs within it, those of the loop over records the others.
 use mathlib.Core.Path.{_≡_, sym, _∙_}
+use Prim.Native.Nat.{_+_, _≤_}
 use native.Mathlib.Omega.{arith}
 use denote.Ref.{now}
 use lib.ListN.{length}
 use borrow.Author.Needs.{needs}
 use Rattle.record.specs.Steps.{contextOf}
-use Rattle.containers.proofs.RecordLoop.{Counting, begin, place, low, done, refused, fits, next}
+use Rattle.containers.proofs.RecordLoop as loop
+use Rattle.containers.proofs.RecordLoop.{Counting}
+use Rattle.containers.proofs.RunLaws.{Run, begin, refused, fits, next}
 use Rattle.containers.proofs.records_in.Statement.{statement}
 use Rattle.containers.proofs.records_in.Tie as tie
 use Rattle.containers.proofs.records_in.Reads as reads
 use Rattle.containers.proofs.records_in.Lts as lts
+use Rattle.containers.proofs.is_alike.Reads as is-alike-reads
+use Rattle.containers.proofs.length_at.Reads as length-at-reads
 use Rattle.record.proofs.next_context.Reads as next-context-reads
 use Rattle.record.proofs.record_in.Reads as record-in-reads
+
+abbrev Inv-loop2 : tie.InvT-loop2
+Inv-loop2 part from rest₀ at₀ count₀ state₀ known more₀ rest at count state more =
+    Run from part (contextOf state₀) at₀ rest₀ count₀ known (contextOf state) at rest count more
+
+abbrev μ-loop2 : tie.MeasureT-loop2
+μ-loop2 part from rest₀ at₀ count₀ state₀ known more₀ rest at count state more = length rest
 
 abbrev Inv-loop : tie.InvT-loop
 Inv-loop part from rest₀ at₀ count₀ state₀ rest at count state = Counting (contextOf state₀) from part (contextOf state) at rest count
@@ -19,58 +31,100 @@ Inv-loop part from rest₀ at₀ count₀ state₀ rest at count state = Countin
 abbrev μ-loop : tie.MeasureT-loop
 μ-loop part from rest₀ at₀ count₀ state₀ rest at count state = length rest
 
-loop-holds : tie.Need-loop-holds Inv-loop μ-loop
-loop-holds c = let a = c .before .args in begin (contextOf (a .context)) (a .from) (now (a .part))
+-- What was counted so far, in a run.
+counted : (c : tie.At-loop2 Inv-loop2 μ-loop2 Inv-loop μ-loop)
+    → Counting (contextOf (c .before .before .before .before .before .args .context)) (c .before .before .before .before .before .args .from)
+    (now (c .before .before .before .before .before .args .part)) (contextOf (c .loop2 .state)) (c .loop2 .at) (now (c .loop2 .rest)) (c .loop2 .count)
+counted c = c .loop2 .inv .counts _ (c .before .before .before .loop .inv)
 
-record-in-requires : tie.Need-record-in-requires Inv-loop μ-loop
-record-in-requires c κs = search needs
+-- The turn of a good record.
+abbrev turn : tie.After-kind Inv-loop2 μ-loop2 Inv-loop μ-loop → tie.In-loop2 Inv-loop2 μ-loop2 Inv-loop μ-loop
+turn c = c .before .before .before
 
-enum-known-number : tie.Need-enum-known-number Inv-loop μ-loop
+-- The known step over it stays in the rest.
+fit : (c : tie.After-kind Inv-loop2 μ-loop2 Inv-loop μ-loop)
+    → 8 + turn c .before .before .length-at .result ≤ length (now (turn c .before .loop2 .rest))
+fit c = fits (turn c .before .loop2 .inv) (turn c .loop2-test .taken) _ _ (sym (c .kind .given .1) ∙ c .before .before .record-in .ensures)
+
+loop-holds : tie.Need-loop-holds Inv-loop2 μ-loop2 Inv-loop μ-loop
+loop-holds c = let a = c .before .args in loop.begin (contextOf (a .context)) (a .from) (now (a .part))
+
+length-at-requires : tie.Need-length-at-requires Inv-loop2 μ-loop2 Inv-loop μ-loop
+length-at-requires c κs = search needs
+
+loop2-holds : tie.Need-loop2-holds Inv-loop2 μ-loop2 Inv-loop μ-loop
+loop2-holds c = begin _ _ _ _ _ _ _ (c .before .loop-test .taken, c .length-at .ensures)
+
+loop-less : tie.Need-loop-less Inv-loop2 μ-loop2 Inv-loop μ-loop
+loop-less c = c .before .loop2 .inv .shorter (c .loop2-test .left)
+
+loop-again : tie.Need-loop-again Inv-loop2 μ-loop2 Inv-loop μ-loop
+loop-again c = counted (c .before)
+
+record-in-requires : tie.Need-record-in-requires Inv-loop2 μ-loop2 Inv-loop μ-loop
+record-in-requires c κs = omega (arith, loop.place (counted (c .before)))
+
+enum-known-number : tie.Need-enum-known-number Inv-loop2 μ-loop2 Inv-loop μ-loop
 enum-known-number c = search needs
 
-returns : tie.Need-returns Inv-loop μ-loop
-returns c = refused (c .before .before .before .before .before .loop .inv) (c .before .before .before .before .loop-test .taken) _ _ (sym (c .before .number .given .1) ∙ c .before .before .before .record-in .ensures)
+returns : tie.Need-returns Inv-loop2 μ-loop2 Inv-loop μ-loop
+returns c =
+    let step = c .before .before .before in
+    refused (step .before .before .loop2 .inv) (step .before .loop2-test .taken) _ (step .before .before .before .before .before .loop .inv) _ _
+    (sym (c .before .number .given .1) ∙ step .record-in .ensures)
 
-enum-known-kind : tie.Need-enum-known-kind Inv-loop μ-loop
+enum-known-kind : tie.Need-enum-known-kind Inv-loop2 μ-loop2 Inv-loop μ-loop
 enum-known-kind c = search needs
 
-add-size : tie.Need-add-size Inv-loop μ-loop
-add-size c = omega (arith, fits (c .before .before .before .before .before .loop .inv) (c .before .before .before .before .loop-test .taken) _ _ (sym (c .before .kind .given .1) ∙ c .before .before .before .record-in .ensures), place (c .before .before .before .before .before .loop .inv))
+add-size : tie.Need-add-size Inv-loop2 μ-loop2 Inv-loop μ-loop
+add-size c = omega (arith, fit (c .before), loop.place (counted (turn (c .before) .before)))
 
-next-context-requires : tie.Need-next-context-requires Inv-loop μ-loop
+next-context-requires : tie.Need-next-context-requires Inv-loop2 μ-loop2 Inv-loop μ-loop
 next-context-requires c κs = search needs
 
-sub-rest : tie.Need-sub-rest Inv-loop μ-loop
-sub-rest c = fits (c .before .before .before .before .before .before .loop .inv) (c .before .before .before .before .before .loop-test .taken) _ _ (sym (c .before .before .kind .given .1) ∙ c .before .before .before .before .record-in .ensures)
+sub-rest : tie.Need-sub-rest Inv-loop2 μ-loop2 Inv-loop μ-loop
+sub-rest c = fit (c .before .before)
 
-part-rest-start : tie.Need-part-rest-start Inv-loop μ-loop
-part-rest-start c = fits (c .before .before .before .before .before .before .loop .inv) (c .before .before .before .before .before .loop-test .taken) _ _ (sym (c .before .before .kind .given .1) ∙ c .before .before .before .before .record-in .ensures)
+part-rest-start : tie.Need-part-rest-start Inv-loop2 μ-loop2 Inv-loop μ-loop
+part-rest-start c = fit (c .before .before)
 
-part-rest-end : tie.Need-part-rest-end Inv-loop μ-loop
+part-rest-end : tie.Need-part-rest-end Inv-loop2 μ-loop2 Inv-loop μ-loop
 part-rest-end c = search needs
 
-add-at : tie.Need-add-at Inv-loop μ-loop
-add-at c = omega (arith, fits (c .before .before .before .before .before .before .before .loop .inv) (c .before .before .before .before .before .before .loop-test .taken) _ _ (sym (c .before .before .before .kind .given .1) ∙ c .before .before .before .before .before .record-in .ensures), place (c .before .before .before .before .before .before .before .loop .inv))
+add-at : tie.Need-add-at Inv-loop2 μ-loop2 Inv-loop μ-loop
+add-at c = let good = c .before .before .before in omega (arith, fit good, loop.place (counted (turn good .before)))
 
-add-count : tie.Need-add-count Inv-loop μ-loop
-add-count c = omega (arith, low (c .before .before .before .before .before .before .before .loop .inv), place (c .before .before .before .before .before .before .before .loop .inv))
+add-count : tie.Need-add-count Inv-loop2 μ-loop2 Inv-loop μ-loop
+add-count c = let i = counted (turn (c .before .before .before) .before) in omega (arith, loop.low i, loop.place i)
 
-loop-less : tie.Need-loop-less Inv-loop μ-loop
-loop-less c = omega (arith, fits (c .before .before .before .before .before .before .before .loop .inv) (c .before .before .before .before .before .before .loop-test .taken) _ _ (sym (c .before .before .before .kind .given .1) ∙ c .before .before .before .before .before .record-in .ensures))
+is-alike-requires : tie.Need-is-alike-requires Inv-loop2 μ-loop2 Inv-loop μ-loop
+is-alike-requires c κs = search needs
 
-loop-again : tie.Need-loop-again Inv-loop μ-loop
-loop-again c = next (c .before .before .before .before .before .before .before .loop .inv) (c .before .before .before .before .before .before .loop-test .taken) _ _ (sym (c .before .before .before .kind .given .1) ∙ c .before .before .before .before .before .record-in .ensures) _ (c .before .next-context .ensures)
+loop2-less : tie.Need-loop2-less Inv-loop2 μ-loop2 Inv-loop μ-loop
+loop2-less c = omega (arith, fit (c .before .before .before .before))
 
-returns-2 : tie.Need-returns-2 Inv-loop μ-loop
-returns-2 c = done (c .before .loop .inv) (c .loop-test .left)
+loop2-again : tie.Need-loop2-again Inv-loop2 μ-loop2 Inv-loop μ-loop
+loop2-again c =
+    let good = c .before .before .before .before in
+    next (turn good .before .loop2 .inv) (turn good .loop2-test .taken) _ _ (sym (good .kind .given .1) ∙ good .before .before .record-in .ensures)
+    _ (c .before .before .next-context .ensures) _ (c .is-alike .ensures)
+
+returns-2 : tie.Need-returns-2 Inv-loop2 μ-loop2 Inv-loop μ-loop
+returns-2 c = loop.done (c .before .loop .inv) (c .loop-test .left)
 
 pub records-in-spec : {M : Type 1} → statement M
 records-in-spec =
     tie.close
     (tie.spec
+    Inv-loop2
+    μ-loop2
     Inv-loop
     μ-loop
     loop-holds
+    length-at-requires
+    loop2-holds
+    loop-less
+    loop-again
     record-in-requires
     enum-known-number
     returns
@@ -82,6 +136,7 @@ records-in-spec =
     part-rest-end
     add-at
     add-count
-    loop-less
-    loop-again
+    is-alike-requires
+    loop2-less
+    loop2-again
     returns-2)
