@@ -10,7 +10,7 @@ ghost use Rattle.note.specs.Words.{word};
 fn join(a: u8, b: u8, c: u8, d: u8) -> u32
     ensures { λ r. ⌜ r ≡ num (a ∷ b ∷ c ∷ d ∷ []) ⌝ }
 {
-    ((d as u32 * 256 + c as u32) * 256 + b as u32) * 256 + a as u32
+    a as u32 + b as u32 * 256 + c as u32 * 65536 + d as u32 * 16_777_216
 }
 
 /// The word at a place of the bytes.
