@@ -1,6 +1,7 @@
 //! bench: Table, Record and Find through the exports, against the outside implementation and a loop
 //! in C that only follows the length words. All sides in one run, on the same bytes, round by round; of each
-//! side the middle time counts: at its best a side may have found the memory idle for once.
+//! side the middle time counts: at its best a side may have found the memory idle for once. For Rewrite both
+//! are given.
 //!
 //! Table: the exports fill a row buffer that is made once, before the clock starts, and whose pages
 //! have been touched. The outside implementation has no such call: its `table` is timed as it is,
@@ -86,9 +87,9 @@ fn opaque<T>(value: T) -> T {
     value
 }
 
-// The sides in turn, round by round; the middle one of each side's times, in nanoseconds. A short run
-// is repeated until the clock can tell.
-fn middle<const N: usize>(mut sides: [&mut dyn FnMut(); N]) -> [f64; N] {
+// The sides in turn, round by round; each side's times in nanoseconds, the best first. A short run is
+// repeated until the clock can tell.
+fn rounds<const N: usize>(mut sides: [&mut dyn FnMut(); N]) -> [[f64; ROUNDS]; N] {
     let mut repeats = [1usize; N];
     let mut times = [[0.0; ROUNDS]; N];
     let mut once = |side: usize, repeats: usize| {
@@ -110,8 +111,13 @@ fn middle<const N: usize>(mut sides: [&mut dyn FnMut(); N]) -> [f64; N] {
     }
     times.map(|mut times| {
         times.sort_by(f64::total_cmp);
-        times[ROUNDS / 2]
+        times
     })
+}
+
+// The middle one of each side's times.
+fn middle<const N: usize>(sides: [&mut dyn FnMut(); N]) -> [f64; N] {
+    rounds(sides).map(|times| times[ROUNDS / 2])
 }
 
 // Table of a file; the three sides are first seen to agree.
@@ -239,8 +245,8 @@ fn time_rows(file: &[u8]) -> [f64; 3] {
     ])
 }
 
-// A file written again; the sides are first seen to restore it.
-fn time_rewrite(file: &[u8]) -> [f64; 3] {
+// A file written again; the sides are first seen to restore it. The middle times and the best ones.
+fn time_rewrite(file: &[u8]) -> [[f64; 3]; 2] {
     let call = Call::Rewrite {
         file: file.to_vec(),
     };
@@ -260,7 +266,7 @@ fn time_rewrite(file: &[u8]) -> [f64; 3] {
     assert!(writer::rewrite(file, &mut out) == Ok(file.len()) && out == *file);
     let mut copies = [out.clone(), out.clone()];
     let [outside, copy] = &mut copies;
-    middle([
+    let times = rounds([
         &mut || {
             let (call, parts) = opaque((&call, parts));
             opaque(writing::perform(call, parts, &mut out, &mut lent));
@@ -271,7 +277,8 @@ fn time_rewrite(file: &[u8]) -> [f64; 3] {
         &mut || {
             opaque(&mut *copy).copy_from_slice(opaque(file));
         },
-    ])
+    ]);
+    [ROUNDS / 2, 0].map(|round| times.map(|times| times[round]))
 }
 
 // What was aimed at, and whether it was reached.
@@ -308,12 +315,11 @@ fn print_against_table(call: &str, time: f64, table: f64, goal: Option<f64>) {
 }
 
 // A line of times of a rewriting, against the outside implementation and against memcpy.
-fn print_rewrite(times: [f64; 3], to_copy: Option<f64>, to_outside: Option<f64>) {
+fn print_rewrite(name: &str, times: [f64; 3], to_copy: Option<f64>, to_outside: Option<f64>) {
     let [exports, outside, copy] = times;
     let (outside_ratio, copy_ratio) = (exports / outside, exports / copy);
     println!(
-        "  {:<10}{exports:>14.0}{outside:>14.0}{copy:>14.0}{outside_ratio:>14.2}{copy_ratio:>14.2}   (memcpy for C floor){}{}",
-        "Rewrite",
+        "  {name:<10}{exports:>14.0}{outside:>14.0}{copy:>14.0}{outside_ratio:>14.2}{copy_ratio:>14.2}   (memcpy for C floor){}{}",
         judged(outside_ratio, to_outside, "Rust"),
         judged(copy_ratio, to_copy, "memcpy")
     );
@@ -360,7 +366,9 @@ fn print_further(file: &[u8], to_copy: Option<f64>, to_outside: Option<f64>) {
     let [visit, table, walk] = time_rows(file);
     print_against_table("Visit", visit, table, Some(VISIT_GOAL));
     print_against_table("walk", walk, table, None);
-    print_rewrite(time_rewrite(file), to_copy, to_outside);
+    let [middle, best] = time_rewrite(file);
+    print_rewrite("Rewrite", middle, to_copy, to_outside);
+    print_rewrite(" at best", best, to_copy, to_outside);
 }
 
 fn main() {

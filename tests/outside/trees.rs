@@ -722,13 +722,17 @@ fn series_times() -> Vec<u32> {
     list
 }
 
-/// Section "The six records", trace: counts of samples around 512, 1,024 and 1,536 bytes; an
-/// implementation may store a part in blocks.
-const AROUND_BLOCKS: [u32; 9] = [254, 256, 258, 510, 512, 514, 766, 768, 770];
+/// Section "The six records", trace: counts of samples around 512 and 1,024 bytes, 4,096, 8,192 and
+/// 12,288; an implementation may store a part in blocks.
+const AROUND_BLOCKS: [u32; 15] = [
+    254, 256, 258, 510, 512, 514, 2_046, 2_048, 2_050, 4_094, 4_096, 4_098, 6_142, 6_144, 6_146,
+];
 
-/// Section "The six records", history: counts of times, or of masks, whose lists have 512 bytes
-/// or a multiple of it, or a little less or more: of 4 bytes each, or of 24.
-const LONG_LISTS: [u32; 13] = [21, 22, 42, 43, 63, 64, 65, 127, 128, 129, 255, 256, 257];
+/// Section "The six records", history: counts of times, or of masks, whose lists have 512, 4,096 or
+/// 8,192 bytes, or a little less or more: of 4 bytes each, or of 24.
+const LONG_LISTS: [u32; 17] = [
+    21, 22, 42, 43, 127, 128, 129, 170, 171, 341, 342, 1_023, 1_024, 1_025, 2_047, 2_048, 2_049,
+];
 
 // Section "The six records", trace: n with the size of the samples handed over.
 fn sample_sizes() -> Vec<(u32, usize)> {

@@ -9,7 +9,7 @@ use super::trees::Call;
 const LEAST: u64 = 100;
 
 /// How long a long part is: the writers store parts in blocks of so many bytes.
-const LONG: usize = 512;
+const LONG: usize = 4096;
 
 /// The parts that traces and histories store.
 const PARTS: [&str; 5] = [

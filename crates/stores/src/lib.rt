@@ -78,8 +78,8 @@ fn put_bytes(out: &mut [u8], at: usize, bytes: &[u8])
 
 const BLOCK: usize = 4096;
 
-// Stores a block, from a place on, by way of an array of its own: no two of the three overlap, which is what the compiler must know to move
-// them at memory speed, and then it leaves the array out.
+// Stores a block, from a place on, by way of an array of its own. The array overlaps with neither slice, and the compiler knows it: it moves the
+// block at memory speed and leaves the array out.
 fn put_block(out: &mut [u8], at: usize, block: &[u8])
     requires { ⌜ (at + length (now block) ≤ length (now out)) × (length (now block) ≤ 4096) ⌝ }
     ensures { λ _. ⌜ now (out .exit) ≡ sets (now (out .entry)) at (now (block .entry)) ⌝ }
