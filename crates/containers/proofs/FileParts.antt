@@ -52,7 +52,7 @@ module _ (bs : List ℕ) (f : File) (h : Bytes bs) (e : readFile bs ≡ ok f) wh
   header-size : length (headerBytes (versionOf f)) ≡ 8
   header-size = sym (headerItem .sizes (versionOf f))
 
-  behind-header : drop 8 bs ≡ containerBytes conf ++ eventsBytes es
+  pub behind-header : drop 8 bs ≡ containerBytes conf ++ eventsBytes es
   behind-header = ap (drop 8) (sound .0) ∙ drop-at (headerBytes (versionOf f)) (containerBytes conf ++ eventsBytes es) 8 header-size
 
   shape : containerBytes conf ++ eventsBytes es ≡ put order 4 (conf .kind) ++ (put order 4 n ++ (recordsBytes (conf .body) ++ eventsBytes es))

@@ -1,6 +1,7 @@
 -- A container written again: its two words, then its contents behind them. Once, for configurations and events.
 -- The idea: contents that are read are their records' bytes, so with the two words in front of them they are the container's.
 use mathlib.Core.Path.{_≡_, sym, ap, ap₂, _∙_, subst}
+use mathlib.Core.Bool.{true, false}
 use mathlib.Core.List.{List, [], _∷_, _++_, append-assoc}
 use Prim.Native.Nat.{ℕ, _+_, _-_, _/_, _≤_}
 use native.Mathlib.Omega.{arith}
@@ -12,11 +13,13 @@ use Rattle.theory.proofs.WordLaws.{length-puts}
 use Rattle.theory.proofs.TestLaws.{first-at, equal-passed}
 use Rattle.note.specs.Words.{order}
 use Rattle.note.specs.Records.{Record, Context, recordsBytes, readRecords}
-use Rattle.note.specs.Events.{containerBytes, classOf, categoryOf, eventTypeOf, eventMark, eventWord, eventWordRule}
+use Rattle.note.specs.Events.{containerBytes, classOf, categoryOf, eventTypeOf, eventMark, eventWord, eventFault, eventWordRule}
+use Rattle.note.specs.Files.{configurationWord}
 use Rattle.note.specs.Writers.{written, closingBytes}
 use Rattle.demands.specs.Outputs.{Laid}
 use Rattle.demands.proofs.Bundles.{records, same-records}
 use Rattle.demands.proofs.OutputLaws.{put-laid, both-laid}
+use Rattle.rewriting.specs.Ready.{Begins}
 
 module _ (old mid : List ℕ) (place end w : ℕ) (wide : place + 8 ≤ end) (room : end ≤ length old) (e : mid ≡ sets old place (closingBytes w place end)) where
   eight-size : length (closingBytes w place end) ≡ 8
@@ -44,6 +47,16 @@ module _ (old mid : List ℕ) (place end w : ℕ) (wide : place + 8 ≤ end) (ro
       (both-laid old mid new (closingBytes w place end) inner place (place + 8) end (omega (arith, wide, room)) head-laid l)
 
 -- An event's first word, taken apart and put together again.
-pub word-again : (w : ℕ) → eventWordRule w ≡ 0 → eventWord (classOf w) (categoryOf w) (eventTypeOf w) ≡ w
+word-again : (w : ℕ) → eventWordRule w ≡ 0 → eventWord (classOf w) (categoryOf w) (eventTypeOf w) ≡ w
 unfolding eventWordRule
 word-again w e = let mark : w / 65536 ≡ eventMark = equal-passed (w / 65536) eventMark 4 (first-at _ e 0) in omega arith
+
+-- A container that isn't a configuration is an event, and its class, category and type have no fault.
+pub event-begins : (w class category type : ℕ) → class ≡ classOf w → category ≡ categoryOf w → type ≡ eventTypeOf w → Begins w → (w ≡ configurationWord → ⊥)
+    → (eventFault class category type ≡ 0) × (eventWord class category type ≡ w)
+unfolding eventWordRule
+event-begins w class category type ec eg et (true, e) n = absurd (n (equal-passed w configurationWord 4 e))
+event-begins w class category type ec eg et (false, e) n = (
+  (λ j. eventFault (ec j) (eg j) (et j)) ∙ first-at _ e 1,
+  (λ j. eventWord (ec j) (eg j) (et j)) ∙ word-again w e,
+)

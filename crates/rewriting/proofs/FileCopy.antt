@@ -1,31 +1,33 @@
--- A file written again: what its parts ask and leave, one behind the other.
--- The idea: an accepted file is its tree's bytes, so the header, the configuration and the events that were laid are the file.
-use mathlib.Core.Path.{_≡_, sym, ap, _∙_, subst}
-use mathlib.Core.List.{List}
+-- A file written again: what its header and its containers ask and leave, one behind the other.
+-- The idea: an accepted file is its tree's bytes, so what lies behind the header is read as the configuration and the events.
+use mathlib.Core.Path.{_≡_, refl, sym, ap, _∙_, subst}
+use mathlib.Core.Bool.{true}
+use mathlib.Core.List.{List, _∷_, _++_}
 use Prim.Native.Nat.{ℕ, _+_, _-_, _/_, _%_, _≤_}
 use native.Mathlib.Omega.{arith}
 use lib.ListN.{length, take, drop, length-drop}
-use lib.Seq.{sets, length-take-le}
 use borrow.Author.Tests.{le-leb}
 use Rattle.theory.specs.Words.{Bytes}
 use Rattle.theory.specs.Tests.{ok}
-use Rattle.theory.proofs.WordLaws.{Bytes-drop, Bytes-take}
 use Rattle.theory.proofs.TestLaws.{equal-passed}
+use Rattle.theory.proofs.Items.{Oks, seqW}
+use Rattle.theory.proofs.LoopLaws.{whole}
 use Rattle.note.specs.Limits.{fileLimit}
 use Rattle.note.specs.Words.{word}
-use Rattle.note.specs.Records.{entry, recordsBytes, readRecords}
+use Rattle.note.specs.Records.{entry, recordsBytes}
 use Rattle.note.specs.Events.{Container, containerBytes, eventsBytes}
 use Rattle.note.specs.Files.{File, versionOf, configurationOf, eventsOf, format, versionWord, headerBytes, configurationWord, fileBytes}
-use Rattle.note.specs.Writers.{wrote, headerWrote, headerOutput, closingBytes}
+use Rattle.note.specs.Writers.{wrote, headerWrote, headerOutput}
 use Rattle.demands.specs.Valid.{Valid}
 use Rattle.demands.specs.Outputs.{Laid}
+use Rattle.demands.proofs.Bundles.{records-ok, events-ok}
 use Rattle.demands.proofs.Follows.{file-sound}
 use Rattle.demands.proofs.OutputLaws.{both-laid}
 use Rattle.demands.proofs.WriterLaws.{header-laid}
 use Rattle.containers.proofs.RecordLoop.{left}
-use Rattle.containers.proofs.FileParts.{version-is, length-is, room, entries-read, events-part, events-read}
-use Rattle.rewriting.specs.Ready.{RecordsReady, EventsReady, FileReady, Stands}
-use Rattle.rewriting.proofs.ContainerCopy.{head-laid, container-copied}
+use Rattle.containers.proofs.FileParts.{version-is, room, behind-header}
+use Rattle.rewriting.specs.Ready.{readContainers, ContainersReady, FileReady, Stands}
+use Rattle.rewriting.proofs.ContainerLoop.{containerItem, same-containers, events-are}
 
 module _ (bs old : List ℕ) (h : Bytes bs) (r : FileReady bs (length old)) where
   abbrev tree : File
@@ -57,80 +59,51 @@ module _ (bs old : List ℕ) (h : Bytes bs) (r : FileReady bs (length old)) wher
         subst (λ (x : List ℕ). Laid old x 0 8 (headerBytes (versionOf tree))) (sym e)
         (subst (λ (v : ℕ). Laid old (headerOutput old major minor) 0 8 (headerBytes v)) same (header-laid old major minor 8 header-granted))
 
-  -- The parts behind it, by the configuration's length word.
-  module _ (m : ℕ) (em : m ≡ word 12 bs) where
-    pub end-fits : 16 + m ≤ length bs
-    end-fits = omega (arith, em, length-is bs tree h (r .reads), fits .0)
+  -- The containers behind it.
+  abbrev behind : List ℕ
+  behind = take (length bs - 8) (drop 8 bs)
 
-    abbrev entries : List ℕ
-    entries = take (16 + m - 16) (drop 16 bs)
+  behind-is : behind ≡ containerBytes conf ++ eventsBytes (eventsOf tree)
+  behind-is = sym (left 8 bs) ∙ behind-header bs tree h (r .reads)
 
-    abbrev behind : List ℕ
-    behind = take (length bs - (16 + m)) (drop (16 + m) bs)
+  behind-size : length behind ≡ length bs - 8
+  behind-size = ap length (sym (left 8 bs)) ∙ length-drop 8 bs
 
-    cut : entries ≡ take m (drop 16 bs)
-    cut = let e : 16 + m - 16 ≡ m = omega arith in rw e
+  containers-ok : Oks containerItem true (conf ∷ eventsOf tree)
+  containers-ok =
+      let v = sound .1 in
+      let word-is : conf .kind ≡ configurationWord = v .configuration-word in (
+        record {
+          head-ok = rw word-is;
+          late-ok = refl;
+          kind-word = omega (arith, word-is);
+          length-word = v .configuration-fits;
+          body-ok = records-ok entry (conf .body) (v .entries-valid);
+        },
+        events-are (eventsOf tree) (events-ok (eventsOf tree) (v .events-valid)),
+      )
 
-    entries-size : length entries ≡ m
-    entries-size = ap length cut ∙ length-take-le m (drop 16 bs) (omega (arith, length-drop 16 bs, end-fits))
+  containers-read : readContainers true 8 behind ≡ ok (conf ∷ eventsOf tree)
+  containers-read =
+      same-containers true 8 behind ∙ ap (whole containerItem true 8) behind-is ∙ seqW containerItem .complete true 8 (conf ∷ eventsOf tree) containers-ok
 
-    entries-found : readRecords entry 16 entries ≡ ok (conf .body)
-    entries-found = ap (readRecords entry 16) cut ∙ entries-read bs tree h (r .reads) m em
+  -- The header was written: they are next.
+  module _ (top : List ℕ) (header : Laid old top 0 8 (headerBytes (versionOf tree))) where
+    pub containers-ready : ContainersReady 8 behind (length top)
+    containers-ready = (
+      true,
+      record {
+        is = conf ∷ eventsOf tree;
+        reads = containers-read;
+        room = omega (arith, behind-size, words-fit, r .room, header .size);
+        limit = omega (arith, r .limit, header .size);
+      },
+    )
 
-    behind-size : length behind ≡ length bs - (16 + m)
-    behind-size = ap length (sym (left (16 + m) bs)) ∙ length-drop (16 + m) bs
-
-    module _ (top : List ℕ) (header : Laid old top 0 8 (headerBytes (versionOf tree))) where
-      same-top : length top ≡ length old
-      same-top = header .size
-
-      -- The configuration's two words have room.
-      pub begin-ready : (8 + 8 ≤ 16 + m) × (16 + m ≤ length top) × (length top ≤ fileLimit)
-      begin-ready = (omega arith, omega (arith, end-fits, r .room, same-top), omega (arith, r .limit, same-top))
-
-      -- They were stored: its entries are next.
-      module _ (mid : List ℕ) (e : mid ≡ sets top 8 (closingBytes configurationWord 8 (16 + m))) where
-        begun : Laid top mid 8 16 (closingBytes configurationWord 8 (16 + m))
-        begun = head-laid top mid 8 (16 + m) configurationWord (begin-ready .0) (begin-ready .1) e
-
-        pub entries-ready : RecordsReady 16 entries (length mid)
-        entries-ready = (
-          entry,
-          record {
-            is = conf .body;
-            reads = entries-found;
-            room = omega (arith, entries-size, begin-ready .1, begun .size);
-            limit = omega (arith, begin-ready .2, begun .size);
-          },
-        )
-
-        module _ (filled : List ℕ) (stands : Stands entries mid 16 filled) where
-          configuration-laid : Laid top filled 8 (16 + m) (containerBytes conf)
-          configuration-laid =
-              let end : 16 + length entries ≡ 16 + m = ap (λ (n : ℕ). 16 + n) entries-size in
-              subst (λ (w : ℕ). Laid top filled 8 (16 + m) (containerBytes (record { kind = w; body = conf .body }))) (sym (sound .1 .configuration-word))
-              (container-copied top mid 8 (16 + m) configurationWord (begin-ready .0) (begin-ready .1) e
-              entry entries filled (conf .body) (Bytes-take (16 + m - 16) (drop 16 bs) (Bytes-drop 16 bs h)) entries-found
-              (subst (λ (n : ℕ). Laid mid filled 16 n entries) end stands))
-
-          same-filled : length filled ≡ length old
-          same-filled = configuration-laid .size ∙ same-top
-
-          pub events-ready : EventsReady (16 + m) behind (length filled)
-          events-ready = record {
-            is = eventsOf tree;
-            reads = events-read bs tree h (r .reads) (16 + m) (ap (λ (n : ℕ). 16 + n) em);
-            room = omega (arith, behind-size, end-fits, r .room, same-filled);
-            limit = omega (arith, r .limit, same-filled);
-          }
-
-          pub file-copied : (new : List ℕ) → Stands behind filled (16 + m) new → Stands bs old 0 new
-          file-copied new last =
-              let end : 16 + m + length behind ≡ 0 + length bs = omega (arith, behind-size, end-fits) in
-              let events : Laid filled new (16 + m) (0 + length bs) (eventsBytes (eventsOf tree)) =
-              subst (λ (x : List ℕ). Laid filled new (16 + m) (0 + length bs) x) (events-part bs tree h (r .reads) (16 + m) (ap (λ (n : ℕ). 16 + n) em))
-              (subst (λ (n : ℕ). Laid filled new (16 + m) n behind) end last) in
-              let rest = both-laid top filled new (containerBytes conf) (eventsBytes (eventsOf tree)) 8 (16 + m) (0 + length bs)
-              (omega (arith, end-fits, r .room, same-top)) configuration-laid events in
-              subst (λ (x : List ℕ). Laid old new 0 (0 + length bs) x) (sym (sound .0))
-              (both-laid old top new (headerBytes (versionOf tree)) _ 0 8 (0 + length bs) (omega (arith, words-fit, r .room)) header rest)
+    pub file-copied : (new : List ℕ) → Stands behind top 8 new → Stands bs old 0 new
+    file-copied new last =
+        let end : 8 + length behind ≡ 0 + length bs = omega (arith, behind-size, words-fit) in
+        let rest : Laid top new 8 (0 + length bs) (containerBytes conf ++ eventsBytes (eventsOf tree)) =
+        subst (λ (x : List ℕ). Laid top new 8 (0 + length bs) x) behind-is (subst (λ (n : ℕ). Laid top new 8 n behind) end last) in
+        subst (λ (x : List ℕ). Laid old new 0 (0 + length bs) x) (sym (sound .0))
+        (both-laid old top new (headerBytes (versionOf tree)) _ 0 8 (0 + length bs) (omega (arith, words-fit, r .room)) header rest)

@@ -1,6 +1,6 @@
 pub mod CopyLoop
 pub mod RecordCopy
 pub mod ContainerCopy
-pub mod EventCopy
+pub mod ContainerLoop
 pub mod FileCopy
 pub mod RewriteCall

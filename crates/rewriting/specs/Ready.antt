@@ -1,14 +1,40 @@
 -- What writing again asks of a part of a file, of a whole file and of the output, and what it leaves.
 use Prim.Native.Nat.{ℕ, _+_, _≤_}
 use mathlib.Core.Path.{_≡_}
+use mathlib.Core.Bool.{Bool, true, false}
 use mathlib.Core.List.{List}
 use lib.ListN.{length}
 use Rattle.theory.specs.Tests.{Res, ok}
+use Rattle.theory.specs.Structures.{readStructure, readSequence}
 use Rattle.note.specs.Limits.{fileLimit}
-use Rattle.note.specs.Records.{Context, readRecords}
-use Rattle.note.specs.Events.{readEvents}
-use Rattle.note.specs.Files.{readFile}
+use Rattle.note.specs.Words.{order}
+use Rattle.note.specs.Records.{Context, entry, event, none, readRecords}
+use Rattle.note.specs.Events.{Container, containerSize, eventHead, eventLate}
+use Rattle.note.specs.Files.{configurationHead, configurationLate, readFile}
 use Rattle.demands.specs.Outputs.{Laid}
+
+-- Behind its header a file is containers: the configuration, and then events. `first`: the configuration is still to come.
+abbrev pub containerHead : Bool → ℕ → ℕ
+containerHead true w = configurationHead tt w
+containerHead false w = eventHead tt w
+
+abbrev pub containerLate : Bool → ℕ → ℕ → ℕ
+containerLate true w n = configurationLate tt w n
+containerLate false w n = eventLate tt w n
+
+abbrev pub contentsIn : Bool → Context
+contentsIn true = entry
+contentsIn false = event none
+
+unfoldable pub readContainer : Bool → ℕ → List ℕ → Res Container
+readContainer = readStructure order containerHead containerLate (λ s at bs. readRecords (contentsIn (s .0)) (at + 8) bs)
+
+unfoldable pub readContainers : Bool → ℕ → List ℕ → Res (List Container)
+readContainers first at bs = readSequence (λ s c. false) containerSize readContainer (length bs) first at bs
+
+-- A container's first word.
+abbrev pub Begins : ℕ → Type 0
+Begins w = (first : Bool) × (containerHead first w ≡ 0)
 
 -- The part is read where it stands, and an output of n bytes, within the limit, has room for it there.
 pub record Ready {A : Type 0} (read : ℕ → List ℕ → Res A) (place : ℕ) (part : List ℕ) (n : ℕ) : Type 0 where
@@ -17,12 +43,12 @@ pub record Ready {A : Type 0} (read : ℕ → List ℕ → Res A) (place : ℕ) 
   pub room : place + length part ≤ n
   pub limit : n ≤ fileLimit
 
--- Records or entries, in whatever context; events; a file.
+-- Records or entries, in whatever context; containers, with the configuration or without; a file.
 abbrev pub RecordsReady : ℕ → List ℕ → ℕ → Type 0
 RecordsReady place part n = (c : Context) × Ready (readRecords c) place part n
 
-abbrev pub EventsReady : ℕ → List ℕ → ℕ → Type 0
-EventsReady place part n = Ready (readEvents tt) place part n
+abbrev pub ContainersReady : ℕ → List ℕ → ℕ → Type 0
+ContainersReady place part n = (first : Bool) × Ready (readContainers first) place part n
 
 abbrev pub FileReady : List ℕ → ℕ → Type 0
 FileReady file n = Ready (λ place bs. readFile bs) 0 file n

@@ -4,6 +4,7 @@
 use closings::begin_configuration;
 use closings::begin_event;
 use closings::write_header;
+use containers::CONFIGURATION;
 use containers::Count;
 use containers::check;
 use copies::copy_record;
@@ -14,10 +15,12 @@ use note::WriterAnswer;
 use record::FILE_LIMIT;
 use words::word_at;
 ghost use mathlib.Core.Path.{_≡_};
+ghost use Prim.Native.Nat.{_+_, _≤_};
 ghost use lib.ListN.{length};
+ghost use lib.Seq.{sets};
 ghost use Rattle.note.specs.Answers.{givenWriter};
-ghost use Rattle.note.specs.Writers.{writerGiven, rewriteWrote, rewriteOutput};
-ghost use Rattle.rewriting.specs.Ready.{RecordsReady, EventsReady, FileReady, Stands};
+ghost use Rattle.note.specs.Writers.{writerGiven, closingBytes, rewriteWrote, rewriteOutput};
+ghost use Rattle.rewriting.specs.Ready.{Begins, RecordsReady, ContainersReady, FileReady, Stands};
 
 // Writes again the records or entries that fill a part, whose first byte stands at the place in the file and in the output.
 fn copy_records(part: &[u8], out: &mut [u8], place: usize)
@@ -34,9 +37,26 @@ fn copy_records(part: &[u8], out: &mut [u8], place: usize)
     }
 }
 
-// Writes again the events that fill a part: each one's two words, then its records. So the output is stored from its first byte to its last.
-fn copy_events(part: &[u8], out: &mut [u8], place: usize)
-    requires { ⌜ EventsReady place (now part) (length (now out)) ⌝ }
+// Stores a container's two words in front of contents that end there: a configuration's, or an event's from its class, category and type.
+fn begin_container(out: &mut [u8], place: usize, end: usize, word: u32)
+    requires room { ⌜ (place + 8 ≤ end) × (end ≤ length (now out)) × (length (now out) ≤ 0x1000000) ⌝ }
+    requires word { ⌜ Begins word ⌝ }
+    ensures { λ _. ⌜ now (out .exit) ≡ sets (now (out .entry)) place (closingBytes word place end) ⌝ }
+{
+    if word == CONFIGURATION {
+        begin_configuration(out, place, end);
+        return;
+    }
+    let class = class_of(word);
+    let category = category_of(word);
+    let kind = event_type_of(word);
+    begin_event(out, place, end, class, category, kind);
+}
+
+// Writes again the containers that fill a part, the configuration and the events: each one's two words, then its contents. So the output is stored
+// from its first byte to its last.
+fn copy_containers(part: &[u8], out: &mut [u8], place: usize)
+    requires { ⌜ ContainersReady place (now part) (length (now out)) ⌝ }
     ensures { λ _. ⌜ Stands (now (part .entry)) (now (out .entry)) place (now (out .exit)) ⌝ }
 {
     let mut rest = part;
@@ -45,29 +65,23 @@ fn copy_events(part: &[u8], out: &mut [u8], place: usize)
         let word = word_at(rest, 0);
         let size = 8 + word_at(rest, 4) as usize;
         let end = at + size;
-        let class = class_of(word);
-        let category = category_of(word);
-        let kind = event_type_of(word);
-        begin_event(out, at, end, class, category, kind);
+        begin_container(out, at, end, word);
         copy_records(&rest[8..size], out, at + 8);
         rest = &rest[size..];
         at = end;
     }
 }
 
-// Writes an accepted file again: its header, its configuration, its events.
+// Writes an accepted file again: its header, then its containers.
 fn copy_file(file: &[u8], out: &mut [u8])
     requires { ⌜ FileReady (now file) (length (now out)) ⌝ }
     ensures { λ _. ⌜ Stands (now (file .entry)) (now (out .entry)) 0 (now (out .exit)) ⌝ }
 {
     let version = word_at(file, 4);
-    let end = 16 + word_at(file, 12) as usize;
     let major = ((version >> 24) & 255) as u8;
     let minor = ((version >> 16) & 255) as u8;
     write_header(out, major, minor);
-    begin_configuration(out, 8, end);
-    copy_records(&file[16..end], out, 16);
-    copy_events(&file[end..], out, end);
+    copy_containers(&file[8..], out, 8);
 }
 
 /// Rewrite: reads an accepted file's fields and writes them from byte 0 on; answers the next place. 1 for either buffer, the file's refusal,

@@ -1,0 +1,73 @@
+-- A configuration's word is the one that was asked for; any other begins an event, whose word is put together again.
+use mathlib.Core.Path.{_≡_, sym, ap, _∙_}
+use Prim.Native.Nat.{ℕ}
+use denote.Ref.{now}
+use lib.Seq.{sets}
+use Rattle.note.specs.Events.{eventFault, eventWord}
+use Rattle.note.specs.Writers.{closingBytes}
+use Rattle.rewriting.proofs.ContainerCopy.{event-begins}
+use borrow.Author.Needs.{needs}
+use Rattle.rewriting.proofs.begin_container.Statement.{statement}
+use Rattle.rewriting.proofs.begin_container.Tie as tie
+use Rattle.rewriting.proofs.begin_container.Reads as reads
+use Rattle.rewriting.proofs.begin_container.Lts as lts
+use Rattle.closings.proofs.begin_configuration.Reads as begin-configuration-reads
+use Rattle.closings.proofs.begin_event.Reads as begin-event-reads
+use Rattle.fields.proofs.category_of.Reads as category-of-reads
+use Rattle.fields.proofs.class_of.Reads as class-of-reads
+use Rattle.fields.proofs.event_type_of.Reads as event-type-of-reads
+
+begin-configuration-requires : tie.Need-begin-configuration-requires
+begin-configuration-requires c κs = search needs
+
+same-length : tie.Need-same-length
+same-length c = search needs
+
+returns : tie.Need-returns
+returns c =
+    let a = c .before .before .before .before .before .before .args in
+    c .before .before .begin-configuration .ensures
+    ∙ ap (λ (w : ℕ). sets (now (a .out)) (a .place) (closingBytes w (a .place) (a .end))) (sym (c .before .before .before .before .if1 .taken))
+
+class-of-requires : tie.Need-class-of-requires
+class-of-requires c κs = search needs
+
+category-of-requires : tie.Need-category-of-requires
+category-of-requires c κs = search needs
+
+event-type-of-requires : tie.Need-event-type-of-requires
+event-type-of-requires c κs = search needs
+
+-- Where the word was taken apart: it is an event's.
+apart : (c : tie.After-event-type-of)
+    → (eventFault (c .before .before .class-of .result) (c .before .category-of .result) (c .event-type-of .result) ≡ 0)
+    × (eventWord (c .before .before .class-of .result) (c .before .category-of .result) (c .event-type-of .result) ≡ c .before .before .before .before .before .args .word)
+apart c =
+    let test = c .before .before .before in
+    event-begins _ _ _ _ (c .before .before .class-of .ensures) (c .before .category-of .ensures) (c .event-type-of .ensures) (test .before .before .pre .1) (test .if1 .left)
+
+begin-event-requires : tie.Need-begin-event-requires
+begin-event-requires c κs = (c .before .before .before .before .before .before .pre .0, apart (c .before) .0)
+
+same-length-2 : tie.Need-same-length-2
+same-length-2 c = search needs
+
+returns-2 : tie.Need-returns-2
+returns-2 c =
+    let parts = c .before .before .before .before in
+    let a = parts .before .before .before .before .before .args in
+    c .before .before .begin-event .ensures ∙ ap (λ (w : ℕ). sets (now (a .out)) (a .place) (closingBytes w (a .place) (a .end))) (apart parts .1)
+
+pub begin-container-spec : {M : Type 1} → statement M
+begin-container-spec =
+    tie.close
+    (tie.spec
+    begin-configuration-requires
+    same-length
+    returns
+    class-of-requires
+    category-of-requires
+    event-type-of-requires
+    begin-event-requires
+    same-length-2
+    returns-2)

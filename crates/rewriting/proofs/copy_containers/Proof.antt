@@ -1,0 +1,130 @@
+-- `rewriting::copy_containers` meets its contract: what was written and what is left are the part, turn by turn.
+-- The idea: the loop's laws answer each need; a container's two words stand in front of its contents when these are written.
+use mathlib.Core.Path.{refl, sym, _∙_}
+use Prim.Native.Nat.{_+_, _≤_}
+use native.Mathlib.Omega.{arith}
+use denote.Ref.{now}
+use lib.ListN.{length}
+use Rattle.theory.proofs.WordLaws.{Bytes-from}
+use Rattle.note.specs.Limits.{fileLimit}
+use Rattle.rewriting.proofs.CopyLoop.{Copying, begin, ended}
+use Rattle.rewriting.proofs.ContainerLoop.{containerItem, same-containers, container-turn, begin-ready, records-ready, container-next}
+use borrow.Author.Needs.{needs}
+use Rattle.rewriting.proofs.copy_containers.Statement.{statement}
+use Rattle.rewriting.proofs.copy_containers.Tie as tie
+use Rattle.rewriting.proofs.copy_containers.Reads as reads
+use Rattle.rewriting.proofs.copy_containers.Lts as lts
+use Rattle.rewriting.proofs.begin_container.Reads as begin-container-reads
+use Rattle.rewriting.proofs.copy_records.Reads as copy-records-reads
+use Rattle.words.proofs.word_at.Reads as word-at-reads
+
+abbrev Inv-loop : tie.InvT-loop
+Inv-loop part out₀ place rest₀ at₀ out rest at = Copying containerItem out₀ place part out rest at
+
+abbrev μ-loop : tie.MeasureT-loop
+μ-loop part out₀ place rest₀ at₀ out rest at = length rest
+
+-- Where a container's two words were read: it fits what is left, which ends within the limit.
+sized : (c : tie.After-word-at2 Inv-loop μ-loop)
+    → (8 + c .word-at2 .result ≤ length (now (c .before .before .before .loop .rest))) × (c .before .before .before .loop .at + (8 + c .word-at2 .result) ≤ fileLimit)
+sized c = container-turn (c .before .before .before .loop .inv) (c .before .before .loop-test .taken) _ (c .word-at2 .ensures)
+
+loop-holds : tie.Need-loop-holds Inv-loop μ-loop
+loop-holds c =
+    let s = c .before .before in
+    let h = Bytes-from (now (s .args .part)) (λ i l. omega (arith, c .before .shared-slice-known .given i)) in
+    begin containerItem _ _ _ (s .pre .0) (s .pre .1 .is) (sym (same-containers (s .pre .0) _ _) ∙ s .pre .1 .reads) h (s .pre .1 .room) (s .pre .1 .limit)
+
+word-at-requires : tie.Need-word-at-requires Inv-loop μ-loop
+word-at-requires c κs = let (fits, limit) = container-turn (c .before .loop .inv) (c .loop-test .taken) _ refl in omega (arith, fits)
+
+word-at-requires-2 : tie.Need-word-at-requires-2 Inv-loop μ-loop
+word-at-requires-2 c κs = let (fits, limit) = container-turn (c .before .before .loop .inv) (c .before .loop-test .taken) _ refl in omega (arith, fits)
+
+cast-size : tie.Need-cast-size Inv-loop μ-loop
+cast-size c = search needs
+
+add-size : tie.Need-add-size Inv-loop μ-loop
+add-size c = let (fits, limit) = sized c in omega (arith, limit)
+
+add-end : tie.Need-add-end Inv-loop μ-loop
+add-end c = let (fits, limit) = sized c in omega (arith, limit)
+
+begin-container-requires : tie.Need-begin-container-requires Inv-loop μ-loop
+begin-container-requires c κs =
+    let read = c .before in
+    let turn = read .before .before in
+    begin-ready (turn .before .loop .inv) (turn .loop-test .taken) _ _ (read .before .word-at .ensures) (read .word-at2 .ensures)
+
+sub-copy-records : tie.Need-sub-copy-records Inv-loop μ-loop
+sub-copy-records c = search needs
+
+part-copy-records-start : tie.Need-part-copy-records-start Inv-loop μ-loop
+part-copy-records-start c = search needs
+
+part-copy-records-end : tie.Need-part-copy-records-end Inv-loop μ-loop
+part-copy-records-end c = sized (c .before .before .before .before) .0
+
+add-copy-records : tie.Need-add-copy-records Inv-loop μ-loop
+add-copy-records c = let (fits, limit) = sized (c .before .before .before .before .before .before) in omega (arith, limit)
+
+copy-records-requires : tie.Need-copy-records-requires Inv-loop μ-loop
+copy-records-requires c κs =
+    let begun = c .before .before .before .before in
+    let read = begun .before .before in
+    let turn = read .before .before in
+    records-ready (turn .before .loop .inv) (turn .loop-test .taken) _ _ (read .before .word-at .ensures) (read .word-at2 .ensures)
+    _ (begun .begin-container .ensures)
+
+sub-rest : tie.Need-sub-rest Inv-loop μ-loop
+sub-rest c = sized (c .before .before .before .before .before .before .before .before .before) .0
+
+part-rest-start : tie.Need-part-rest-start Inv-loop μ-loop
+part-rest-start c = sized (c .before .before .before .before .before .before .before .before .before) .0
+
+part-rest-end : tie.Need-part-rest-end Inv-loop μ-loop
+part-rest-end c = search needs
+
+loop-less : tie.Need-loop-less Inv-loop μ-loop
+loop-less c = let (fits, limit) = sized (c .before .before .before .before .before .before .before .before .before .before) in omega (arith, fits)
+
+loop-again : tie.Need-loop-again Inv-loop μ-loop
+loop-again c =
+    let filled = c .before .before .before in
+    let begun = filled .before .before .before .before .before in
+    let read = begun .before .before in
+    let turn = read .before .before in
+    container-next (turn .before .loop .inv) (turn .loop-test .taken) _ _ (read .before .word-at .ensures) (read .word-at2 .ensures)
+    _ (begun .begin-container .ensures) _ (filled .copy-records .ensures)
+
+same-length : tie.Need-same-length Inv-loop μ-loop
+same-length c = c .before .loop .inv .laid .size
+
+returns : tie.Need-returns Inv-loop μ-loop
+returns c = ended containerItem (c .before .loop .inv) (c .loop-test .left)
+
+pub copy-containers-spec : {M : Type 1} → statement M
+copy-containers-spec =
+    tie.close
+    (tie.spec
+    Inv-loop
+    μ-loop
+    loop-holds
+    word-at-requires
+    word-at-requires-2
+    cast-size
+    add-size
+    add-end
+    begin-container-requires
+    sub-copy-records
+    part-copy-records-start
+    part-copy-records-end
+    add-copy-records
+    copy-records-requires
+    sub-rest
+    part-rest-start
+    part-rest-end
+    loop-less
+    loop-again
+    same-length
+    returns)
