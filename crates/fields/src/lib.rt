@@ -6,11 +6,12 @@ ghost use mathlib.Core.List.{[], _∷_};
 ghost use mathlib.Core.Path.{_≡_};
 ghost use Prim.Native.Nat.{_/_, _%_, _^_, _≤_};
 ghost use lib.Dec.{leb};
+ghost use lib.ListN.{getD};
 ghost use Rattle.theory.specs.Tests.{unless, first, among};
 ghost use Rattle.note.specs.Words.{signed, unsigned};
 ghost use Rattle.note.specs.Calls.{hundredth};
 ghost use Rattle.note.specs.Events.{classOf, categoryOf, eventTypeOf, eventFault, eventWordRule};
-ghost use Rattle.note.specs.Administrative.{locations, daysIn, isSeries, isClock, administrativeFault};
+ghost use Rattle.note.specs.Administrative.{locations, daysOfMonth, daysIn, isSeries, isClock, administrativeFault};
 ghost use Rattle.note.specs.Trace.{countFault};
 ghost use Rattle.note.specs.History.{isWidth};
 ghost use Rattle.note.specs.Gps.{areDigits, decimal, daysOfYear, gpsFault};
@@ -160,9 +161,6 @@ pub fn event_word_rule(w: u32) -> u32
 
 // ---- administrative
 
-// The days of each month, from 1 on, in a year that isn't leap.
-const DAYS_OF_MONTH: [u32; 13] = [0, 31, 28, 31, 30, 31, 30, 31, 31, 30, 31, 30, 31];
-
 // Whether LL, the first two digits of a series date, is a location.
 fn is_location(ll: u32) -> bool
     requires { ⌜ ll ≤ 99 ⌝ }
@@ -174,17 +172,31 @@ fn is_location(ll: u32) -> bool
     }
 }
 
+// The days of month mm in a year that isn't leap; 0 where there is no such month. But for February they are 31 and 30 in turn, from January on
+// and from August on.
+fn days_of_month(mm: u32) -> u32
+    ensures { λ r. ⌜ r ≡ getD daysOfMonth mm 0 ⌝ }
+{
+    if mm < 1 {
+        return 0;
+    }
+    if mm > 12 {
+        return 0;
+    }
+    if mm == 2 {
+        return 28;
+    }
+    30 + (mm + mm / 8) % 2
+}
+
 // The days of month mm in year yy; 0 where there is no such month.
 fn days_in(yy: u32, mm: u32) -> u32
     ensures { λ r. ⌜ r ≡ daysIn yy mm ⌝ }
 {
-    if mm > 12 {
-        return 0;
-    }
     if mm == 2 && yy % 4 == 0 {
         return 29;
     }
-    DAYS_OF_MONTH[mm as usize]
+    days_of_month(mm)
 }
 
 /// Whether w reads LLYYMMDD in decimal: a location and a day that exists.
