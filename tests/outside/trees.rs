@@ -1199,9 +1199,8 @@ fn bases() -> Vec<Call> {
     ]
 }
 
-// Section "The six records": traces and histories with long parts, at places of every alignment,
-// where they fit exactly.
-fn aim_long_parts(list: &mut Vec<(Call, usize)>) {
+/// Section "The six records": traces and histories with long parts.
+pub fn long_calls() -> Vec<Call> {
     let mut long = long_histories();
     for base in bases() {
         if matches!(base, Call::Trace { .. }) {
@@ -1210,7 +1209,12 @@ fn aim_long_parts(list: &mut Vec<(Call, usize)>) {
             }));
         }
     }
-    for call in long {
+    long
+}
+
+// Those, at places of every alignment, where they fit exactly.
+fn aim_long_parts(list: &mut Vec<(Call, usize)>) {
+    for call in long_calls() {
         for place in 0..16 {
             list.push((call.clone().at(place), place + call.size()));
         }

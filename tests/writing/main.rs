@@ -41,13 +41,17 @@ use std::time::Instant;
 use compare::{fill, Around, Comparison, Difference, Output, LINE};
 use random::Random;
 use reader::MOST_BYTES;
-use trees::{aimed_calls, calls, part, random_call, random_tree, tree_length, valid_tree, Call};
+use trees::{
+    aimed_calls, calls, long_calls, part, random_call, random_tree, tree_length, valid_tree, Call,
+};
 
 const DEFAULT_SEED: u64 = 20_100_115;
 const DEFAULT_ROUNDS: u64 = 40_000;
 /// How many random calls, and files written again, a round has.
 const CALLS_IN_ROUND: u64 = 4;
 const FILES_IN_ROUND: u64 = 3;
+/// How often a file with a long part is written again.
+const TIMES_AGAIN: usize = 20;
 /// How often each sort of call is made over an output longer than the limit, and by how much it is.
 const OVER_LIMIT: usize = 120;
 const MOST_OVER: usize = 4_096;
@@ -110,6 +114,7 @@ fn run(comparison: &mut Comparison, rounds: u64) -> Result<(), Difference> {
     for (_, make) in large::LARGE {
         file_again(comparison, &make())?;
     }
+    long_files(comparison)?;
     file_at_limit(comparison)?;
     for _ in 0..rounds {
         for _ in 0..CALLS_IN_ROUND {
@@ -229,6 +234,33 @@ fn assembled(comparison: &mut Comparison, file: &[u8]) -> Result<(), Difference>
     }
     file_again(comparison, file)?;
     comparison.tally.restored += 1;
+    Ok(())
+}
+
+// Files of one event with a long trace or history, each written again several times: the file and the output start at any
+// byte of a line.
+fn long_files(comparison: &mut Comparison) -> Result<(), Difference> {
+    for call in long_calls() {
+        let end = 56 + call.size();
+        let mut file = vec![0; end];
+        let header = Call::Header { major: 1, minor: 0 };
+        let event = closing(16, end, Some([0, 0, 0]));
+        for call in [
+            header,
+            closing(8, 16, None),
+            administrative(24),
+            call.at(56),
+            event,
+        ] {
+            if trees::perform(&call, &mut file).is_err() {
+                let text = format!("refused outside, in a file of one event: {call:?}");
+                return Err(Difference(text));
+            }
+        }
+        for _ in 0..TIMES_AGAIN {
+            file_again(comparison, &file)?;
+        }
+    }
     Ok(())
 }
 
