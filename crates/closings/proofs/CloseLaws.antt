@@ -1,7 +1,7 @@
 -- Each way through a closing, and the two containers' closings as cases of it.
 -- The idea: what is answered before the contents are asked, then the contents; a configuration's own word has no fault and may stand alone.
 use Prim.Native.Nat.{ℕ, zero, suc, _+_, _-_, _%_, _≤_}
-use mathlib.Core.Path.{_≡_, refl, sym, ap, _∙_, subst}
+use mathlib.Core.Path.{_≡_, refl, ap, _∙_, subst}
 use mathlib.Core.Bool.{Bool, true, false}
 use mathlib.Core.List.{List, [], _∷_, _++_}
 use native.Mathlib.Omega.{arith}

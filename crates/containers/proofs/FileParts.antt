@@ -9,7 +9,6 @@ use lib.Seq.{take-at, drop-at, drop-drop}
 use Rattle.theory.specs.Words.{Bytes, put}
 use Rattle.theory.specs.Tests.{Res, ok, bad}
 use Rattle.theory.proofs.WordLaws.{word-of-drop}
-use Rattle.theory.proofs.Items.{Whole}
 use Rattle.theory.proofs.StructureLaws.{second-word, drop-two}
 use Rattle.note.specs.Limits.{fileLimit}
 use Rattle.note.specs.Words.{order, word}
@@ -89,7 +88,7 @@ module _ (bs : List ℕ) (f : File) (h : Bytes bs) (e : readFile bs ≡ ok f) wh
       ∙ records .complete entry 16 (conf .body) (records-ok entry (conf .body) (sound .1 .entries-valid))
 
   -- The events, from the place q on.
-  pub events-part : (q : ℕ) → q ≡ 16 + word 12 bs → take (length bs - q) (drop q bs) ≡ eventsBytes es
+  events-part : (q : ℕ) → q ≡ 16 + word 12 bs → take (length bs - q) (drop q bs) ≡ eventsBytes es
   events-part q eq =
       let k : q ≡ 16 + n = omega (arith, eq, length-is) in
       sym (left q bs) ∙ ap (λ (x : ℕ). drop x bs) k ∙ sym (drop-drop n 16 bs) ∙ ap (drop n) behind-words ∙ drop-at (recordsBytes (conf .body)) (eventsBytes es) n refl

@@ -2,16 +2,15 @@
 -- The idea: it was read, so its first word begins a container, and its contents are read where code cuts them out. Which of the two kinds
 -- it is shows in the state alone.
 use mathlib.Core.Path.{_≡_, refl, sym, ap, _∙_, subst}
-use mathlib.Core.Bool.{Bool, true, false}
+use mathlib.Core.Bool.{Bool, false}
 use mathlib.Core.List.{List, [], _∷_}
 use Prim.Native.Nat.{ℕ, _+_, _-_, _≤_, _<_}
 use native.Mathlib.Omega.{arith}
 use lib.ListN.{length, take, drop, length-drop}
 use lib.Seq.{sets, length-take-le}
-use Rattle.theory.specs.Words.{Bytes}
 use Rattle.theory.specs.Tests.{ok}
 use Rattle.theory.proofs.WordLaws.{Bytes-drop, Bytes-take}
-use Rattle.theory.proofs.Items.{Item, Oks, seqW}
+use Rattle.theory.proofs.Items.{Item, Oks}
 use Rattle.theory.proofs.LoopLaws.{whole}
 use Rattle.theory.proofs.StructureLaws.{structure, inside, Opened, opens, length-is}
 use Rattle.note.specs.Limits.{fileLimit}

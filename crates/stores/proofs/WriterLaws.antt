@@ -2,7 +2,7 @@
 -- The idea: a writer's answer determines `wrote`, and `wrote` determines the output; no kind of structure enters.
 use Prim.Native.Nat.{ℕ, zero, suc, _+_, _-_, _≤_, _<_}
 use mathlib.Core.Path.{_≡_, refl, sym, ap, _∙_, subst}
-use mathlib.Core.List.{List, [], _∷_, _++_, append-assoc}
+use mathlib.Core.List.{List, append-assoc}
 use native.Mathlib.Omega.{arith}
 use lib.Dec.{leb}
 use lib.ListN.{length, take, drop}
@@ -117,14 +117,6 @@ module _ (out : List ℕ) (place : ℕ) (w : Written) (fault size : ℕ) (e : fa
       let told = room-told (length out) place fault size n said in
       let fits : place + length (w .bytes) ≤ length out = omega (arith, told .2, l (told .1)) in
       (sym (ap givenWriter n) ∙ own, stored-in-rest out place (recordWrote out place w) (w .bytes) n own fits rest q)
-
--- For a caller that knows of no fault and of room: the record is written, and its bytes are stored.
-pub record-admitted : (out : List ℕ) (place : ℕ) (w : Written) → w .fault ≡ 0 → length out ≤ fileLimit → place + length (w .bytes) ≤ length out
-    → (recordWrote out place w ≡ ok (place + length (w .bytes))) × (recordOutput out place w ≡ sets out place (w .bytes))
-unfolding recordWrote recordOutput wrote written
-record-admitted out place w e h l =
-    let is : recordWrote out place w ≡ ok (place + length (w .bytes)) = rw (le-leb (length out) fileLimit h, e, le-leb (place + length (w .bytes)) (length out) l) in
-    (is, rw is (sym (sets-eq (w .bytes) out place l ∙ append-assoc (take place out) (w .bytes) (drop (place + length (w .bytes)) out))))
 
 -- Of fields with a fault, the bytes aren't asked.
 refused-either : (c f p : ℕ) (out : List ℕ) (place : ℕ) (a b : List ℕ) → written (need c 0 (bad f p)) out place a ≡ written (need c 0 (bad f p)) out place b

@@ -2,12 +2,12 @@
 -- The idea: a word is the number of its bytes with the lowest first, and `ordered` undoes itself.
 use mathlib.Core.Path.{_≡_, refl, sym, ap, ap₂, _∙_, subst}
 use mathlib.Core.Logic.{_⊎_, inl, inr, _≢_}
-use mathlib.Core.List.{List, [], _∷_, _++_, reverse, reverseAux, reverse-reverse, append-assoc, append-nil}
+use mathlib.Core.List.{List, [], _∷_, _++_, reverseAux, reverse-reverse, append-assoc, append-nil}
 use Prim.Native.Nat.{ℕ, zero, suc, _+_, _-_, _*_, _/_, _%_, _^_, _≤_, _<_}
-use native.Mathlib.Nat.{pow-suc, pow-zero, div-lt-iff-lt-mul, div-add-mod', mod-lt, zero-add, suc-add, add-zero, add-assoc, suc-mul, mul-assoc}
+use native.Mathlib.Nat.{pow-suc, pow-zero, div-lt-iff-lt-mul, div-add-mod', mod-lt, zero-add, suc-add, add-zero, suc-mul, mul-assoc}
 use native.Mathlib.Omega.{arith}
 use lib.ListN.{length, take, drop, set, getD, take-append-drop, length-append, length-drop, length-set, length-reverse, drop-of-length-le}
-use lib.Seq.{length-take-le, drop-set-lt, drop-set-add, take-set-le, getD-take, getD-drop, getD-set-same, take-append-le, take-at, drop-at, take-add, drop-drop, drop-append-add, take-append-add}
+use lib.Seq.{length-take-le, drop-set-lt, drop-set-add, take-set-le, getD-take, getD-drop, getD-set-same, take-append-le, take-at, take-add, drop-drop, drop-append-add}
 use lib.Arith.{digits-div, digits-mod, digits-lt}
 use Rattle.theory.specs.declared.Order.{Order}
 use Rattle.theory.specs.declared.Order.the-variants.{Little, Big}
@@ -139,10 +139,6 @@ put-after-word o w bs h l =
 pub word-of-drop : (o : Order) (w p q : ℕ) (bs : List ℕ) → wordAt o w p (drop q bs) ≡ wordAt o w (q + p) bs
 unfolding wordAt
 word-of-drop o w p q bs = ap (λ (r : List ℕ). num (ordered o (take w r))) (drop-drop p q bs)
-
-pub word-front : (o : Order) (w p : ℕ) (bs : List ℕ) → wordAt o w p bs ≡ wordAt o w 0 (drop p bs)
-unfolding wordAt
-word-front o w p bs = refl
 
 -- A word fits its width.
 pub word-fits : (o : Order) (w p : ℕ) (bs : List ℕ) → Bytes bs → p + w ≤ length bs → Fits w (wordAt o w p bs)

@@ -1,5 +1,5 @@
 -- An admitted class, category and type are the word's; it and its length are the two words that are stored.
-use mathlib.Core.Path.{_≡_, ap, _∙_}
+use mathlib.Core.Path.{ap, _∙_}
 use Prim.Native.Nat.{ℕ}
 use denote.Ref.{now}
 use lib.Seq.{sets}

@@ -1,5 +1,5 @@
 -- `containers::is_alike` meets its contract: where it says yes, there is a length word, and it is the known one.
-use mathlib.Core.Path.{_≡_, sym, _∙_}
+use mathlib.Core.Path.{sym, _∙_}
 use mathlib.Core.Bool.{false≢true}
 use borrow.Author.Needs.{needs}
 use borrow.Author.Tests.{eqb-true}

@@ -1,6 +1,6 @@
 -- `rewriting::copy_file` meets its contract: header and containers stand one behind the other, and are the file.
 -- The idea: a law for each part, which asks what the part before it left.
-use Prim.Native.Nat.{_+_, _/_, _≤_}
+use Prim.Native.Nat.{_/_, _≤_}
 use native.Mathlib.Omega.{arith}
 use denote.Ref.{now}
 use lib.ListN.{length}

@@ -1,8 +1,6 @@
 -- `stores::put_block` meets its contract: what the array holds in front is the block.
 -- The idea: bytes stored at the front of a list that has room for them are read there again.
-use Prim.Native.Nat.{ℕ, _+_, _≤_}
 use mathlib.Core.Path.{_≡_, sym, ap, _∙_}
-use mathlib.Core.List.{List}
 use native.Mathlib.Omega.{arith}
 use lib.ListN.{length, take, replicate}
 use lib.Seq.{sets}
