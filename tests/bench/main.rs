@@ -1,7 +1,7 @@
-//! bench: Table, Record and Find through the exports, against the outside implementation and a loop
-//! in C that only follows the length words. All sides in one run, on the same bytes, round by round; of each
-//! side the middle time counts: at its best a side may have found the memory idle for once. For Rewrite both
-//! are given.
+//! bench: Table, Record, Find, the visitor, the walker and Rewrite through the exports, against the
+//! outside implementation, a loop in C that only follows the length words, memcpy, and each other. All
+//! sides in one run, on the same bytes, round by round; of each side the middle time counts: at its best
+//! a side may have found the memory idle for once. For Rewrite the best is given too.
 //!
 //! Table: the exports fill a row buffer that is made once, before the clock starts, and whose pages
 //! have been touched. The outside implementation has no such call: its `table` is timed as it is,
@@ -372,7 +372,7 @@ fn print_further(file: &[u8], to_copy: Option<f64>, to_outside: Option<f64>) {
 }
 
 fn main() {
-    println!("bench: the middle of {ROUNDS} rounds, the sides in turn, on the same bytes");
+    println!("bench: the middle of {ROUNDS} rounds (of Rewrite also the best), the sides in turn, on the same bytes");
     let file = events_with_traces(most_events(2_048), 2_048);
     print_case("(a) traces of 2,048 samples to 16 MiB", &file, Some(1.3));
     print_further(&file, Some(COPY_GOAL), None);

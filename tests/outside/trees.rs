@@ -728,8 +728,8 @@ const AROUND_BLOCKS: [u32; 15] = [
     254, 256, 258, 510, 512, 514, 2_046, 2_048, 2_050, 4_094, 4_096, 4_098, 6_142, 6_144, 6_146,
 ];
 
-/// Section "The six records", history: counts of times, or of masks, whose lists have 512, 4,096 or
-/// 8,192 bytes, or a little less or more: of 4 bytes each, or of 24.
+/// Section "The six records", history: counts of times, or of masks, whose lists have 512, 1,024,
+/// 4,096 or 8,192 bytes, or a little less or more: of 4 bytes each, or of 24.
 const LONG_LISTS: [u32; 17] = [
     21, 22, 42, 43, 127, 128, 129, 170, 171, 341, 342, 1_023, 1_024, 1_025, 2_047, 2_048, 2_049,
 ];

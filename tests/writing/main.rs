@@ -1,7 +1,7 @@
 //! writing [SEED [COUNT]]: compares the writers of the static library, call by call, with the outside
-//! implementation: all aimed calls, outputs over the limit, files at it; then COUNT rounds of random
-//! calls, trees with and without faults, and files written again. It ends at the first difference,
-//! and fails too when some answer occurred too seldom for the run to say much.
+//! implementation: all aimed calls, outputs over the limit, files with long parts, files at the limit;
+//! then COUNT rounds of random calls, trees with and without faults, and files written again. It ends
+//! at the first difference, and fails too when some answer occurred too seldom for the run to say much.
 
 #[allow(dead_code)]
 #[path = "../outside/aimed.rs"]

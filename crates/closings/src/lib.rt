@@ -1,4 +1,5 @@
-// The file header's writer and the closings of the two containers. All is known before the first store: a refusal changes no byte.
+// The file header's writer and the closings of the two containers. All is known before the first store: a refusal changes no byte. The closings'
+// storing halves, at the end, refuse nothing: their callers know.
 use containers::CONFIGURATION;
 use containers::Count;
 use containers::FILE_MARK;
@@ -167,7 +168,7 @@ pub fn close_event(
 
 // ---- the closings' storing halves, for contents that were checked elsewhere
 
-/// Stores a configuration's two words in front of entries that end there, as its closing does.
+/// Stores a configuration's two words in front of entries that end at `end`, as its closing does.
 pub fn begin_configuration(out: &mut [u8], place: usize, end: usize)
     requires { ⌜ (place + 8 ≤ end) × (end ≤ length (now out)) × (length (now out) ≤ 0x1000000) ⌝ }
     ensures { λ _. ⌜ now (out .exit) ≡ sets (now (out .entry)) place (closingBytes configurationWord place end) ⌝ }
@@ -175,7 +176,7 @@ pub fn begin_configuration(out: &mut [u8], place: usize, end: usize)
     put_head(out, place, end, CONFIGURATION);
 }
 
-/// Stores an event's two words in front of records that end there, as its closing does.
+/// Stores an event's two words in front of records that end at `end`, as its closing does.
 pub fn begin_event(out: &mut [u8], place: usize, end: usize, class: u32, category: u32, kind: u32)
     requires room { ⌜ (place + 8 ≤ end) × (end ≤ length (now out)) × (length (now out) ≤ 0x1000000) ⌝ }
     requires word { ⌜ eventFault class category kind ≡ 0 ⌝ }

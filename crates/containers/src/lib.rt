@@ -44,7 +44,7 @@ pub enum Holding {
     },
 }
 
-// ---- containers
+// ---- the records of a part
 
 // The length word at the front of a part; 0 where there is none.
 fn length_at(part: &[u8]) -> usize
@@ -56,7 +56,7 @@ fn length_at(part: &[u8]) -> usize
     word_at(part, 4) as usize
 }
 
-// Whether a part goes on with a structure of this length word.
+// Whether a part goes on with a structure of this length word: where it says yes, it does.
 fn is_alike(part: &[u8], known: usize) -> bool
     ensures { λ r. ⌜ (r ≡ true → (8 ≤ length (now (part .entry))) × (known ≡ word 4 (now (part .entry)))) ⌝ }
 {
@@ -95,6 +95,8 @@ pub fn records_in(part: &[u8], from: usize, context: Context) -> Count
     }
     Count::Good { count }
 }
+
+// ---- containers
 
 /// The configuration at the front of a part whose first byte stands at `at`.
 pub fn configuration_in(part: &[u8], at: usize) -> Holding

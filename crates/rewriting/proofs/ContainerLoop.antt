@@ -1,6 +1,6 @@
 -- The containers of a part, written again: what the container that stands next asks and leaves.
 -- The idea: it was read, so its first word begins a container, and its contents are read where code cuts them out. Which of the two kinds
--- it is shows in the state alone.
+-- it is the state tells; code asks the word (`event-begins`).
 use mathlib.Core.Path.{_≡_, refl, sym, ap, _∙_, subst}
 use mathlib.Core.Bool.{Bool, false}
 use mathlib.Core.List.{List, [], _∷_}

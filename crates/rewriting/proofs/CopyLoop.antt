@@ -1,4 +1,4 @@
--- A loop that writes items again, one behind the other: what is known at each turn. Once, for records and for events.
+-- A loop that writes items again, one behind the other: what is known at each turn. Once, for records and for containers.
 -- The idea: the part is what was written and what is left; what is left is read as items, so the next one is its own bytes.
 use mathlib.Core.Path.{_≡_, refl, sym, ap, ap₂, _∙_, subst}
 use mathlib.Core.List.{List, [], _∷_, _++_, append-assoc, append-nil}

@@ -13,7 +13,8 @@ use Rattle.note.specs.Events.{Container, containerSize, eventHead, eventLate}
 use Rattle.note.specs.Files.{configurationHead, configurationLate, readFile}
 use Rattle.demands.specs.Outputs.{Laid}
 
--- Behind its header a file is containers: the configuration, and then events. `first`: the configuration is still to come.
+-- Behind its header a file is containers: the configuration, and then events. The Bool says whether the configuration is still to come; that
+-- there is one is asked by `readFile`, not here.
 abbrev pub containerHead : Bool → ℕ → ℕ
 containerHead true w = configurationHead tt w
 containerHead false w = eventHead tt w
@@ -29,10 +30,11 @@ contentsIn false = event none
 unfoldable pub readContainer : Bool → ℕ → List ℕ → Res Container
 readContainer = readStructure order containerHead containerLate (λ s at bs. readRecords (contentsIn (s .0)) (at + 8) bs)
 
+-- Behind any container come events alone.
 unfoldable pub readContainers : Bool → ℕ → List ℕ → Res (List Container)
 readContainers first at bs = readSequence (λ s c. false) containerSize readContainer (length bs) first at bs
 
--- A container's first word.
+-- The word may begin a container: it is a configuration's, or an event's without a fault.
 abbrev pub Begins : ℕ → Type 0
 Begins w = (first : Bool) × (containerHead first w ≡ 0)
 

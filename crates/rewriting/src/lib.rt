@@ -37,7 +37,7 @@ fn copy_records(part: &[u8], out: &mut [u8], place: usize)
     }
 }
 
-// Stores a container's two words in front of contents that end there: a configuration's, or an event's from its class, category and type.
+// Stores a container's two words in front of contents that end at `end`: a configuration's, or an event's from its class, category and type.
 fn begin_container(out: &mut [u8], place: usize, end: usize, word: u32)
     requires room { ⌜ (place + 8 ≤ end) × (end ≤ length (now out)) × (length (now out) ≤ 0x1000000) ⌝ }
     requires word { ⌜ Begins word ⌝ }

@@ -24,7 +24,8 @@ refusedAfter old (bad c p) = p
 abbrev pub Numbers : Res ℕ → ℕ → ℕ → ℕ → ℕ → ℕ → Type 0
 Numbers r n next₀ next refusal₀ refusal = (n ≡ numberIn r) × (next ≡ nextAfter next₀ r) × (refusal ≡ refusedAfter refusal₀ r)
 
--- The same, and the output afterwards.
+-- The same, and the output afterwards: a call with the result r, whose output is to be `output`, returned n and left `after`; the lent numbers
+-- were next₀ and refusal₀ and are next and refusal.
 abbrev pub Told : Res ℕ → List ℕ → ℕ → List ℕ → ℕ → ℕ → ℕ → ℕ → Type 0
 Told r output n after next₀ next refusal₀ refusal = Numbers r n next₀ next refusal₀ refusal × (after ≡ output)
 

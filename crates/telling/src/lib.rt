@@ -2,7 +2,8 @@
 use note::WriterAnswer;
 ghost use Rattle.telling.specs.Told.{Tells};
 
-/// The number; the next place, or the refusal's place lent.
+/// Gives an answer's number, 0 where it is accepted; stores the next place, or a refusal's place, in the number that is lent for it, and leaves
+/// the other as it was.
 pub fn told(answer: WriterAnswer, next: &mut u64, refusal: &mut u64) -> u32
     ensures { λ n. ⌜ Tells answer n (now (next .entry)) (now (next .exit)) (now (refusal .entry)) (now (refusal .exit)) ⌝ }
 {

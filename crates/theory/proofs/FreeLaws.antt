@@ -1,17 +1,15 @@
 -- A free byte of any record in any box is changed: one theorem for samples and for every field that no rule looks at.
 -- The idea: the changed record is as valid as the old one where neither its rule nor what follows sees the byte; everything
 -- else stands as it stood.
-use mathlib.Core.Path.{_≡_, refl, sym, ap, _∙_, subst}
-use mathlib.Core.List.{List, [], _∷_, _++_, append-assoc}
-use Prim.Native.Nat.{ℕ, zero, suc, _+_, _-_, _*_, _^_, _≤_, _<_}
+use mathlib.Core.Path.{_≡_, refl, sym, ap, _∙_}
+use mathlib.Core.List.{List, _∷_, _++_}
+use Prim.Native.Nat.{ℕ, _+_, _-_, _<_}
 use native.Mathlib.Omega.{arith}
-use lib.ListN.{length, set, length-append, length-set}
+use lib.ListN.{length, set, length-set}
 use Rattle.theory.specs.declared.Order.{Order}
-use Rattle.theory.specs.Words.{Bytes, Fits}
-use Rattle.theory.specs.Tests.{Res, ok, bad}
-use Rattle.theory.specs.Structures.{Structure, structureBytes}
-use Rattle.theory.proofs.WordLaws.{Bytes-set, set-append-add}
-use Rattle.theory.proofs.Items.{Item, Whole, seqW, encs, Oks, steps, Oks-append, Oks-change, encs-append, encs-set, length-encs}
+use Rattle.theory.specs.Structures.{Structure}
+use Rattle.theory.proofs.WordLaws.{Bytes-set}
+use Rattle.theory.proofs.Items.{Item, Whole, seqW, encs, Oks, steps, Oks-append, Oks-change, encs-set, length-encs}
 use Rattle.theory.proofs.StructureLaws.{StructureOk, structure, ruled, inside, structure-set, length-structure}
 
 abbrev pub Leaf : Type 0
@@ -111,12 +109,3 @@ module _ (o : Order) {S E : Type 0}
         body-ok = Oks-change R s0 (p .left) r d (p .right) (here .body-ok) one′ (f .step-blind);
       } in
       Oks-change Bx e (p .before) (boxAt p r) (boxAt p d) (p .after) valid here′ (f .box-blind)
-
-  -- accepted again, as the edited boxes, wherever the boxes stand in a list that begins with `front`
-  pub free-edit : (front : List ℕ) (e : E) (at : ℕ) (p : Spot) (r : Leaf) (i v : ℕ) → Free e p r i v → Oks Bx e (plug p r)
-      → (set (front ++ encs Bx (plug p r)) (length front + (placeIn p + (8 + i))) v ≡ front ++ encs Bx (plug p (edited r i v)))
-      × (seqW Bx .read e at (encs Bx (plug p (edited r i v))) ≡ ok (plug p (edited r i v)))
-  free-edit front e at p r i v f valid = (
-    set-append-add front (encs Bx (plug p r)) (placeIn p + (8 + i)) v ∙ ap (λ (x : List ℕ). front ++ x) (free-bytes e p r i v f),
-    seqW Bx .complete e at (plug p (edited r i v)) (free-valid e p r i v f valid),
-  )

@@ -2,19 +2,18 @@
 -- The idea: a reader travels with the bytes that it reads and the proof that the two undo each other; a sequence of such
 -- readers is one again, so a format made of them needs no round-trip proof of its own.
 use mathlib.Core.Path.{_≡_, refl, sym, ap, _∙_, subst}
-use mathlib.Core.Bool.{Bool, true, false}
 use mathlib.Core.List.{List, [], _∷_, _++_, append-assoc, append-nil}
-use mathlib.Core.Logic.{_↔_, _⊎_, inl, inr}
-use Prim.Native.Nat.{ℕ, zero, suc, _+_, _-_, _*_, _^_, _≤_, _<_}
-use native.Mathlib.Nat.{le-of-suc-le-suc, not-suc-le-zero, add-zero, add-assoc}
+use mathlib.Core.Logic.{_↔_}
+use Prim.Native.Nat.{ℕ, zero, suc, _+_, _-_, _≤_, _<_}
+use native.Mathlib.Nat.{not-suc-le-zero, add-zero}
 use native.Mathlib.Omega.{arith}
-use lib.ListN.{length, set, take, drop, length-append, length-drop, take-append-drop}
-use lib.Seq.{drop-set-lt, drop-set-add, set-append-left, take-at, drop-at, drop-drop, length-take-le}
+use lib.ListN.{length, set, drop, length-append, length-drop}
+use lib.Seq.{set-append-left, drop-at}
 use Rattle.theory.specs.Words.{Bytes}
-use Rattle.theory.specs.Tests.{Res, ok, bad, need, bind, unless}
+use Rattle.theory.specs.Tests.{Res, ok, bad, bind}
 use Rattle.theory.specs.Structures.{readSequence, sequenceBytes}
-use Rattle.theory.proofs.WordLaws.{Bytes-drop, Bytes-take, set-append-add}
-use Rattle.theory.proofs.TestLaws.{ok-inj, ok-bad, bad-ok, bind-ok, bind-id, bind-ext, bind-bind}
+use Rattle.theory.proofs.WordLaws.{Bytes-drop, set-append-add}
+use Rattle.theory.proofs.TestLaws.{ok-inj, ok-bad, bind-ok, bind-id, bind-ext, bind-bind}
 
 -- ---- items and wholes
 
@@ -127,15 +126,6 @@ module _ {S A : Type 0} (F : Item S A) where
       ∙ bind-bind (seqs g (steps (F .step s a) xs) (at + F .size a + length (encs xs)) rest) (λ ys. ok (xs ++ ys)) put
       ∙ ap (λ (p : ℕ). bind (seqs g (steps (F .step s a) xs) p rest) (λ ys. ok (a ∷ (xs ++ ys)))) (simp length-append (omega arith))
 
-  -- the first fault: after valid items, a fault in what stands next is the sequence's
-  pub seq-fault : (f : ℕ) (s : S) (at : ℕ) (xs : List A) (rest : List ℕ) (c p : ℕ) → length (encs xs ++ rest) ≤ f → 0 < length rest → Bytes rest → Oks s xs
-      → F .read (steps s xs) (at + length (encs xs)) rest ≡ bad c p → seqs f s at (encs xs ++ rest) ≡ bad c p
-  seq-fault f s at xs rest c p l n h o e =
-      seq-append f (suc (length rest)) s at xs rest l (omega arith) h o
-      ∙ ap (λ (r : Res (List A)). bind r (λ ys. ok (xs ++ ys)))
-      (seq-open (length rest) (steps s xs) (at + length (encs xs)) rest n
-      ∙ ap (λ (r : Res A). bind r (turn (length rest) (steps s xs) (at + length (encs xs)) rest)) e)
-
   pub seq-complete : (f : ℕ) (s : S) (at : ℕ) (xs : List A) → length (encs xs) ≤ f → Oks s xs → seqs f s at (encs xs) ≡ ok xs
   seq-complete f s at xs l o =
       ap (seqs f s at) (sym (append-nil (encs xs)))
@@ -184,21 +174,6 @@ module _ {S A : Type 0} (F : Item S A) where
       ∙ set-append-add (encs xs) (F .enc a ++ encs ys) j v
       ∙ ap (λ (r : List ℕ). encs xs ++ r) (set-append-left (F .enc a) (encs ys) j v h ∙ ap (λ (r : List ℕ). r ++ encs ys) e)
       ∙ sym (encs-append xs (b ∷ ys))
-
-  -- an item is read as before where a byte is changed that is none of its own
-  pub item-local : (s : S) (at q : ℕ) (bs : List ℕ) (a : A) (i v : ℕ) → Bytes bs → F .read s at (drop q bs) ≡ ok a → (i < q) ⊎ (q + F .size a ≤ i)
-      → F .read s at (drop q (set bs i v)) ≡ ok a
-  item-local s at q bs a i v h e (inl l) = rw (drop-set-lt q bs i v l) e
-  item-local s at q bs a i v h e (inr l) =
-      let (p, o) = F .sound s at (drop q bs) a (Bytes-drop q bs h) e in
-      let m : ℕ = i - q - F .size a in
-      let sz : F .size a ≡ length (F .enc a) = F .sizes a in
-      let where′ : i ≡ q + (length (F .enc a) + m) = omega arith in
-      ap (λ (j : ℕ). F .read s at (drop q (set bs j v))) where′
-      ∙ ap (λ (r : List ℕ). F .read s at r)
-      (drop-set-add q bs (length (F .enc a) + m) v ∙ ap (λ (r : List ℕ). set r (length (F .enc a) + m) v) p
-      ∙ set-append-add (F .enc a) (drop (F .size a) (drop q bs)) m v)
-      ∙ F .complete s at a (set (drop (F .size a) (drop q bs)) m v) o
 
   -- a refusal is the first item's at fault: what stands before it is valid items
   pub seq-refused : (f : ℕ) (s : S) (at : ℕ) (bs : List ℕ) (c p : ℕ) → length bs ≤ f → Bytes bs → seqs f s at bs ≡ bad c p

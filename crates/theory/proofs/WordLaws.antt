@@ -19,10 +19,6 @@ pub Bytes-append : (xs ys : List ℕ) → Bytes xs → Bytes ys → Bytes (xs ++
 Bytes-append [] ys h k = k
 Bytes-append (x ∷ xs) ys h k = (h .0, Bytes-append xs ys (h .1) k)
 
-pub Bytes-left : (xs ys : List ℕ) → Bytes (xs ++ ys) → Bytes xs
-Bytes-left [] ys h = tt
-Bytes-left (x ∷ xs) ys h = (h .0, Bytes-left xs ys (h .1))
-
 pub Bytes-right : (xs ys : List ℕ) → Bytes (xs ++ ys) → Bytes ys
 Bytes-right [] ys h = h
 Bytes-right (x ∷ xs) ys h = Bytes-right xs ys (h .1)

@@ -14,7 +14,7 @@ use Rattle.telling.specs.Told.{Told}
 
 -- What a caller is told of a record or an entry written from a place on, and the output afterwards.
 abbrev pub RecordTold : List ℕ → ℕ → Written → ℕ → List ℕ → ℕ → ℕ → ℕ → ℕ → Type 0
-RecordTold out place w = Told (recordWrote out place w) (recordOutput out place w)
+RecordTold out place w n after next₀ next refusal₀ refusal = Told (recordWrote out place w) (recordOutput out place w) n after next₀ next refusal₀ refusal
 
 -- The fields of an array, in the order of their words.
 abbrev signedAt : List ℤ → ℕ → ℤ
