@@ -21,6 +21,7 @@ use Rattle.note.specs.Writers.{closingBytes}
 use Rattle.demands.specs.Outputs.{Laid}
 use Rattle.demands.proofs.Bundles.{records, eventItem, same-records}
 use Rattle.record.proofs.StepLaws.{cut}
+use Rattle.closings.specs.Closing.{HasRoom}
 use Rattle.rewriting.specs.Ready.{containerHead, containerLate, contentsIn, readContainer, readContainers, Begins, RecordsReady, Stands}
 use Rattle.rewriting.proofs.CopyLoop as loop
 use Rattle.rewriting.proofs.CopyLoop.{Copying, here, next}
@@ -73,7 +74,7 @@ module _ {old : List ℕ} {place : ℕ} {part out rest : List ℕ} {at : ℕ} (i
     same = λ j. record { kind = (ew ∙ sym (opened .kind-is)) j; body = item .body }
 
     -- Its two words have room.
-    pub begin-ready : ((at + 8 ≤ at + (8 + m)) × (at + (8 + m) ≤ length out) × (length out ≤ fileLimit)) × Begins w
+    pub begin-ready : HasRoom out at (at + (8 + m)) × Begins w
     begin-ready = (
       (omega arith, omega (arith, container-turn m em .0, loop.inside containerItem i .0), loop.inside containerItem i .1),
       (i .state, ap (containerHead (i .state)) ew ∙ opened .head-ok),
