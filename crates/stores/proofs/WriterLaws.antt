@@ -16,6 +16,7 @@ use Rattle.note.specs.declared.WriterAnswer.the-variants.{Next, Refused}
 use Rattle.note.specs.Limits.{fileLimit}
 use Rattle.note.specs.Answers.{Given, givenWriter}
 use Rattle.note.specs.Writers.{wrote, writerGiven, written, Written, recordWrote, recordOutput}
+use Rattle.stores.specs.Writes.{Wrote}
 use Rattle.stores.proofs.StoreLaws.{rest-stored}
 
 -- ---- an answer determines the result
@@ -85,10 +86,6 @@ module _ (out : List ℕ) (place : ℕ) (w : Res ℕ) (bytes : List ℕ) {r : Wr
 
 -- ---- one record
 
--- The answer and the output afterwards are those of a record.
-abbrev pub Wrote : List ℕ → ℕ → WriterAnswer → List ℕ → Written → Type 0
-Wrote out place r after w = (givenWriter r ≡ writerGiven (recordWrote out place w)) × (after ≡ recordOutput out place w)
-
 -- Of fields with a fault, the size isn't asked.
 size-unasked : (n place fault s t : ℕ) → (fault ≡ 0 → s ≡ t) → wrote n place fault s ≡ wrote n place fault t
 unfolding wrote
@@ -105,13 +102,13 @@ module _ (out : List ℕ) (place : ℕ) (w : Written) (fault size : ℕ) (e : fa
       ∙ ap (λ (f : ℕ). wrote (length out) place f (length (w .bytes))) e)
 
   -- A refusal is the writer's own.
-  pub refuses : {c p : ℕ} → r ≡ Refused c p → Wrote out place (Refused c p) out w
+  pub refuses : {c p : ℕ} → r ≡ Refused c p → Wrote out place w (Refused c p) out
   unfolding recordOutput
   refuses n = (sym (ap givenWriter n) ∙ own, kept out place (recordWrote out place w) (w .bytes) n own)
 
   -- The record is written where its bytes were stored into the rest of the output.
   pub writes : {next : ℕ} → r ≡ Next next → (rest : List ℕ) → rest ≡ sets (midOf place (length out - place) out) 0 (w .bytes)
-      → Wrote out place (Next next) (putMid place (length out - place) out rest) w
+      → Wrote out place w (Next next) (putMid place (length out - place) out rest)
   unfolding recordOutput
   writes n rest q =
       let told = room-told (length out) place fault size n said in
@@ -125,11 +122,12 @@ refused-either zero f p out place a b = refl
 refused-either (suc c) f p out place a b = refl
 
 module _ (out : List ℕ) (place : ℕ) (r : WriterAnswer) (after : List ℕ) where
-  others : (fault : ℕ) (a b : List ℕ) → (fault ≡ 0 → a ≡ b) → Wrote out place r after (record { fault = fault; bytes = a }) → Wrote out place r after (record { fault = fault; bytes = b })
+  others : (fault : ℕ) (a b : List ℕ) → (fault ≡ 0 → a ≡ b)
+      → Wrote out place (record { fault = fault; bytes = a }) r after → Wrote out place (record { fault = fault; bytes = b }) r after
   unfolding recordOutput recordWrote wrote
-  others zero a b h s = subst (λ (bytes : List ℕ). Wrote out place r after (record { fault = 0; bytes = bytes })) (h refl) s
+  others zero a b h s = subst (λ (bytes : List ℕ). Wrote out place (record { fault = 0; bytes = bytes }) r after) (h refl) s
   others (suc f) a b h s = (s .0, s .1 ∙ refused-either (unless (leb (length out) fileLimit) 1) (suc f) place out place a b)
 
   pub bytes-unasked : (fault : ℕ) (bytes : List ℕ) (w : Written) → fault ≡ w .fault → (fault ≡ 0 → bytes ≡ w .bytes)
-      → Wrote out place r after (record { fault = fault; bytes = bytes }) → Wrote out place r after w
-  bytes-unasked fault bytes w e h s = subst (λ (f : ℕ). Wrote out place r after (record { fault = f; bytes = w .bytes })) e (others fault bytes (w .bytes) h s)
+      → Wrote out place (record { fault = fault; bytes = bytes }) r after → Wrote out place w r after
+  bytes-unasked fault bytes w e h s = subst (λ (f : ℕ). Wrote out place (record { fault = f; bytes = w .bytes }) r after) e (others fault bytes (w .bytes) h s)

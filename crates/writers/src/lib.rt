@@ -22,15 +22,40 @@ use stores::put_part;
 use stores::put_words;
 use stores::write_structure;
 ghost use mathlib.Core.Path.{_≡_};
+ghost use mathlib.Core.List.{[], map};
 ghost use Prim.Native.Nat.{_+_, _*_, _%_, _≤_, _<_};
 ghost use lib.ListN.{length};
 ghost use lib.Seq.{sets};
+ghost use Rattle.note.specs.Words.{unsigned};
 ghost use Rattle.note.specs.Gps.{bcd};
 ghost use Rattle.note.specs.History.{sectionBytes};
 ghost use Rattle.note.specs.Writers.{phononWritten, chargeWritten, administrativeWritten, traceWritten, historyWritten, gpsWritten, triggerWritten, tlbWritten};
+ghost use Rattle.stores.specs.Structures.{structureWritten};
 ghost use Rattle.stores.specs.Writes.{Wrote};
 
-// ---- entries
+// ---- entries, whose fields are all signed
+
+// Stores the words of signed fields, from the first one on.
+fn put_signed(ws: &mut [u32], fields: &[i32])
+    requires { ⌜ length (now fields) ≤ length (now ws) ⌝ }
+    ensures { λ _. ⌜ now (ws .exit) ≡ sets (now (ws .entry)) 0 (map unsigned (now (fields .entry))) ⌝ }
+{
+    let mut i = 0;
+    while i < fields.len() {
+        ws[i] = from_signed(fields[i]);
+        i += 1;
+    }
+}
+
+// Writes an entry with this fault.
+fn write_entry(out: &mut [u8], place: usize, fault: u32, kind: u32, fields: &[i32]) -> WriterAnswer
+    requires { ⌜ length (now fields) ≤ 11 ⌝ }
+    ensures { λ r. ⌜ Wrote (now (out .entry)) place (structureWritten fault kind (map unsigned (now (fields .entry))) []) r (now (out .exit)) ⌝ }
+{
+    let mut ws = [0u32; 11];
+    put_signed(&mut ws, fields);
+    write_structure(out, place, fault, kind, &ws[..fields.len()], &[])
+}
 
 /// Writes a phonon entry: detector code, tower, gain x100, QET bias x100, SQUID bias x100, lockpoint x100, RTF offset, variable gain,
 /// delta t, T0, trace length.
@@ -63,26 +88,24 @@ pub fn write_phonon(
       traceLength = «trace_length»;
     })) r (now (out .exit)) ⌝ }
 {
-    let word = from_signed(code);
-    write_structure(
+    write_entry(
         out,
         place,
-        phonon_fault(word),
+        phonon_fault(from_signed(code)),
         PHONON,
         &[
-            word,
-            from_signed(tower),
-            from_signed(gain),
-            from_signed(qet_bias),
-            from_signed(squid_bias),
-            from_signed(lockpoint),
-            from_signed(rtf_offset),
-            from_signed(variable_gain),
-            from_signed(delta_t),
-            from_signed(t0),
-            from_signed(trace_length),
+            code,
+            tower,
+            gain,
+            qet_bias,
+            squid_bias,
+            lockpoint,
+            rtf_offset,
+            variable_gain,
+            delta_t,
+            t0,
+            trace_length,
         ],
-        &[],
     )
 }
 
@@ -110,23 +133,21 @@ pub fn write_charge(
       traceLength = «trace_length»;
     })) r (now (out .exit)) ⌝ }
 {
-    let word = from_signed(code);
-    write_structure(
+    write_entry(
         out,
         place,
-        charge_fault(word),
+        charge_fault(from_signed(code)),
         CHARGE,
         &[
-            word,
-            from_signed(tower),
-            from_signed(gain),
-            from_signed(bias),
-            from_signed(rtf_offset),
-            from_signed(delta_t),
-            from_signed(t0),
-            from_signed(trace_length),
+            code,
+            tower,
+            gain,
+            bias,
+            rtf_offset,
+            delta_t,
+            t0,
+            trace_length,
         ],
-        &[],
     )
 }
 

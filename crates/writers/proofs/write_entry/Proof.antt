@@ -1,0 +1,74 @@
+-- `writers::write_entry` meets its contract: the words that the array holds in front are the fields'.
+-- The idea: words stored at the front of an array that has room for them are read there again.
+use mathlib.Core.Path.{_≡_, refl, sym, ap, _∙_}
+use mathlib.Core.List.{List, [], map}
+use Prim.Native.Nat.{ℕ}
+use native.Mathlib.Omega.{arith}
+use lib.ListN.{length, length-map, take, replicate}
+use lib.Seq.{sets}
+use Rattle.note.specs.Words.{unsigned}
+use Rattle.stores.specs.Structures.{structured}
+use Rattle.stores.proofs.WriterLaws.{bytes-unasked}
+use Rattle.stores.proofs.StoreLaws.{front-stored}
+use borrow.Author.Needs.{needs}
+use Rattle.writers.proofs.write_entry.Statement.{statement}
+use Rattle.writers.proofs.write_entry.Tie as tie
+use Rattle.writers.proofs.write_entry.Reads as reads
+use Rattle.writers.proofs.write_entry.Lts as lts
+use Rattle.stores.proofs.write_structure.Reads as write-structure-reads
+use Rattle.writers.proofs.put_signed.Reads as put-signed-reads
+
+slice-aggregate-put-signed : tie.Need-slice-aggregate-put-signed
+slice-aggregate-put-signed c = search needs
+
+put-signed-requires : tie.Need-put-signed-requires
+put-signed-requires c κs = search needs
+
+array-share-prefix-ws : tie.Need-array-share-prefix-ws
+array-share-prefix-ws c = search needs
+
+-- The array's first words, as many as there are fields.
+held : (c : tie.After-ws3)
+    → take (length (c .before .before .before .before .before .before .args .fields .now)) (c .before .before .before .put-signed .last .0)
+    ≡ map unsigned (c .before .before .before .before .before .before .args .fields .now)
+held c =
+    let s = c .before .before .before .before .before .before in
+    let zs = s .args .fields .now in
+    let size : length (map unsigned zs) ≡ length zs = length-map zs unsigned in
+    ap (take (length zs)) (c .before .before .before .put-signed .ensures)
+    ∙ ap (λ (n : ℕ). take n (sets (replicate 11 0) 0 (map unsigned zs))) (sym size)
+    ∙ front-stored (replicate 11 0) (map unsigned zs) (omega (arith, size, s .pre))
+
+slice-aggregate-write-structure : tie.Need-slice-aggregate-write-structure
+slice-aggregate-write-structure c =
+    sym (ap length (held c) ∙ length-map (c .before .before .before .before .before .before .args .fields .now) unsigned)
+
+slice-aggregate-write-structure-2 : tie.Need-slice-aggregate-write-structure-2
+slice-aggregate-write-structure-2 c = search needs
+
+write-structure-requires : tie.Need-write-structure-requires
+write-structure-requires c κs =
+    let s = c .before .before .before .before .before .before .before in
+    omega (arith, ap length (held (c .before)), length-map (s .args .fields .now) unsigned, s .pre)
+
+same-length : tie.Need-same-length
+same-length c = search needs
+
+returns : tie.Need-returns
+returns c =
+    let asked = c .before .before .before .before in
+    let kind = asked .before .before .before .before .before .before .args .kind in
+    bytes-unasked _ _ _ _ _ _ _ refl (λ z. ap (λ (ws : List ℕ). structured kind ws []) (held asked)) (c .before .before .write-structure .ensures)
+
+pub write-entry-spec : {M : Type 1} → statement M
+write-entry-spec =
+    tie.close
+    (tie.spec
+    slice-aggregate-put-signed
+    put-signed-requires
+    array-share-prefix-ws
+    slice-aggregate-write-structure
+    slice-aggregate-write-structure-2
+    write-structure-requires
+    same-length
+    returns)
