@@ -5,12 +5,14 @@ use Prim.Native.Nat.{ℕ}
 use Rattle.note.specs.declared.WriterAnswer.{WriterAnswer}
 use Rattle.note.specs.declared.WriterAnswer.the-variants.{Next, Refused}
 use Rattle.stores.proofs.WriterLaws.{next-told, refusal-told}
-use Rattle.telling.specs.Told.{numberIn, nextAfter, refusedAfter, Tells}
+use Rattle.telling.specs.Told.{Lent, numbersOf, Tells}
 
-pub tells-next : {answer : WriterAnswer} {place : ℕ} (next refusal : ℕ) → answer ≡ Next place → Tells answer 0 next place refusal refusal
-unfolding numberIn nextAfter refusedAfter
-tells-next next refusal e r h = let is = next-told r e h in (rw is, rw is, rw is)
+pub tells-next : {answer : WriterAnswer} {place : ℕ} (lent : Lent) → answer ≡ Next place
+    → Tells answer lent (record { number = 0; next = place; refusal = lent .refusal })
+unfolding numbersOf
+tells-next lent e r h = rw (next-told r e h)
 
-pub tells-refusal : {answer : WriterAnswer} {number place : ℕ} (next refusal : ℕ) → answer ≡ Refused number place → Tells answer number next next refusal place
-unfolding numberIn nextAfter refusedAfter
-tells-refusal next refusal e r h = let is = refusal-told r e h in (rw is, rw is, rw is)
+pub tells-refusal : {answer : WriterAnswer} {number place : ℕ} (lent : Lent) → answer ≡ Refused number place
+    → Tells answer lent (record { number = number; next = lent .next; refusal = place })
+unfolding numbersOf
+tells-refusal lent e r h = rw (refusal-told r e h)

@@ -10,11 +10,11 @@ use Rattle.note.specs.Gps.{Gps}
 use Rattle.note.specs.Trigger.{Trigger}
 use Rattle.note.specs.Tlb.{Tlb}
 use Rattle.note.specs.Writers.{Written, recordWrote, recordOutput}
-use Rattle.telling.specs.Told.{Told}
+use Rattle.telling.specs.Told.{Lent, Numbers, Told}
 
 -- What a caller is told of a record or an entry written from a place on, and the output afterwards.
-abbrev pub RecordTold : List ℕ → ℕ → Written → ℕ → List ℕ → ℕ → ℕ → ℕ → ℕ → Type 0
-RecordTold out place w n after next₀ next refusal₀ refusal = Told (recordWrote out place w) (recordOutput out place w) n after next₀ next refusal₀ refusal
+abbrev pub RecordTold : List ℕ → ℕ → Written → Lent → Numbers → List ℕ → Type 0
+RecordTold out place w = Told (recordWrote out place w) (recordOutput out place w)
 
 -- The fields of an array, in the order of their words.
 abbrev signedAt : List ℤ → ℕ → ℤ
@@ -24,19 +24,69 @@ abbrev numberAt : List ℕ → ℕ → ℕ
 numberAt ns k = getD ns k 0
 
 unfoldable pub phononFrom : List ℤ → Phonon
-phononFrom zs = record { code = signedAt zs 0; tower = signedAt zs 1; gain = signedAt zs 2; qetBias = signedAt zs 3; squidBias = signedAt zs 4; lockpoint = signedAt zs 5; rtfOffset = signedAt zs 6; variableGain = signedAt zs 7; deltaT = signedAt zs 8; t0 = signedAt zs 9; traceLength = signedAt zs 10 }
+phononFrom zs = record {
+  code = signedAt zs 0;
+  tower = signedAt zs 1;
+  gain = signedAt zs 2;
+  qetBias = signedAt zs 3;
+  squidBias = signedAt zs 4;
+  lockpoint = signedAt zs 5;
+  rtfOffset = signedAt zs 6;
+  variableGain = signedAt zs 7;
+  deltaT = signedAt zs 8;
+  t0 = signedAt zs 9;
+  traceLength = signedAt zs 10;
+}
 
 unfoldable pub chargeFrom : List ℤ → Charge
-chargeFrom zs = record { code = signedAt zs 0; tower = signedAt zs 1; gain = signedAt zs 2; bias = signedAt zs 3; rtfOffset = signedAt zs 4; deltaT = signedAt zs 5; t0 = signedAt zs 6; traceLength = signedAt zs 7 }
+chargeFrom zs = record {
+  code = signedAt zs 0;
+  tower = signedAt zs 1;
+  gain = signedAt zs 2;
+  bias = signedAt zs 3;
+  rtfOffset = signedAt zs 4;
+  deltaT = signedAt zs 5;
+  t0 = signedAt zs 6;
+  traceLength = signedAt zs 7;
+}
 
 unfoldable pub administrativeFrom : List ℕ → Administrative
-administrativeFrom ns = record { date = numberAt ns 0; clock = numberAt ns 1; number = numberAt ns 2; time = numberAt ns 3; since = numberAt ns 4; live = numberAt ns 5 }
+administrativeFrom ns = record {
+  date = numberAt ns 0;
+  clock = numberAt ns 1;
+  number = numberAt ns 2;
+  time = numberAt ns 3;
+  since = numberAt ns 4;
+  live = numberAt ns 5;
+}
 
 unfoldable pub gpsFrom : List ℕ → Gps
-gpsFrom ns = record { year = numberAt ns 0; day = numberAt ns 1; status = numberAt ns 2; hour = numberAt ns 3; minute = numberAt ns 4; second = numberAt ns 5; tenths = numberAt ns 6 }
+gpsFrom ns = record {
+  year = numberAt ns 0;
+  day = numberAt ns 1;
+  status = numberAt ns 2;
+  hour = numberAt ns 3;
+  minute = numberAt ns 4;
+  second = numberAt ns 5;
+  tenths = numberAt ns 6;
+}
 
 unfoldable pub triggerFrom : List ℕ → Trigger
-triggerFrom ns = record { mask1 = numberAt ns 0; mask2 = numberAt ns 1; mask3 = numberAt ns 2; mask4 = numberAt ns 3; mask5 = numberAt ns 4; mask6 = numberAt ns 5 }
+triggerFrom ns = record {
+  mask1 = numberAt ns 0;
+  mask2 = numberAt ns 1;
+  mask3 = numberAt ns 2;
+  mask4 = numberAt ns 3;
+  mask5 = numberAt ns 4;
+  mask6 = numberAt ns 5;
+}
 
 unfoldable pub tlbFrom : List ℕ → Tlb
-tlbFrom ns = record { tower1 = numberAt ns 0; tower2 = numberAt ns 1; tower3 = numberAt ns 2; tower4 = numberAt ns 3; tower5 = numberAt ns 4; tower6 = numberAt ns 5 }
+tlbFrom ns = record {
+  tower1 = numberAt ns 0;
+  tower2 = numberAt ns 1;
+  tower3 = numberAt ns 2;
+  tower4 = numberAt ns 3;
+  tower5 = numberAt ns 4;
+  tower6 = numberAt ns 5;
+}

@@ -13,7 +13,9 @@ pub extern "C" fn dwj_write_phonon(
     next: &mut u64,
     refusal: &mut u64,
 ) -> u32
-    ensures { λ r. ⌜ RecordTold (now (out .entry)) place (phononWritten (phononFrom (now (fields .entry)))) r (now (out .exit)) (now (next .entry)) (now (next .exit)) (now (refusal .entry)) (now (refusal .exit)) ⌝ }
+    ensures { λ r. ⌜ RecordTold (now (out .entry)) place (phononWritten (phononFrom (now (fields .entry))))
+        (record { next = now (next .entry); refusal = now (refusal .entry) })
+        (record { number = r; next = now (next .exit); refusal = now (refusal .exit) }) (now (out .exit)) ⌝ }
 {
     let answer = dwejrasq::write_phonon(
         out,
@@ -42,7 +44,9 @@ pub extern "C" fn dwj_write_charge(
     next: &mut u64,
     refusal: &mut u64,
 ) -> u32
-    ensures { λ r. ⌜ RecordTold (now (out .entry)) place (chargeWritten (chargeFrom (now (fields .entry)))) r (now (out .exit)) (now (next .entry)) (now (next .exit)) (now (refusal .entry)) (now (refusal .exit)) ⌝ }
+    ensures { λ r. ⌜ RecordTold (now (out .entry)) place (chargeWritten (chargeFrom (now (fields .entry))))
+        (record { next = now (next .entry); refusal = now (refusal .entry) })
+        (record { number = r; next = now (next .exit); refusal = now (refusal .exit) }) (now (out .exit)) ⌝ }
 {
     let answer = dwejrasq::write_charge(
         out,
@@ -68,7 +72,9 @@ pub extern "C" fn dwj_write_administrative(
     next: &mut u64,
     refusal: &mut u64,
 ) -> u32
-    ensures { λ r. ⌜ RecordTold (now (out .entry)) place (administrativeWritten (administrativeFrom (now (fields .entry)))) r (now (out .exit)) (now (next .entry)) (now (next .exit)) (now (refusal .entry)) (now (refusal .exit)) ⌝ }
+    ensures { λ r. ⌜ RecordTold (now (out .entry)) place (administrativeWritten (administrativeFrom (now (fields .entry))))
+        (record { next = now (next .entry); refusal = now (refusal .entry) })
+        (record { number = r; next = now (next .exit); refusal = now (refusal .exit) }) (now (out .exit)) ⌝ }
 {
     let answer = dwejrasq::write_administrative(
         out,
@@ -98,7 +104,17 @@ pub extern "C" fn dwj_write_trace(
     next: &mut u64,
     refusal: &mut u64,
 ) -> u32
-    ensures { λ r. ⌜ RecordTold (now (out .entry)) place (traceWritten (record { address = address; channel = channel; code = code; t0 = t0; delta = delta; n = n; samples = now (samples .entry) })) r (now (out .exit)) (now (next .entry)) (now (next .exit)) (now (refusal .entry)) (now (refusal .exit)) ⌝ }
+    ensures { λ r. ⌜ RecordTold (now (out .entry)) place (traceWritten (record {
+      address = address;
+      channel = channel;
+      code = code;
+      t0 = t0;
+      delta = delta;
+      n = n;
+      samples = now (samples .entry);
+    }))
+        (record { next = now (next .entry); refusal = now (refusal .entry) })
+        (record { number = r; next = now (next .exit); refusal = now (refusal .exit) }) (now (out .exit)) ⌝ }
 {
     let answer = dwejrasq::write_trace(out, place, address, channel, code, t0, delta, n, samples);
     told(answer, next, refusal)
@@ -120,7 +136,22 @@ pub extern "C" fn dwj_write_history(
     next: &mut u64,
     refusal: &mut u64,
 ) -> u32
-    ensures { λ r. ⌜ RecordTold (now (out .entry)) place (historyWritten (record { veto = record { count = «veto_count»; times = now («veto_times» .entry); width = «veto_width»; masks = now («veto_masks» .entry) }; trigger = record { count = «trigger_count»; times = now («trigger_times» .entry); width = «trigger_width»; masks = now («trigger_masks» .entry) } })) r (now (out .exit)) (now (next .entry)) (now (next .exit)) (now (refusal .entry)) (now (refusal .exit)) ⌝ }
+    ensures { λ r. ⌜ RecordTold (now (out .entry)) place (historyWritten (record {
+      veto = record {
+        count = «veto_count»;
+        times = now («veto_times» .entry);
+        width = «veto_width»;
+        masks = now («veto_masks» .entry);
+      };
+      trigger = record {
+        count = «trigger_count»;
+        times = now («trigger_times» .entry);
+        width = «trigger_width»;
+        masks = now («trigger_masks» .entry);
+      };
+    }))
+        (record { next = now (next .entry); refusal = now (refusal .entry) })
+        (record { number = r; next = now (next .exit); refusal = now (refusal .exit) }) (now (out .exit)) ⌝ }
 {
     let answer = dwejrasq::write_history(
         out,
@@ -146,7 +177,9 @@ pub extern "C" fn dwj_write_gps(
     next: &mut u64,
     refusal: &mut u64,
 ) -> u32
-    ensures { λ r. ⌜ RecordTold (now (out .entry)) place (gpsWritten (gpsFrom (now (fields .entry)))) r (now (out .exit)) (now (next .entry)) (now (next .exit)) (now (refusal .entry)) (now (refusal .exit)) ⌝ }
+    ensures { λ r. ⌜ RecordTold (now (out .entry)) place (gpsWritten (gpsFrom (now (fields .entry))))
+        (record { next = now (next .entry); refusal = now (refusal .entry) })
+        (record { number = r; next = now (next .exit); refusal = now (refusal .exit) }) (now (out .exit)) ⌝ }
 {
     let answer = dwejrasq::write_gps(
         out,
@@ -171,7 +204,9 @@ pub extern "C" fn dwj_write_trigger(
     next: &mut u64,
     refusal: &mut u64,
 ) -> u32
-    ensures { λ r. ⌜ RecordTold (now (out .entry)) place (triggerWritten (triggerFrom (now (fields .entry)))) r (now (out .exit)) (now (next .entry)) (now (next .exit)) (now (refusal .entry)) (now (refusal .exit)) ⌝ }
+    ensures { λ r. ⌜ RecordTold (now (out .entry)) place (triggerWritten (triggerFrom (now (fields .entry))))
+        (record { next = now (next .entry); refusal = now (refusal .entry) })
+        (record { number = r; next = now (next .exit); refusal = now (refusal .exit) }) (now (out .exit)) ⌝ }
 {
     let answer = dwejrasq::write_trigger(
         out,
@@ -195,7 +230,9 @@ pub extern "C" fn dwj_write_tlb(
     next: &mut u64,
     refusal: &mut u64,
 ) -> u32
-    ensures { λ r. ⌜ RecordTold (now (out .entry)) place (tlbWritten (tlbFrom (now (fields .entry)))) r (now (out .exit)) (now (next .entry)) (now (next .exit)) (now (refusal .entry)) (now (refusal .exit)) ⌝ }
+    ensures { λ r. ⌜ RecordTold (now (out .entry)) place (tlbWritten (tlbFrom (now (fields .entry))))
+        (record { next = now (next .entry); refusal = now (refusal .entry) })
+        (record { number = r; next = now (next .exit); refusal = now (refusal .exit) }) (now (out .exit)) ⌝ }
 {
     let answer = dwejrasq::write_tlb(
         out,
@@ -219,7 +256,9 @@ pub extern "C" fn dwj_write_header(
     next: &mut u64,
     refusal: &mut u64,
 ) -> u32
-    ensures { λ r. ⌜ Told (headerWrote (now (out .entry))) (headerOutput (now (out .entry)) major minor) r (now (out .exit)) (now (next .entry)) (now (next .exit)) (now (refusal .entry)) (now (refusal .exit)) ⌝ }
+    ensures { λ r. ⌜ Told (headerWrote (now (out .entry))) (headerOutput (now (out .entry)) major minor)
+        (record { next = now (next .entry); refusal = now (refusal .entry) })
+        (record { number = r; next = now (next .exit); refusal = now (refusal .exit) }) (now (out .exit)) ⌝ }
 {
     let answer = dwejrasq::write_header(out, major, minor);
     told(answer, next, refusal)
@@ -234,7 +273,9 @@ pub extern "C" fn dwj_close_configuration(
     next: &mut u64,
     refusal: &mut u64,
 ) -> u32
-    ensures { λ r. ⌜ Told (configurationClosed (now (out .entry)) place end) (configurationOutput (now (out .entry)) place end) r (now (out .exit)) (now (next .entry)) (now (next .exit)) (now (refusal .entry)) (now (refusal .exit)) ⌝ }
+    ensures { λ r. ⌜ Told (configurationClosed (now (out .entry)) place end) (configurationOutput (now (out .entry)) place end)
+        (record { next = now (next .entry); refusal = now (refusal .entry) })
+        (record { number = r; next = now (next .exit); refusal = now (refusal .exit) }) (now (out .exit)) ⌝ }
 {
     let answer = dwejrasq::close_configuration(out, place, end);
     told(answer, next, refusal)
@@ -252,7 +293,9 @@ pub extern "C" fn dwj_close_event(
     next: &mut u64,
     refusal: &mut u64,
 ) -> u32
-    ensures { λ r. ⌜ Told (eventClosed (now (out .entry)) place end class category kind) (eventOutput (now (out .entry)) place end class category kind) r (now (out .exit)) (now (next .entry)) (now (next .exit)) (now (refusal .entry)) (now (refusal .exit)) ⌝ }
+    ensures { λ r. ⌜ Told (eventClosed (now (out .entry)) place end class category kind) (eventOutput (now (out .entry)) place end class category kind)
+        (record { next = now (next .entry); refusal = now (refusal .entry) })
+        (record { number = r; next = now (next .exit); refusal = now (refusal .exit) }) (now (out .exit)) ⌝ }
 {
     let answer = dwejrasq::close_event(out, place, end, class, category, kind);
     told(answer, next, refusal)

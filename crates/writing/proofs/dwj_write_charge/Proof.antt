@@ -1,4 +1,5 @@
 -- The writer's own contract, of the fields in the array; its answer told in lent numbers.
+-- The idea: each number of the array fits its word, so it is handed on as it is.
 use Rattle.note.specs.Charge.{Charge}
 use Rattle.note.specs.Writers.{chargeWritten}
 use denote.Ref.{now}
@@ -49,7 +50,30 @@ same-length c = search needs
 
 returns : tie.Need-returns
 unfolding chargeFrom
-returns c = let zs = now (c .before .before .before .before .before .before .before .before .before .before .before .before .before .before .before .before .args .fields) in let w = handed chargeWritten (now (c .before .before .before .before .before .before .before .before .before .before .before .before .before .before .before .before .args .out)) (c .before .before .before .before .before .before .before .before .before .before .before .before .before .before .before .before .args .place) (λ i. record { code = kept (getD zs 0 (pos 0)) (c .before .before .before .before .before .before .before .before .before .before .before .before .before .write-charge-arg2 .given) i; tower = kept (getD zs 1 (pos 0)) (c .before .before .before .before .before .before .before .before .before .before .before .before .write-charge-arg3 .given) i; gain = kept (getD zs 2 (pos 0)) (c .before .before .before .before .before .before .before .before .before .before .before .write-charge-arg4 .given) i; bias = kept (getD zs 3 (pos 0)) (c .before .before .before .before .before .before .before .before .before .before .write-charge-arg5 .given) i; rtfOffset = kept (getD zs 4 (pos 0)) (c .before .before .before .before .before .before .before .before .before .write-charge-arg6 .given) i; deltaT = kept (getD zs 5 (pos 0)) (c .before .before .before .before .before .before .before .before .write-charge-arg7 .given) i; t0 = kept (getD zs 6 (pos 0)) (c .before .before .before .before .before .before .before .write-charge-arg8 .given) i; traceLength = kept (getD zs 7 (pos 0)) (c .before .before .before .before .before .before .write-charge-arg9 .given) i }) (c .before .before .before .before .before .write-charge .ensures) in let t = c .told .ensures _ (w .0) in (t, w .1)
+returns c =
+    let written = c .before .before .before .before .before in
+    let at7 = written .before in
+    let at6 = at7 .before in
+    let at5 = at6 .before in
+    let at4 = at5 .before in
+    let at3 = at4 .before in
+    let at2 = at3 .before in
+    let at1 = at2 .before in
+    let at0 = at1 .before in
+    let s = at0 .before .before .before in
+    let zs = now (s .args .fields) in
+    let w = handed chargeWritten (now (s .args .out)) (s .args .place)
+    (λ i. record {
+      code = kept (getD zs 0 (pos 0)) (at0 .write-charge-arg2 .given) i;
+      tower = kept (getD zs 1 (pos 0)) (at1 .write-charge-arg3 .given) i;
+      gain = kept (getD zs 2 (pos 0)) (at2 .write-charge-arg4 .given) i;
+      bias = kept (getD zs 3 (pos 0)) (at3 .write-charge-arg5 .given) i;
+      rtfOffset = kept (getD zs 4 (pos 0)) (at4 .write-charge-arg6 .given) i;
+      deltaT = kept (getD zs 5 (pos 0)) (at5 .write-charge-arg7 .given) i;
+      t0 = kept (getD zs 6 (pos 0)) (at6 .write-charge-arg8 .given) i;
+      traceLength = kept (getD zs 7 (pos 0)) (at7 .write-charge-arg9 .given) i;
+    }) (written .write-charge .ensures) in
+    (c .told .ensures _ (w .0), w .1)
 
 pub dwj-write-charge-spec : {M : Type 1} → statement M
 dwj-write-charge-spec =

@@ -1,4 +1,5 @@
 -- The writer's own contract, of the fields in the array; its answer told in lent numbers.
+-- The idea: each number of the array fits its word, so it is handed on as it is.
 use Rattle.note.specs.Phonon.{Phonon}
 use Rattle.note.specs.Writers.{phononWritten}
 use denote.Ref.{now}
@@ -58,7 +59,36 @@ same-length c = search needs
 
 returns : tie.Need-returns
 unfolding phononFrom
-returns c = let zs = now (c .before .before .before .before .before .before .before .before .before .before .before .before .before .before .before .before .before .before .before .args .fields) in let w = handed phononWritten (now (c .before .before .before .before .before .before .before .before .before .before .before .before .before .before .before .before .before .before .before .args .out)) (c .before .before .before .before .before .before .before .before .before .before .before .before .before .before .before .before .before .before .before .args .place) (λ i. record { code = kept (getD zs 0 (pos 0)) (c .before .before .before .before .before .before .before .before .before .before .before .before .before .before .before .before .write-phonon-arg2 .given) i; tower = kept (getD zs 1 (pos 0)) (c .before .before .before .before .before .before .before .before .before .before .before .before .before .before .before .write-phonon-arg3 .given) i; gain = kept (getD zs 2 (pos 0)) (c .before .before .before .before .before .before .before .before .before .before .before .before .before .before .write-phonon-arg4 .given) i; qetBias = kept (getD zs 3 (pos 0)) (c .before .before .before .before .before .before .before .before .before .before .before .before .before .write-phonon-arg5 .given) i; squidBias = kept (getD zs 4 (pos 0)) (c .before .before .before .before .before .before .before .before .before .before .before .before .write-phonon-arg6 .given) i; lockpoint = kept (getD zs 5 (pos 0)) (c .before .before .before .before .before .before .before .before .before .before .before .write-phonon-arg7 .given) i; rtfOffset = kept (getD zs 6 (pos 0)) (c .before .before .before .before .before .before .before .before .before .before .write-phonon-arg8 .given) i; variableGain = kept (getD zs 7 (pos 0)) (c .before .before .before .before .before .before .before .before .before .write-phonon-arg9 .given) i; deltaT = kept (getD zs 8 (pos 0)) (c .before .before .before .before .before .before .before .before .write-phonon-arg10 .given) i; t0 = kept (getD zs 9 (pos 0)) (c .before .before .before .before .before .before .before .write-phonon-arg11 .given) i; traceLength = kept (getD zs 10 (pos 0)) (c .before .before .before .before .before .before .write-phonon-arg12 .given) i }) (c .before .before .before .before .before .write-phonon .ensures) in let t = c .told .ensures _ (w .0) in (t, w .1)
+returns c =
+    let written = c .before .before .before .before .before in
+    let at10 = written .before in
+    let at9 = at10 .before in
+    let at8 = at9 .before in
+    let at7 = at8 .before in
+    let at6 = at7 .before in
+    let at5 = at6 .before in
+    let at4 = at5 .before in
+    let at3 = at4 .before in
+    let at2 = at3 .before in
+    let at1 = at2 .before in
+    let at0 = at1 .before in
+    let s = at0 .before .before .before in
+    let zs = now (s .args .fields) in
+    let w = handed phononWritten (now (s .args .out)) (s .args .place)
+    (λ i. record {
+      code = kept (getD zs 0 (pos 0)) (at0 .write-phonon-arg2 .given) i;
+      tower = kept (getD zs 1 (pos 0)) (at1 .write-phonon-arg3 .given) i;
+      gain = kept (getD zs 2 (pos 0)) (at2 .write-phonon-arg4 .given) i;
+      qetBias = kept (getD zs 3 (pos 0)) (at3 .write-phonon-arg5 .given) i;
+      squidBias = kept (getD zs 4 (pos 0)) (at4 .write-phonon-arg6 .given) i;
+      lockpoint = kept (getD zs 5 (pos 0)) (at5 .write-phonon-arg7 .given) i;
+      rtfOffset = kept (getD zs 6 (pos 0)) (at6 .write-phonon-arg8 .given) i;
+      variableGain = kept (getD zs 7 (pos 0)) (at7 .write-phonon-arg9 .given) i;
+      deltaT = kept (getD zs 8 (pos 0)) (at8 .write-phonon-arg10 .given) i;
+      t0 = kept (getD zs 9 (pos 0)) (at9 .write-phonon-arg11 .given) i;
+      traceLength = kept (getD zs 10 (pos 0)) (at10 .write-phonon-arg12 .given) i;
+    }) (written .write-phonon .ensures) in
+    (c .told .ensures _ (w .0), w .1)
 
 pub dwj-write-phonon-spec : {M : Type 1} → statement M
 dwj-write-phonon-spec =

@@ -18,7 +18,11 @@ same-length : tie.Need-same-length
 same-length c = search needs
 
 returns : tie.Need-returns
-returns c = let w = rw (toZ-ofZ (c .before .before .before .before .before .before .before .before .before .fits .t0)) at (c .before .before .before .before .before .write-trace .ensures) in let t = c .told .ensures _ (w .0) in (t, w .1)
+returns c =
+    let written = c .before .before .before .before .before in
+    let s = written .before .before .before .before in
+    let w = rw (toZ-ofZ (s .fits .t0)) at (written .write-trace .ensures) in
+    (c .told .ensures _ (w .0), w .1)
 
 pub dwj-write-trace-spec : {M : Type 1} → statement M
 dwj-write-trace-spec = tie.close (tie.spec write-trace-requires told-requires same-length returns)
