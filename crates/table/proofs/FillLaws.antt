@@ -1,29 +1,31 @@
 -- Filling the rows of records that were checked: what is known at each turn, and what a turn leads to.
 -- The idea: the whole is known to be read, so what stands next is read too, and its kind and length words say what it is.
-use mathlib.Core.Path.{_≡_, refl, sym, ap, _∙_, subst}
+use mathlib.Core.Path.{_≡_, refl, sym, ap, ap₂, _∙_, subst}
 use mathlib.Core.Bool.{true}
-use mathlib.Core.List.{List, [], _∷_, _++_, map}
-use Prim.Native.Nat.{ℕ, suc, _+_, _-_, _*_, _≤_, _<_}
+use mathlib.Core.List.{List, [], _∷_, _++_}
+use Prim.Native.Nat.{ℕ, _+_, _-_, _*_, _≤_, _<_}
 use native.Mathlib.Nat.{add-zero}
 use native.Mathlib.Omega.{arith}
 use lib.ListN.{length, take, drop, length-append, length-map}
-use Rattle.theory.specs.Tests.{Res, ok, bad}
+use Rattle.theory.specs.Tests.{ok}
 use Rattle.theory.specs.Layout.{Row, Child, total, childRow, childRows}
 use Rattle.theory.proofs.TestLaws.{ok-inj}
 use Rattle.theory.proofs.LayoutLaws.{length-childRows}
 use Rattle.theory.proofs.LoopLaws.{At, start, ended, prefix, reads}
 use Rattle.note.specs.Limits.{fileLimit, rowWidth}
 use Rattle.note.specs.Words.{word}
-use Rattle.note.specs.Records.{Record, Context, behind, recordSize, kindOf, readRecord, readRecords}
+use Rattle.note.specs.Records.{Record, Context, behind, readRecords}
 use Rattle.note.specs.Rows.{childOf, childrenOf}
 use Rattle.demands.proofs.Bundles.{recordItem, same-record, same-records}
 use Rattle.record.proofs.StepLaws.{Read, read-shows, cut, body-follows, body-length}
 use Rattle.containers.proofs.RecordLoop.{recordAt, on}
+use Rattle.rows.specs.declared.Row as code
 use Rattle.rows.specs.declared.Values.{Values}
 use Rattle.rows.specs.Buffers.{rowOf, stored}
 use Rattle.rows.specs.Values.{hasValues, valuesOf}
 use Rattle.rows.proofs.ValueLaws.{rule-has-values}
 use Rattle.rows.proofs.StoreLaws.{stored-append, stored-nil, length-stored}
+use Rattle.table.specs.Filling.{Fillable, Filled}
 
 children-append : (xs : List Record) (r : Record) → childrenOf (xs ++ r ∷ []) ≡ childrenOf xs ++ (childOf r ∷ [])
 children-append [] r = refl
@@ -33,14 +35,17 @@ total-append : (xs : List Child) (c : Child) → total (xs ++ c ∷ []) ≡ tota
 total-append [] c = omega arith
 total-append (x ∷ xs) c = omega (arith, total-append xs c)
 
-rows-append : (p at : ℕ) (xs : List Child) (c : Child) → childRows p at (xs ++ c ∷ []) ≡ childRows p at xs ++ (childRow p (at + total xs) c ∷ [])
+rows-append : (p at : ℕ) (xs : List Child) (c : Child)
+    → childRows p at (xs ++ c ∷ []) ≡ childRows p at xs ++ (childRow p (at + total xs) c ∷ [])
 unfolding childRows
 rows-append p at [] c = rw (add-zero at)
 rows-append p at (x ∷ xs) c =
     let e : at + x .size + total xs ≡ at + (x .size + total xs) = omega arith in
-    ap (λ (l : List Row). childRow p at x ∷ l) (rows-append p (at + x .size) xs c ∙ ap (λ (q : ℕ). childRows p (at + x .size) xs ++ (childRow p q c ∷ [])) e)
+    ap (λ (l : List Row). childRow p at x ∷ l)
+    (rows-append p (at + x .size) xs c ∙ ap (λ (q : ℕ). childRows p (at + x .size) xs ++ (childRow p q c ∷ [])) e)
 
-pub record Filling (s₀ : Context) (from : ℕ) (bs rows₀ : List ℕ) (first parent : ℕ) (rows rest : List ℕ) (at n : ℕ) : Type 0 where
+-- What is known at a turn, in one context: the records so far, the place behind them, and their rows in the buffer.
+pub record FillingIn (s₀ : Context) (from : ℕ) (bs rows₀ : List ℕ) (first parent : ℕ) (rows rest : List ℕ) (at n : ℕ) : Type 0 where
   pub state : Context
   pub xs : List Record
   pub is : At recordItem s₀ from bs state at rest xs
@@ -48,81 +53,126 @@ pub record Filling (s₀ : Context) (from : ℕ) (bs rows₀ : List ℕ) (first 
   pub row : n ≡ first + length xs
   pub held : rows ≡ stored rows₀ first (childRows parent from (childrenOf xs))
 
-pub begin : (s : Context) (from : ℕ) (bs rows : List ℕ) (first parent : ℕ) → Filling s from bs rows first parent rows bs from first
+-- What is known at a turn: that, in each context in which the part is read.
+abbrev pub Filling : ℕ → List ℕ → List ℕ → ℕ → ℕ → List ℕ → List ℕ → ℕ → ℕ → Type 0
+Filling from bs rows₀ first parent rows rest at n =
+    (s : Context) (rs : List Record) → readRecords s from bs ≡ ok rs → FillingIn s from bs rows₀ first parent rows rest at n
+
+pub begin : (from : ℕ) (bs rows : List ℕ) (first parent : ℕ) → Filling from bs rows first parent rows bs from first
 unfolding childRows
-begin s from bs rows first parent =
+begin from bs rows first parent s rs e =
     record { state = s; xs = []; is = start recordItem s from bs; here = omega arith; row = omega arith; held = sym (stored-nil rows first) }
 
-module _ {s₀ : Context} {from : ℕ} {bs rows₀ : List ℕ} {first parent : ℕ} {rows rest : List ℕ} {at n : ℕ} (i : Filling s₀ from bs rows₀ first parent rows rest at n) where
-  pub place : at + length rest ≡ from + length bs
-  place = i .is .place
+-- The row that code stores for a record: its values, where it begins, its length word, its parent's number.
+abbrev putRow : Values → ℕ → ℕ → ℕ → code.Row
+putRow v at m parent = record { kind = v .kind; start = at; whole = 8 + m; parent = parent; one = v .one; two = v .two }
 
-  pub same-rows : length rows ≡ length rows₀
-  same-rows = ap length (i .held) ∙ length-stored rows₀ first (childRows parent from (childrenOf (i .xs)))
+-- In one context.
+module _ {s₀ : Context} {from : ℕ} {bs rows₀ : List ℕ} {first parent : ℕ} {rows rest : List ℕ} {at n : ℕ}
+    (i : FillingIn s₀ from bs rows₀ first parent rows rest at n) (rs : List Record) (w : readRecords s₀ from bs ≡ ok rs) where
+  -- the rows so far
+  abbrev old : List Row
+  old = childRows parent from (childrenOf (i .xs))
 
-  pub done : length rest ≤ 0 → (rs : List Record) → readRecords s₀ from bs ≡ ok rs
-      → (rows ≡ stored rows₀ first (childRows parent from (childrenOf rs))) × (n ≡ first + length rs)
-  done h rs e =
-      let same : i .xs ≡ rs = ok-inj (ended recordItem (i .is) (omega arith) ∙ sym (same-records s₀ from bs) ∙ e) in
-      (i .held ∙ ap (λ (x : List Record). stored rows₀ first (childRows parent from (childrenOf x))) same, i .row ∙ ap (λ (x : List Record). first + length x) same)
+  same-rows-in : length rows ≡ length rows₀
+  same-rows-in = ap length (i .held) ∙ length-stored rows₀ first old
 
-  module _ (l : 0 < length rest) (rs : List Record) (w : readRecords s₀ from bs ≡ ok rs) where
+  done-in : length rest ≤ 0 → (rows ≡ stored rows₀ first (childRows parent from (childrenOf rs))) × (n ≡ first + length rs)
+  done-in h =
+      let same : i .xs ≡ rs = ok-inj (ended recordItem (i .is) (omega arith) ∙ sym (same-records s₀ from bs) ∙ w) in (
+        i .held ∙ ap (λ (x : List Record). stored rows₀ first (childRows parent from (childrenOf x))) same,
+        i .row ∙ ap (λ (x : List Record). first + length x) same,
+      )
+
+  module _ (l : 0 < length rest) (k m : ℕ) (ek : k ≡ word 0 rest) (em : m ≡ word 4 rest) where
     -- what stands next was read
-    pub shown : Read (i .state) at rest (word 0 rest) (word 4 rest)
+    shown : Read (i .state) at rest k m
     shown =
         let (a, e) = reads recordItem (i .is) l rs (sym (same-records s₀ from bs) ∙ w) in
-        read-shows (i .state) at rest a (same-record (i .state) at rest ∙ e) .0
+        let r = read-shows (i .state) at rest a (same-record (i .state) at rest ∙ e) .0 in
+        subst (λ (x : ℕ). Read (i .state) at rest x m) (sym ek) (subst (Read (i .state) at rest (word 0 rest)) (sym em) r)
 
-    pub fits : 8 + word 4 rest ≤ length rest
-    fits = shown .fits
-
-    -- its body, as code cuts it
-    abbrev pub body : List ℕ
-    body = take (8 + word 4 rest - 8) (drop 8 rest)
-
-    pub valued : hasValues (word 0 rest) body ≡ true
-    valued = rule-has-values (word 0 rest) body (body-follows (i .state) at rest (word 0 rest) (word 4 rest) shown)
-
-    pub body-size : length body ≡ word 4 rest
-    body-size = body-length (i .state) at rest (word 0 rest) (word 4 rest) shown
+    abbrev this : Record
+    this = recordAt k m rest
 
     -- the loop behind it
-    moved : At recordItem s₀ from bs (behind (i .state) (word 0 rest)) (at + (8 + word 4 rest)) (take (length rest - (8 + word 4 rest)) (drop (8 + word 4 rest) rest))
-        (i .xs ++ recordAt (word 0 rest) (word 4 rest) rest ∷ [])
-    moved = on (i .is) l (word 0 rest) (word 4 rest) shown (behind (i .state) (word 0 rest)) refl
+    moved : At recordItem s₀ from bs (behind (i .state) k) (at + (8 + m)) (take (length rest - (8 + m)) (drop (8 + m) rest)) (i .xs ++ this ∷ [])
+    moved = on (i .is) l k m shown (behind (i .state) k) refl
 
-    pub row-fits : (first + length rs) * rowWidth ≤ length rows₀ → n * rowWidth + rowWidth ≤ length rows
-    row-fits h =
+    row-fits-in : (first + length rs) * rowWidth ≤ length rows₀ → n * rowWidth + rowWidth ≤ length rows
+    row-fits-in h =
         let (zs, q) = prefix recordItem moved rs (sym (same-records s₀ from bs) ∙ w) in
-        let size : length rs ≡ length (i .xs) + 1 + length zs =
-        ap length q ∙ length-append (i .xs ++ recordAt (word 0 rest) (word 4 rest) rest ∷ []) zs
-        ∙ ap (λ (m : ℕ). m + length zs) (length-append (i .xs) (recordAt (word 0 rest) (word 4 rest) rest ∷ [])) in
-        omega (arith, size, h, i .row, same-rows)
+        omega (arith, ap length q, length-append (i .xs ++ this ∷ []) zs, length-append (i .xs) (this ∷ []), h, i .row, same-rows-in)
 
-    pub next : (k m : ℕ) → k ≡ word 0 rest → m ≡ word 4 rest → (v : Values) → v ≡ valuesOf k (take (8 + m - 8) (drop 8 rest))
-        → (rows′ : List ℕ) → rows′ ≡ stored rows n (rowOf (record { kind = v .kind; start = at; whole = 8 + m; parent = parent; one = v .one; two = v .two }) ∷ [])
-        → Filling s₀ from bs rows₀ first parent rows′ (take (length rest - (8 + m)) (drop (8 + m) rest)) (at + (8 + m)) (n + 1)
-    unfolding childOf valuesOf rowOf
-    next k m ek em v ev rows′ ew =
-        let a : Record = recordAt k m rest in
-        let is′ : At recordItem s₀ from bs (behind (i .state) k) (at + (8 + m)) (take (length rest - (8 + m)) (drop (8 + m) rest)) (i .xs ++ a ∷ []) =
-        on (i .is) l k m (subst (λ (x : ℕ). Read (i .state) at rest x m) (sym ek) (subst (Read (i .state) at rest (word 0 rest)) (sym em) shown)) (behind (i .state) k) refl in
-        let z : length (take m (drop 8 rest)) ≡ m = subst (λ (y : ℕ). length (take y (drop 8 rest)) ≡ y) (sym em) (shown .size) in
-        let v-is : v ≡ valuesOf k (take m (drop 8 rest)) = ev ∙ ap (valuesOf k) (cut m rest) in
-        let r-is : _≡_ {A = Row} (record { kind = v .kind; start = at; whole = 8 + m; parent = parent; one = v .one; two = v .two }) (childRow parent (from + total (childrenOf (i .xs))) (childOf a)) =
-        rw (v-is, z, i .here) in
-        let c : n ≡ first + length (childRows parent from (childrenOf (i .xs))) =
-        i .row ∙ ap (λ (x : ℕ). first + x) (sym (length-childRows parent from (childrenOf (i .xs)) ∙ length-map (i .xs) childOf)) in
-        record {
-          state = behind (i .state) k;
-          xs = i .xs ++ a ∷ [];
-          is = is′;
-          here = omega (arith, i .here, ap total (children-append (i .xs) a), total-append (childrenOf (i .xs)) (childOf a), z);
-          row = omega (arith, i .row, length-append (i .xs) (a ∷ []));
-          held = ew
-              ∙ ap (λ (r : Row). stored rows n (r ∷ [])) r-is
-              ∙ ap (λ (x : List ℕ). stored x n (childRow parent (from + total (childrenOf (i .xs))) (childOf a) ∷ [])) (i .held)
-              ∙ ap (λ (x : ℕ). stored (stored rows₀ first (childRows parent from (childrenOf (i .xs)))) x (childRow parent (from + total (childrenOf (i .xs))) (childOf a) ∷ [])) c
-              ∙ sym (stored-append rows₀ first (childRows parent from (childrenOf (i .xs))) (childRow parent (from + total (childrenOf (i .xs))) (childOf a) ∷ []))
-              ∙ ap (stored rows₀ first) (sym (ap (childRows parent from) (children-append (i .xs) a) ∙ rows-append parent from (childrenOf (i .xs)) (childOf a)));
-        }
+    -- its row, and the rows with it
+    abbrev mine : Row
+    mine = childRow parent (from + total (childrenOf (i .xs))) (childOf this)
+
+    with-mine : childRows parent from (childrenOf (i .xs ++ this ∷ [])) ≡ old ++ (mine ∷ [])
+    with-mine = ap (childRows parent from) (children-append (i .xs) this) ∙ rows-append parent from (childrenOf (i .xs)) (childOf this)
+
+    row-is : n ≡ first + length old
+    row-is = omega (arith, i .row, length-childRows parent from (childrenOf (i .xs)), length-map (i .xs) childOf)
+
+    module _ (v : Values) (ev : v ≡ valuesOf k (take (8 + m - 8) (drop 8 rest))) where
+      mine-is : rowOf (putRow v at m parent) ≡ mine
+      unfolding childOf valuesOf rowOf
+      mine-is =
+          let v-is : v ≡ valuesOf k (take m (drop 8 rest)) = ev ∙ ap (valuesOf k) (cut m rest) in
+          rw (v-is, shown .size, i .here)
+
+      next-in : (rows′ : List ℕ) → rows′ ≡ stored rows n (rowOf (putRow v at m parent) ∷ [])
+          → FillingIn s₀ from bs rows₀ first parent rows′ (take (length rest - (8 + m)) (drop (8 + m) rest)) (at + (8 + m)) (n + 1)
+      unfolding childOf
+      next-in rows′ ew = record {
+        state = behind (i .state) k;
+        xs = i .xs ++ this ∷ [];
+        is = moved;
+        here = omega (arith, i .here, ap total (children-append (i .xs) this), total-append (childrenOf (i .xs)) (childOf this), shown .size);
+        row = omega (arith, i .row, length-append (i .xs) (this ∷ []));
+        held = ew
+            ∙ ap (λ (r : Row). stored rows n (r ∷ [])) mine-is
+            ∙ ap₂ (λ (x : List ℕ) (y : ℕ). stored x y (mine ∷ [])) (i .held) row-is
+            ∙ sym (stored-append rows₀ first old (mine ∷ []))
+            ∙ ap (stored rows₀ first) (sym with-mine);
+      }
+
+-- At a turn of the loop over a part that can be filled.
+module _ {from : ℕ} {bs rows₀ : List ℕ} {first parent : ℕ} {rows rest : List ℕ} {at n : ℕ}
+    (i : Filling from bs rows₀ first parent rows rest at n) (p : Fillable from bs (length rows₀) first) where
+  abbrev here : FillingIn (p .context) from bs rows₀ first parent rows rest at n
+  here = i (p .context) (p .records) (p .reads)
+
+  pub same-rows : length rows ≡ length rows₀
+  same-rows = same-rows-in here (p .records) (p .reads)
+
+  module _ (l : 0 < length rest) where
+    -- the record that stands next fits what is left, which ends within the limit
+    pub sized : (m : ℕ) → m ≡ word 4 rest → (8 + m ≤ length rest) × (at + (8 + m) ≤ fileLimit)
+    sized m em =
+        let r = shown here (p .records) (p .reads) l _ m refl em in
+        (r .fits, omega (arith, r .fits, here .is .place, p .within))
+
+    -- its body, as code cuts it, holds its row's values
+    pub valued : (k m : ℕ) → k ≡ word 0 rest → m ≡ word 4 rest
+        → (hasValues k (take (8 + m - 8) (drop 8 rest)) ≡ true) × (length (take (8 + m - 8) (drop 8 rest)) ≤ fileLimit)
+    valued k m ek em =
+        let r = shown here (p .records) (p .reads) l k m ek em in (
+          rule-has-values k _ (body-follows (here .state) at rest k m r),
+          omega (arith, body-length (here .state) at rest k m r, sized m em .1),
+        )
+
+    -- its row fits the buffer
+    pub row-fits : n * rowWidth + rowWidth ≤ length rows
+    row-fits = row-fits-in here (p .records) (p .reads) l _ _ refl refl (p .fits)
+
+-- Behind a turn, and at the end.
+module _ {from : ℕ} {bs rows₀ : List ℕ} {first parent : ℕ} {rows rest : List ℕ} {at n : ℕ}
+    (i : Filling from bs rows₀ first parent rows rest at n) where
+  pub next : 0 < length rest → (k m : ℕ) → k ≡ word 0 rest → m ≡ word 4 rest → (v : Values) → v ≡ valuesOf k (take (8 + m - 8) (drop 8 rest))
+      → (rows′ : List ℕ) → rows′ ≡ stored rows n (rowOf (putRow v at m parent) ∷ [])
+      → Filling from bs rows₀ first parent rows′ (take (length rest - (8 + m)) (drop (8 + m) rest)) (at + (8 + m)) (n + 1)
+  next l k m ek em v ev rows′ ew s rs w = next-in (i s rs w) rs w l k m ek em v ev rows′ ew
+
+  pub done : length rest ≤ 0 → Filled from bs rows₀ first parent rows n
+  done h s rs w = done-in (i s rs w) rs w h
