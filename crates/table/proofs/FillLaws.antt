@@ -2,7 +2,7 @@
 -- The idea: the whole is known to be read, so what stands next is read too, and its kind and length words say what it is.
 use mathlib.Core.Path.{_≡_, refl, sym, ap, ap₂, _∙_, subst}
 use mathlib.Core.Bool.{true}
-use mathlib.Core.List.{List, [], _∷_, _++_}
+use mathlib.Core.List.{List, [], _∷_, _++_, map-append}
 use Prim.Native.Nat.{ℕ, _+_, _-_, _*_, _≤_, _<_}
 use native.Mathlib.Nat.{add-zero}
 use native.Mathlib.Omega.{arith}
@@ -26,10 +26,6 @@ use Rattle.rows.specs.Values.{hasValues, valuesOf}
 use Rattle.rows.proofs.ValueLaws.{rule-has-values}
 use Rattle.rows.proofs.StoreLaws.{stored-append, stored-nil, length-stored}
 use Rattle.table.specs.Filling.{Fillable, Filled}
-
-children-append : (xs : List Record) (r : Record) → childrenOf (xs ++ r ∷ []) ≡ childrenOf xs ++ (childOf r ∷ [])
-children-append [] r = refl
-children-append (x ∷ xs) r = ap (λ (l : List Child). childOf x ∷ l) (children-append xs r)
 
 total-append : (xs : List Child) (c : Child) → total (xs ++ c ∷ []) ≡ total xs + c .size
 total-append [] c = omega arith
@@ -108,8 +104,11 @@ module _ {s₀ : Context} {from : ℕ} {bs rows₀ : List ℕ} {first parent : �
     abbrev mine : Row
     mine = childRow parent (from + total (childrenOf (i .xs))) (childOf this)
 
+    with-this : childrenOf (i .xs ++ this ∷ []) ≡ childrenOf (i .xs) ++ (childOf this ∷ [])
+    with-this = map-append childOf (i .xs) (this ∷ [])
+
     with-mine : childRows parent from (childrenOf (i .xs ++ this ∷ [])) ≡ old ++ (mine ∷ [])
-    with-mine = ap (childRows parent from) (children-append (i .xs) this) ∙ rows-append parent from (childrenOf (i .xs)) (childOf this)
+    with-mine = ap (childRows parent from) with-this ∙ rows-append parent from (childrenOf (i .xs)) (childOf this)
 
     row-is : n ≡ first + length old
     row-is = omega (arith, i .row, length-childRows parent from (childrenOf (i .xs)), length-map (i .xs) childOf)
@@ -128,7 +127,7 @@ module _ {s₀ : Context} {from : ℕ} {bs rows₀ : List ℕ} {first parent : �
         state = behind (i .state) k;
         xs = i .xs ++ this ∷ [];
         is = moved;
-        here = omega (arith, i .here, ap total (children-append (i .xs) this), total-append (childrenOf (i .xs)) (childOf this), shown .size);
+        here = omega (arith, i .here, ap total with-this, total-append (childrenOf (i .xs)) (childOf this), shown .size);
         row = omega (arith, i .row, length-append (i .xs) (this ∷ []));
         held = ew
             ∙ ap (λ (r : Row). stored rows n (r ∷ [])) mine-is

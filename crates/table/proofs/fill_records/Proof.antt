@@ -22,7 +22,8 @@ Inv-loop part from rows₀ first parent rest₀ at₀ n₀ rows rest at n = Fill
 abbrev μ-loop : tie.MeasureT-loop
 μ-loop part from rows₀ first parent rest₀ at₀ n₀ rows rest at n = length rest
 
--- From a turn back to the function's start; from its end back to where its row was made, and from there to where its length word was read.
+-- From a turn back to the function's start; from its end back to where its row was made, from there to where its length word was read,
+-- and to the loop's head.
 abbrev start : tie.In-loop Inv-loop μ-loop → tie.Start Inv-loop μ-loop
 start c = c .before .before .before .before
 
@@ -32,14 +33,17 @@ made c = c .before .before .before
 abbrev read : tie.After-put-row-arg Inv-loop μ-loop → tie.After-word-at Inv-loop μ-loop
 read c = c .before .before .before .before
 
+abbrev head : tie.After-word-at Inv-loop μ-loop → tie.At-loop Inv-loop μ-loop
+head c = c .before .before
+
 -- In a turn: a record's two words stand there.
 words : (c : tie.In-loop Inv-loop μ-loop) → 8 ≤ length (now (c .before .loop .rest))
 words c = let (fits, limit) = sized (c .before .loop .inv) (start c .pre) (c .loop-test .taken) _ refl in omega (arith, fits)
 
 -- Where its length word was read: it fits what is left, which ends within the limit.
 whole : (c : tie.After-word-at Inv-loop μ-loop)
-    → (8 + c .word-at .result ≤ length (now (c .before .before .loop .rest))) × (c .before .before .loop .at + (8 + c .word-at .result) ≤ fileLimit)
-whole c = sized (c .before .before .loop .inv) (start (c .before) .pre) (c .before .loop-test .taken) _ (c .word-at .ensures)
+    → (8 + c .word-at .result ≤ length (now (head c .loop .rest))) × (head c .loop .at + (8 + c .word-at .result) ≤ fileLimit)
+whole c = sized (head c .loop .inv) (start (c .before) .pre) (c .before .loop-test .taken) _ (c .word-at .ensures)
 
 -- Its row fits the buffer.
 room : (c : tie.In-loop Inv-loop μ-loop) → c .before .loop .n * rowWidth + rowWidth ≤ length (c .before .loop .rows)
