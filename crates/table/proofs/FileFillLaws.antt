@@ -2,135 +2,196 @@
 -- The idea: each part that code cuts out is read as the file's own, so its rows are the file's, and they stand one behind the other.
 use mathlib.Core.Path.{_≡_, refl, sym, ap, ap₂, _∙_}
 use mathlib.Core.List.{List, [], _∷_, _++_, map}
-use Prim.Native.Nat.{ℕ, _+_, _-_, _*_, _≤_}
+use Prim.Native.Nat.{ℕ, _+_, _-_, _≤_}
 use native.Mathlib.Omega.{arith}
 use lib.ListN.{length, take, drop, length-append, length-map, length-drop}
 use Rattle.theory.specs.Words.{Bytes}
 use Rattle.theory.specs.Tests.{ok}
 use Rattle.theory.specs.Layout.{Row, Child, total, childRows, rows}
+use Rattle.theory.proofs.TestLaws.{ok-inj}
 use Rattle.theory.proofs.LayoutLaws.{length-childRows}
-use Rattle.note.specs.Limits.{rowWidth}
+use Rattle.note.specs.Limits.{fileLimit}
 use Rattle.note.specs.Words.{word}
-use Rattle.note.specs.Records.{entry, recordsBytes, readRecords}
-use Rattle.note.specs.Events.{Container, readEvents}
-use Rattle.note.specs.Files.{File, versionOf, configurationOf, eventsOf, readFile}
+use Rattle.note.specs.Records.{Record, entry, recordsBytes, readRecords}
+use Rattle.note.specs.Events.{readEvents}
+use Rattle.note.specs.Files.{File, versionOf, configurationOf, eventsOf}
 use Rattle.note.specs.Rows.{childOf, childrenOf, eventNode, nodesOf, rowsOf}
 use Rattle.demands.proofs.RowLaws.{children-total}
 use Rattle.containers.proofs.RecordLoop.{left}
 use Rattle.containers.proofs.EventLoop.{few}
-use Rattle.containers.proofs.FileParts.{length-is, room, entries-part, entries-read, events-read}
+use Rattle.containers.proofs.FileParts.{version-is, length-is, room, entries-part, entries-read, events-read}
+use Rattle.rows.specs.declared.Row as code
 use Rattle.rows.specs.Buffers.{rowOf, stored}
 use Rattle.rows.proofs.StoreLaws.{stored-append, length-stored, stored-before}
-use Rattle.table.specs.Filling.{Fillable, FillableEvents, Filled, FilledEvents}
+use Rattle.table.specs.Filling.{Fillable, FillableEvents, FillableFile, Filled, FilledEvents, FilledFile}
 
-module _ (bs : List ℕ) (f : File) (h : Bytes bs) (e : readFile bs ≡ ok f) where
-  abbrev conf : Container
-  conf = configurationOf f
+-- A file's rows in their parts: its entries, the header's row, the configuration's, the events'.
+abbrev entries : File → List Record
+entries f = configurationOf f .body
 
-  abbrev es : List Container
-  es = eventsOf f
+abbrev ch : File → List Child
+ch f = childrenOf (entries f)
 
-  abbrev n : ℕ
-  n = length (recordsBytes (conf .body))
+abbrev headerRow : File → Row
+headerRow f = record { kind = 1; start = 0; whole = 8; parent = 0; one = versionOf f; two = 0 }
 
-  -- the length word, and the parts as code cuts them out
-  length-word : word 12 bs ≡ n
-  length-word = length-is bs f h e
+abbrev ownRow : File → Row
+ownRow f = record { kind = 2; start = 8; whole = 8 + total (ch f); parent = 0; one = length (entries f); two = 0 }
 
-  entries : (m : ℕ) → m ≡ word 12 bs → readRecords entry 16 (take (8 + (8 + m) - 16) (drop 16 bs)) ≡ ok (conf .body)
-  entries m em = entries-read bs f h e (8 + (8 + m) - 16) (omega (arith, em))
+-- the rows before the events'
+abbrev front : File → List Row
+front f = headerRow f ∷ (ownRow f ∷ childRows 2 16 (ch f))
 
-  events : (m : ℕ) → m ≡ word 12 bs → readEvents tt (8 + (8 + m)) (take (length bs - (8 + (8 + m))) (drop (8 + (8 + m)) bs)) ≡ ok es
-  events m em = events-read bs f h e (8 + (8 + m)) (omega (arith, em))
+abbrev eventRows : File → List Row
+eventRows f = rows (3 + length (ch f)) (8 + (8 + total (ch f))) (map eventNode (eventsOf f))
 
-  abbrev ch : List Child
-  ch = childrenOf (conf .body)
+rows-are : (f : File) → rowsOf f ≡ front f ++ eventRows f
+unfolding rowsOf nodesOf rows
+rows-are f = refl
 
-  abbrev headerRow : Row
-  headerRow = record { kind = 1; start = 0; whole = 8; parent = 0; one = versionOf f; two = 0 }
+front-size : (f : File) → length (front f) ≡ 2 + length (entries f)
+front-size f = omega (arith, length-childRows 2 16 (ch f), length-map (entries f) childOf)
 
-  abbrev ownRow : Row
-  ownRow = record { kind = 2; start = 8; whole = 8 + total ch; parent = 0; one = length (conf .body); two = 0 }
+count : (f : File) → length (rowsOf f) ≡ 2 + length (entries f) + length (eventRows f)
+count f = omega (arith, ap length (rows-are f), length-append (front f) (eventRows f), front-size f)
 
-  abbrev eventRows : List Row
-  eventRows = rows (3 + length ch) (8 + (8 + total ch)) (map eventNode es)
+-- The parts as code cuts them out, behind a length word m; the rows that code stores, of a version word v and of an index behind entries.
+abbrev entriesPart : List ℕ → ℕ → List ℕ
+entriesPart bs m = take (8 + (8 + m) - 16) (drop 16 bs)
 
-  rows-are : rowsOf f ≡ headerRow ∷ (ownRow ∷ (childRows 2 16 ch ++ eventRows))
-  unfolding rowsOf nodesOf rows
-  rows-are = refl
+abbrev eventsPart : List ℕ → ℕ → List ℕ
+eventsPart bs m = take (length bs - (8 + (8 + m))) (drop (8 + (8 + m)) bs)
 
-  count : length (rowsOf f) ≡ 2 + length (conf .body) + length eventRows
-  count =
-      ap length rows-are
-      ∙ omega (arith, length-append (childRows 2 16 ch) eventRows, length-childRows 2 16 ch, length-map (conf .body) childOf)
+abbrev putHeader : ℕ → code.Row
+putHeader v = record { kind = 1; start = 0; whole = 8; parent = 0; one = v; two = 0 }
 
-  module _ (buffer : List ℕ) (fit : length (rowsOf f) * rowWidth ≤ length buffer) where
-    pub some : 12 ≤ length buffer
-    some = omega (arith, count, fit)
+abbrev putOwn : ℕ → ℕ → code.Row
+putOwn m next = record { kind = 2; start = 8; whole = 8 + m; parent = 0; one = next - 2; two = 0 }
 
-    pub fillable : (one : List ℕ) → one ≡ stored buffer 0 (headerRow ∷ []) → (m : ℕ) → m ≡ word 12 bs → Fillable 16 (take (8 + (8 + m) - 16) (drop 16 bs)) (length one) 2
-    fillable one eo m em = record {
-      context = entry;
-      records = conf .body;
-      reads = entries m em;
-      within = omega (arith, ap length (entries-part bs f h e (8 + (8 + m) - 16) (omega (arith, em))), room bs f h e .0, room bs f h e .1);
-      fits = omega (arith, count, fit, ap length eo, length-stored buffer 0 (headerRow ∷ []));
-    }
+module _ {bs : List ℕ} {lent : ℕ} (p : FillableFile bs lent) where
+  -- two rows at least
+  pub some : 12 ≤ lent
+  some = omega (arith, count (p .file), p .fits)
 
-    module _ (one : List ℕ) (eo : one ≡ stored buffer 0 (headerRow ∷ [])) (m : ℕ) (em : m ≡ word 12 bs) (two : List ℕ) (next : ℕ)
-        (g : Filled 16 (take (8 + (8 + m) - 16) (drop 16 bs)) one 2 2 two next) where
-      filled : (two ≡ stored one 2 (childRows 2 16 ch)) × (next ≡ 2 + length (conf .body))
-      filled = g entry (conf .body) (entries m em)
+  module _ (h : Bytes bs) (m : ℕ) (em : m ≡ word 12 bs) where
+    -- the length word is the entries'
+    entries-size : length (recordsBytes (entries (p .file))) ≡ m
+    entries-size = sym (em ∙ length-is bs (p .file) h (p .reads))
 
-      pub next-is : (next ≡ 2 + length (conf .body)) × (length (conf .body) ≤ n) × (length two ≡ length buffer)
-      next-is = (
-        filled .1,
-        few (conf .body),
-        ap length (filled .0) ∙ length-stored one 2 (childRows 2 16 ch) ∙ ap length eo ∙ length-stored buffer 0 (headerRow ∷ []),
-      )
+    -- the configuration fits the file, which is within the limit
+    pub sized : (16 + m ≤ length bs) × (length bs ≤ fileLimit)
+    sized = let (fits, limit) = room bs (p .file) h (p .reads) in (omega (arith, fits, entries-size), limit)
 
-      module _ (three : List ℕ) (et : three ≡ stored two 1 (rowOf (record { kind = 2; start = 8; whole = 8 + m; parent = 0; one = next - 2; two = 0 }) ∷ [])) where
-        own-is : _≡_ {A = Row} (record { kind = 2; start = 8; whole = 8 + m; parent = 0; one = next - 2; two = 0 }) ownRow
-        own-is =
-            let w : 8 + m ≡ 8 + total ch = omega (arith, em, length-word, children-total (conf .body)) in
-            let o : next - 2 ≡ length (conf .body) = omega (arith, filled .1) in
-            λ j. record { kind = 2; start = 8; whole = w j; parent = 0; one = o j; two = 0 }
+-- What is known once the header's row is stored: the buffer `one` that this leaves, and what the length word m is.
+pub record Begun (bs buffer : List ℕ) (m : ℕ) (one : List ℕ) : Type 0 where
+  pub bytes : Bytes bs
+  pub asked : FillableFile bs (length buffer)
+  pub size : m ≡ word 12 bs
+  pub held : one ≡ stored buffer 0 (headerRow (asked .file) ∷ [])
 
-        three-is : three ≡ stored buffer 0 (headerRow ∷ (ownRow ∷ childRows 2 16 ch))
-        unfolding rowOf
-        three-is =
-            et ∙ ap (λ (r : Row). stored two 1 (r ∷ [])) own-is ∙ ap (λ (x : List ℕ). stored x 1 (ownRow ∷ [])) (filled .0)
-            ∙ stored-before one 1 ownRow (childRows 2 16 ch) ∙ ap (λ (x : List ℕ). stored x 1 (ownRow ∷ childRows 2 16 ch)) eo
-            ∙ sym (stored-append buffer 0 (headerRow ∷ []) (ownRow ∷ childRows 2 16 ch))
+pub begin : {bs buffer : List ℕ} → Bytes bs → FillableFile bs (length buffer) → (m : ℕ) → m ≡ word 12 bs → (v : ℕ) → v ≡ word 4 bs
+    → (one : List ℕ) → one ≡ stored buffer 0 (rowOf (putHeader v) ∷ []) → Begun bs buffer m one
+unfolding rowOf
+begin {bs} {buffer} h p m em v ev one eo = record {
+  bytes = h;
+  asked = p;
+  size = em;
+  held = eo ∙ ap (λ (x : ℕ). stored buffer 0 (rowOf (putHeader x) ∷ [])) (ev ∙ version-is bs (p .file) h (p .reads));
+}
 
-        three-size : length three ≡ length buffer
-        three-size = ap length three-is ∙ length-stored buffer 0 (headerRow ∷ (ownRow ∷ childRows 2 16 ch))
+module _ {bs buffer : List ℕ} {m : ℕ} {one : List ℕ} (b : Begun bs buffer m one) where
+  abbrev f : File
+  f = b .asked .file
 
-        place-is : 8 + (8 + m) ≡ 8 + (8 + total ch)
-        place-is = omega (arith, em, length-word, children-total (conf .body))
+  -- the parts are read as the file's own
+  part-size : 8 + (8 + m) - 16 ≡ word 12 bs
+  part-size = omega (arith, b .size)
 
-        number-is : next + 1 ≡ 3 + length ch
-        number-is = omega (arith, filled .1, length-map (conf .body) childOf)
+  entries-are : readRecords entry 16 (entriesPart bs m) ≡ ok (entries f)
+  entries-are = entries-read bs f (b .bytes) (b .asked .reads) _ part-size
 
-        pub fillable-events : FillableEvents (8 + (8 + m)) (take (length bs - (8 + (8 + m))) (drop (8 + (8 + m)) bs)) (length three) next
-        fillable-events =
-            let rest : rows (next + 1) (8 + (8 + m)) (map eventNode es) ≡ eventRows = ap₂ (λ (a b : ℕ). rows a b (map eventNode es)) number-is place-is in
-            let size : length (take (length bs - (8 + (8 + m))) (drop (8 + (8 + m)) bs)) ≡ length bs - (8 + (8 + m)) =
-            ap length (sym (left (8 + (8 + m)) bs)) ∙ length-drop (8 + (8 + m)) bs in
-            record {
-              events = es;
-              reads = events m em;
-              within = omega (arith, size, room bs f h e .0, room bs f h e .1, em, length-word);
-              low = omega (arith, filled .1, few (conf .body), em, length-word);
-              fits = omega (arith, ap length rest, count, fit, three-size, filled .1);
-            }
+  events-are : readEvents tt (8 + (8 + m)) (eventsPart bs m) ≡ ok (eventsOf f)
+  events-are = events-read bs f (b .bytes) (b .asked .reads) (8 + (8 + m)) (omega (arith, b .size))
 
-        pub done : (four : List ℕ) → FilledEvents (8 + (8 + m)) (take (length bs - (8 + (8 + m))) (drop (8 + (8 + m)) bs)) three next four → four ≡ stored buffer 0 (rowsOf f)
-        done four ge =
-            let front : List Row = headerRow ∷ (ownRow ∷ childRows 2 16 ch) in
-            let size : next ≡ 0 + length front = omega (arith, filled .1, length-childRows 2 16 ch, length-map (conf .body) childOf) in
-            ge es (events m em)
-            ∙ ap₂ (λ (a b : ℕ). stored three next (rows a b (map eventNode es))) number-is place-is
-            ∙ ap₂ (λ (x : List ℕ) (y : ℕ). stored x y eventRows) three-is size
-            ∙ sym (stored-append buffer 0 front eventRows)
-            ∙ ap (stored buffer 0) (sym rows-are)
+  -- how long they are, and the buffer
+  contents : (length (recordsBytes (entries f)) ≡ m) × ((16 + m ≤ length bs) × (length bs ≤ fileLimit))
+  contents = (entries-size (b .asked) (b .bytes) m (b .size), sized (b .asked) (b .bytes) m (b .size))
+
+  one-size : length one ≡ length buffer
+  one-size = ap length (b .held) ∙ length-stored buffer 0 (headerRow f ∷ [])
+
+  -- the entries can be filled, from the third row on
+  pub fillable : Fillable 16 (entriesPart bs m) (length one) 2
+  fillable =
+      let size : length (entriesPart bs m) ≡ length (recordsBytes (entries f)) =
+      ap length (entries-part bs f (b .bytes) (b .asked .reads) _ part-size) in
+      record {
+        context = entry;
+        records = entries f;
+        reads = entries-are;
+        within = omega (arith, size, contents);
+        fits = omega (arith, count f, b .asked .fits, one-size);
+      }
+
+  -- Where the entries were filled.
+  module _ (two : List ℕ) (next : ℕ) (g : Filled 16 (entriesPart bs m) one 2 2 two next) where
+    filled : (two ≡ stored one 2 (childRows 2 16 (ch f))) × (next ≡ 2 + length (entries f))
+    filled = g entry (entries f) entries-are
+
+    -- the next row's index: two rows lie before the entries', of which there are no more than bytes; and the buffer is as long as it was
+    pub next-row : (2 ≤ next) × (next ≤ 2 + m) × (length two ≡ length buffer)
+    next-row = (
+      omega (arith, filled .1),
+      omega (arith, filled .1, few (entries f), contents .0),
+      ap length (filled .0) ∙ length-stored one 2 (childRows 2 16 (ch f)) ∙ one-size,
+    )
+
+    -- the events' place, their first row's number, and so their rows
+    place-is : 8 + (8 + m) ≡ 8 + (8 + total (ch f))
+    place-is = omega (arith, contents .0, children-total (entries f))
+
+    number-is : next + 1 ≡ 3 + length (ch f)
+    number-is = omega (arith, filled .1, length-map (entries f) childOf)
+
+    event-rows : rows (next + 1) (8 + (8 + m)) (map eventNode (eventsOf f)) ≡ eventRows f
+    event-rows = ap₂ (λ (x y : ℕ). rows x y (map eventNode (eventsOf f))) number-is place-is
+
+    -- Where the configuration's row was stored: the rows before the events'.
+    module _ (three : List ℕ) (et : three ≡ stored two 1 (rowOf (putOwn m next) ∷ [])) where
+      own-is : rowOf (putOwn m next) ≡ ownRow f
+      unfolding rowOf
+      own-is =
+          let w : 8 + m ≡ 8 + total (ch f) = omega (arith, place-is) in
+          let o : next - 2 ≡ length (entries f) = omega (arith, filled .1) in
+          λ j. record { kind = 2; start = 8; whole = w j; parent = 0; one = o j; two = 0 }
+
+      three-is : three ≡ stored buffer 0 (front f)
+      three-is =
+          et ∙ ap₂ (λ (r : Row) (x : List ℕ). stored x 1 (r ∷ [])) own-is (filled .0)
+          ∙ stored-before one 1 (ownRow f) (childRows 2 16 (ch f))
+          ∙ ap (λ (x : List ℕ). stored x 1 (ownRow f ∷ childRows 2 16 (ch f))) (b .held)
+          ∙ sym (stored-append buffer 0 (headerRow f ∷ []) (ownRow f ∷ childRows 2 16 (ch f)))
+
+      -- the events can be filled behind them
+      pub fillable-events : FillableEvents (8 + (8 + m)) (eventsPart bs m) (length three) next
+      fillable-events =
+          let size : length (eventsPart bs m) ≡ length bs - (8 + (8 + m)) =
+          ap length (sym (left (8 + (8 + m)) bs)) ∙ length-drop (8 + (8 + m)) bs in
+          record {
+            events = eventsOf f;
+            reads = events-are;
+            within = omega (arith, size, contents);
+            low = omega (arith, next-row);
+            fits = omega (arith, ap length event-rows, count f, b .asked .fits, ap length three-is, length-stored buffer 0 (front f), filled .1);
+          }
+
+      -- and then the rows are the file's
+      pub done : (four : List ℕ) → FilledEvents (8 + (8 + m)) (eventsPart bs m) three next four → FilledFile bs buffer four
+      done four ge f′ e =
+          let size : next ≡ 0 + length (front f) = omega (arith, filled .1, front-size f) in
+          ge (eventsOf f) events-are
+          ∙ ap (stored three next) event-rows
+          ∙ ap₂ (λ (x : List ℕ) (y : ℕ). stored x y (eventRows f)) three-is size
+          ∙ sym (stored-append buffer 0 (front f) (eventRows f))
+          ∙ ap (stored buffer 0) (sym (rows-are f))
+          ∙ ap (λ (x : File). stored buffer 0 (rowsOf x)) (ok-inj (sym (b .asked .reads) ∙ e))

@@ -1,19 +1,14 @@
--- The laws of FileFillLaws answer each need: where the parts lie, and which rows the stores leave.
-use mathlib.Core.Path.{_≡_, sym, ap, _∙_}
-use mathlib.Core.List.{List, [], _∷_}
-use Prim.Native.Nat.{ℕ, _+_, _-_}
+-- `table::fill` meets its contract: header's row, entries' rows, configuration's row and events' rows are the file's, wherever they are stored.
+-- The idea: once the header's row is stored, the laws of FileFillLaws say of each part that it can be filled, and what filling it leaves.
+use Prim.Native.Nat.{_+_, _≤_}
+use mathlib.Core.Path.{_≡_, refl}
 use native.Mathlib.Omega.{arith}
 use denote.Ref.{now}
 use lib.ListN.{length}
-use Rattle.theory.specs.Layout.{Row}
+use Rattle.theory.specs.Words.{Bytes}
 use Rattle.theory.proofs.WordLaws.{Bytes-from}
-use Rattle.theory.proofs.TestLaws.{ok-inj}
-use Rattle.note.specs.Files.{File}
-use Rattle.note.specs.Rows.{rowsOf}
-use Rattle.rows.specs.Buffers.{rowOf, stored}
-use Rattle.rows.proofs.StoreLaws.{length-stored}
-use Rattle.containers.proofs.FileParts.{version-is, length-is, room}
-use Rattle.table.proofs.FileFillLaws.{some, fillable, next-is, fillable-events, done}
+use Rattle.note.specs.Limits.{fileLimit}
+use Rattle.table.proofs.FileFillLaws.{some, sized, Begun, begin, fillable, next-row, fillable-events, done}
 use borrow.Author.Needs.{needs}
 use Rattle.table.proofs.fill.Statement.{statement}
 use Rattle.table.proofs.fill.Tie as tie
@@ -24,72 +19,111 @@ use Rattle.table.proofs.fill_records.Reads as fill-records-reads
 use Rattle.rows.proofs.put_row.Reads as put-row-reads
 use Rattle.words.proofs.word_at.Reads as word-at-reads
 
+-- From each step that something is known of back to the one before it: events filled, configuration's row stored, entries filled, header's
+-- row stored, length word read, start.
+abbrev closed : tie.After-fill-events → tie.After-put-row2
+closed c = c .before .before .before .before .before
+
+abbrev entered : tie.After-put-row2 → tie.After-fill-records
+entered c = c .before .before .before .before
+
+abbrev headed : tie.After-fill-records → tie.After-put-row
+headed c = c .before .before .before .before .before
+
+abbrev read : tie.After-put-row → tie.After-word-at
+read c = c .before .before .before
+
+abbrev start : tie.After-word-at → tie.Start
+start c = c .before .before .before
+
+-- The file is bytes.
+held : (c : tie.After-slice-known) → Bytes (now (c .before .before .args .file))
+held c = Bytes-from (now (c .before .before .args .file)) (λ i l. omega (arith, c .before .shared-slice-known .given i))
+
+-- Where the length word was read: the configuration fits the file, which is within the limit.
+whole : (c : tie.After-word-at) → (16 + c .word-at .result ≤ length (now (start c .args .file))) × (length (now (start c .args .file)) ≤ fileLimit)
+whole c = sized (start c .pre) (held (c .before)) _ (c .word-at .ensures)
+
+-- Where the header's row was stored: what the buffer holds.
+begun : (c : tie.After-put-row)
+    → Begun (now (start (read c) .args .file)) (now (start (read c) .args .rows)) (read c .word-at .result) (c .put-row .last .0)
+begun c =
+    begin (held (read c .before)) (start (read c) .pre) _ (read c .word-at .ensures) _ (c .before .word-at2 .ensures) _ (c .put-row .ensures)
+
+-- Where the entries' rows were stored: how many they are, and the buffer as long as before.
+rows : (c : tie.After-fill-records)
+    → (2 ≤ c .fill-records .result) × (c .fill-records .result ≤ 2 + read (headed c) .word-at .result)
+    × (length (c .fill-records .last .1 .1 .0) ≡ length (now (start (read (headed c)) .args .rows)))
+rows c = next-row (begun (headed c)) _ _ (c .fill-records .ensures)
+
 word-at-requires : tie.Need-word-at-requires
-word-at-requires c κs = let r = room (now (c .before .before .args .file)) (c .before .before .pre .file) (Bytes-from (now (c .before .before .args .file)) (λ i l. omega (arith, c .before .shared-slice-known .given i))) (c .before .before .pre .reads) in let q = length-is (now (c .before .before .args .file)) (c .before .before .pre .file) (Bytes-from (now (c .before .before .args .file)) (λ i l. omega (arith, c .before .shared-slice-known .given i))) (c .before .before .pre .reads) in omega (arith, r .0)
+word-at-requires c κs = let (fits, limit) = sized (c .before .before .pre) (held c) _ refl in omega (arith, fits)
 
 cast-size : tie.Need-cast-size
 cast-size c = search needs
 
 add-size : tie.Need-add-size
-add-size c = let r = room (now (c .before .before .before .args .file)) (c .before .before .before .pre .file) (Bytes-from (now (c .before .before .before .args .file)) (λ i l. omega (arith, c .before .before .shared-slice-known .given i))) (c .before .before .before .pre .reads) in let q = length-is (now (c .before .before .before .args .file)) (c .before .before .before .pre .file) (Bytes-from (now (c .before .before .before .args .file)) (λ i l. omega (arith, c .before .before .shared-slice-known .given i))) (c .before .before .before .pre .reads) in omega (arith, r .0, r .1, q, (c .word-at .ensures))
+add-size c = omega (arith, whole c)
 
 add-end : tie.Need-add-end
-add-end c = let r = room (now (c .before .before .before .args .file)) (c .before .before .before .pre .file) (Bytes-from (now (c .before .before .before .args .file)) (λ i l. omega (arith, c .before .before .shared-slice-known .given i))) (c .before .before .before .pre .reads) in let q = length-is (now (c .before .before .before .args .file)) (c .before .before .before .pre .file) (Bytes-from (now (c .before .before .before .args .file)) (λ i l. omega (arith, c .before .before .shared-slice-known .given i))) (c .before .before .before .pre .reads) in omega (arith, r .0, r .1, q, (c .word-at .ensures))
+add-end c = omega (arith, whole c)
 
 word-at-requires-2 : tie.Need-word-at-requires-2
-word-at-requires-2 c κs = let r = room (now (c .before .before .before .before .args .file)) (c .before .before .before .before .pre .file) (Bytes-from (now (c .before .before .before .before .args .file)) (λ i l. omega (arith, c .before .before .before .shared-slice-known .given i))) (c .before .before .before .before .pre .reads) in let q = length-is (now (c .before .before .before .before .args .file)) (c .before .before .before .before .pre .file) (Bytes-from (now (c .before .before .before .before .args .file)) (λ i l. omega (arith, c .before .before .before .shared-slice-known .given i))) (c .before .before .before .before .pre .reads) in omega (arith, r .0)
+word-at-requires-2 c κs = omega (arith, whole (c .before))
 
 put-row-requires : tie.Need-put-row-requires
-put-row-requires c κs = let s = some (now (c .before .before .before .before .before .args .file)) (c .before .before .before .before .before .pre .file) (Bytes-from (now (c .before .before .before .before .before .args .file)) (λ i l. omega (arith, c .before .before .before .before .shared-slice-known .given i))) (c .before .before .before .before .before .pre .reads) (now (c .before .before .before .before .before .args .rows)) (c .before .before .before .before .before .pre .fits) in omega (arith, s)
+put-row-requires c κs = omega (arith, some (start (c .before .before) .pre))
 
 sub-fill-records : tie.Need-sub-fill-records
-sub-fill-records c = let r = room (now (c .before .before .before .before .before .before .before .before .args .file)) (c .before .before .before .before .before .before .before .before .pre .file) (Bytes-from (now (c .before .before .before .before .before .before .before .before .args .file)) (λ i l. omega (arith, c .before .before .before .before .before .before .before .shared-slice-known .given i))) (c .before .before .before .before .before .before .before .before .pre .reads) in let q = length-is (now (c .before .before .before .before .before .before .before .before .args .file)) (c .before .before .before .before .before .before .before .before .pre .file) (Bytes-from (now (c .before .before .before .before .before .before .before .before .args .file)) (λ i l. omega (arith, c .before .before .before .before .before .before .before .shared-slice-known .given i))) (c .before .before .before .before .before .before .before .before .pre .reads) in omega (arith, r .0, r .1, q, (c .before .before .before .before .before .word-at .ensures))
+sub-fill-records c = search needs
 
 part-fill-records-start : tie.Need-part-fill-records-start
-part-fill-records-start c = let r = room (now (c .before .before .before .before .before .before .before .before .args .file)) (c .before .before .before .before .before .before .before .before .pre .file) (Bytes-from (now (c .before .before .before .before .before .before .before .before .args .file)) (λ i l. omega (arith, c .before .before .before .before .before .before .before .shared-slice-known .given i))) (c .before .before .before .before .before .before .before .before .pre .reads) in let q = length-is (now (c .before .before .before .before .before .before .before .before .args .file)) (c .before .before .before .before .before .before .before .before .pre .file) (Bytes-from (now (c .before .before .before .before .before .before .before .before .args .file)) (λ i l. omega (arith, c .before .before .before .before .before .before .before .shared-slice-known .given i))) (c .before .before .before .before .before .before .before .before .pre .reads) in omega (arith, r .0, r .1, q, (c .before .before .before .before .before .word-at .ensures))
+part-fill-records-start c = search needs
 
 part-fill-records-end : tie.Need-part-fill-records-end
-part-fill-records-end c = let r = room (now (c .before .before .before .before .before .before .before .before .args .file)) (c .before .before .before .before .before .before .before .before .pre .file) (Bytes-from (now (c .before .before .before .before .before .before .before .before .args .file)) (λ i l. omega (arith, c .before .before .before .before .before .before .before .shared-slice-known .given i))) (c .before .before .before .before .before .before .before .before .pre .reads) in let q = length-is (now (c .before .before .before .before .before .before .before .before .args .file)) (c .before .before .before .before .before .before .before .before .pre .file) (Bytes-from (now (c .before .before .before .before .before .before .before .before .args .file)) (λ i l. omega (arith, c .before .before .before .before .before .before .before .shared-slice-known .given i))) (c .before .before .before .before .before .before .before .before .pre .reads) in omega (arith, r .0, r .1, q, (c .before .before .before .before .before .word-at .ensures))
+part-fill-records-end c = omega (arith, whole (read (c .before .before)))
 
 fill-records-requires : tie.Need-fill-records-requires
-unfolding rowOf
-fill-records-requires c κs = fillable (now (c .before .before .before .before .before .before .before .before .before .before .args .file)) (c .before .before .before .before .before .before .before .before .before .before .pre .file) (Bytes-from (now (c .before .before .before .before .before .before .before .before .before .before .args .file)) (λ i l. omega (arith, c .before .before .before .before .before .before .before .before .before .shared-slice-known .given i))) (c .before .before .before .before .before .before .before .before .before .before .pre .reads) (now (c .before .before .before .before .before .before .before .before .before .before .args .rows)) (c .before .before .before .before .before .before .before .before .before .before .pre .fits) _ (c .before .before .before .before .put-row .ensures ∙ ap (λ (v : ℕ). stored (now (c .before .before .before .before .before .before .before .before .before .before .args .rows)) 0 (record { kind = 1; start = 0; whole = 8; parent = 0; one = v; two = 0 } ∷ [])) (c .before .before .before .before .before .word-at2 .ensures ∙ version-is (now (c .before .before .before .before .before .before .before .before .before .before .args .file)) (c .before .before .before .before .before .before .before .before .before .before .pre .file) (Bytes-from (now (c .before .before .before .before .before .before .before .before .before .before .args .file)) (λ i l. omega (arith, c .before .before .before .before .before .before .before .before .before .shared-slice-known .given i))) (c .before .before .before .before .before .before .before .before .before .before .pre .reads))) _ (c .before .before .before .before .before .before .before .word-at .ensures)
+fill-records-requires c κs = fillable (begun (c .before .before .before .before))
 
 cast-t6 : tie.Need-cast-t6
-unfolding rowOf
-cast-t6 c = let n = next-is (now (c .before .before .before .before .before .before .before .before .before .before .before .before .before .before .args .file)) (c .before .before .before .before .before .before .before .before .before .before .before .before .before .before .pre .file) (Bytes-from (now (c .before .before .before .before .before .before .before .before .before .before .before .before .before .before .args .file)) (λ i l. omega (arith, c .before .before .before .before .before .before .before .before .before .before .before .before .before .shared-slice-known .given i))) (c .before .before .before .before .before .before .before .before .before .before .before .before .before .before .pre .reads) (now (c .before .before .before .before .before .before .before .before .before .before .before .before .before .before .args .rows)) (c .before .before .before .before .before .before .before .before .before .before .before .before .before .before .pre .fits) _ (c .before .before .before .before .before .before .before .before .put-row .ensures ∙ ap (λ (v : ℕ). stored (now (c .before .before .before .before .before .before .before .before .before .before .before .before .before .before .args .rows)) 0 (record { kind = 1; start = 0; whole = 8; parent = 0; one = v; two = 0 } ∷ [])) (c .before .before .before .before .before .before .before .before .before .word-at2 .ensures ∙ version-is (now (c .before .before .before .before .before .before .before .before .before .before .before .before .before .before .args .file)) (c .before .before .before .before .before .before .before .before .before .before .before .before .before .before .pre .file) (Bytes-from (now (c .before .before .before .before .before .before .before .before .before .before .before .before .before .before .args .file)) (λ i l. omega (arith, c .before .before .before .before .before .before .before .before .before .before .before .before .before .shared-slice-known .given i))) (c .before .before .before .before .before .before .before .before .before .before .before .before .before .before .pre .reads))) _ (c .before .before .before .before .before .before .before .before .before .before .before .word-at .ensures) _ _ (c .before .before .before .fill-records .ensures) in let r = room (now (c .before .before .before .before .before .before .before .before .before .before .before .before .before .before .args .file)) (c .before .before .before .before .before .before .before .before .before .before .before .before .before .before .pre .file) (Bytes-from (now (c .before .before .before .before .before .before .before .before .before .before .before .before .before .before .args .file)) (λ i l. omega (arith, c .before .before .before .before .before .before .before .before .before .before .before .before .before .shared-slice-known .given i))) (c .before .before .before .before .before .before .before .before .before .before .before .before .before .before .pre .reads) in let q = length-is (now (c .before .before .before .before .before .before .before .before .before .before .before .before .before .before .args .file)) (c .before .before .before .before .before .before .before .before .before .before .before .before .before .before .pre .file) (Bytes-from (now (c .before .before .before .before .before .before .before .before .before .before .before .before .before .before .args .file)) (λ i l. omega (arith, c .before .before .before .before .before .before .before .before .before .before .before .before .before .shared-slice-known .given i))) (c .before .before .before .before .before .before .before .before .before .before .before .before .before .before .pre .reads) in omega (arith, n .0, n .1, r .0, r .1, q, (c .before .before .before .before .before .before .before .before .before .before .before .word-at .ensures))
+cast-t6 c = let records = c .before .before .before in omega (arith, whole (read (headed records)))
 
 sub-t7 : tie.Need-sub-t7
-unfolding rowOf
-sub-t7 c = let n = next-is (now (c .before .before .before .before .before .before .before .before .before .before .before .before .before .before .args .file)) (c .before .before .before .before .before .before .before .before .before .before .before .before .before .before .pre .file) (Bytes-from (now (c .before .before .before .before .before .before .before .before .before .before .before .before .before .before .args .file)) (λ i l. omega (arith, c .before .before .before .before .before .before .before .before .before .before .before .before .before .shared-slice-known .given i))) (c .before .before .before .before .before .before .before .before .before .before .before .before .before .before .pre .reads) (now (c .before .before .before .before .before .before .before .before .before .before .before .before .before .before .args .rows)) (c .before .before .before .before .before .before .before .before .before .before .before .before .before .before .pre .fits) _ (c .before .before .before .before .before .before .before .before .put-row .ensures ∙ ap (λ (v : ℕ). stored (now (c .before .before .before .before .before .before .before .before .before .before .before .before .before .before .args .rows)) 0 (record { kind = 1; start = 0; whole = 8; parent = 0; one = v; two = 0 } ∷ [])) (c .before .before .before .before .before .before .before .before .before .word-at2 .ensures ∙ version-is (now (c .before .before .before .before .before .before .before .before .before .before .before .before .before .before .args .file)) (c .before .before .before .before .before .before .before .before .before .before .before .before .before .before .pre .file) (Bytes-from (now (c .before .before .before .before .before .before .before .before .before .before .before .before .before .before .args .file)) (λ i l. omega (arith, c .before .before .before .before .before .before .before .before .before .before .before .before .before .shared-slice-known .given i))) (c .before .before .before .before .before .before .before .before .before .before .before .before .before .before .pre .reads))) _ (c .before .before .before .before .before .before .before .before .before .before .before .word-at .ensures) _ _ (c .before .before .before .fill-records .ensures) in let r = room (now (c .before .before .before .before .before .before .before .before .before .before .before .before .before .before .args .file)) (c .before .before .before .before .before .before .before .before .before .before .before .before .before .before .pre .file) (Bytes-from (now (c .before .before .before .before .before .before .before .before .before .before .before .before .before .before .args .file)) (λ i l. omega (arith, c .before .before .before .before .before .before .before .before .before .before .before .before .before .shared-slice-known .given i))) (c .before .before .before .before .before .before .before .before .before .before .before .before .before .before .pre .reads) in let q = length-is (now (c .before .before .before .before .before .before .before .before .before .before .before .before .before .before .args .file)) (c .before .before .before .before .before .before .before .before .before .before .before .before .before .before .pre .file) (Bytes-from (now (c .before .before .before .before .before .before .before .before .before .before .before .before .before .before .args .file)) (λ i l. omega (arith, c .before .before .before .before .before .before .before .before .before .before .before .before .before .shared-slice-known .given i))) (c .before .before .before .before .before .before .before .before .before .before .before .before .before .before .pre .reads) in omega (arith, n .0, n .1, r .0, r .1, q, (c .before .before .before .before .before .before .before .before .before .before .before .word-at .ensures))
+sub-t7 c = omega (arith, rows (c .before .before .before))
 
 cast-t19 : tie.Need-cast-t19
-unfolding rowOf
-cast-t19 c = let n = next-is (now (c .before .before .before .before .before .before .before .before .before .before .before .before .before .before .args .file)) (c .before .before .before .before .before .before .before .before .before .before .before .before .before .before .pre .file) (Bytes-from (now (c .before .before .before .before .before .before .before .before .before .before .before .before .before .before .args .file)) (λ i l. omega (arith, c .before .before .before .before .before .before .before .before .before .before .before .before .before .shared-slice-known .given i))) (c .before .before .before .before .before .before .before .before .before .before .before .before .before .before .pre .reads) (now (c .before .before .before .before .before .before .before .before .before .before .before .before .before .before .args .rows)) (c .before .before .before .before .before .before .before .before .before .before .before .before .before .before .pre .fits) _ (c .before .before .before .before .before .before .before .before .put-row .ensures ∙ ap (λ (v : ℕ). stored (now (c .before .before .before .before .before .before .before .before .before .before .before .before .before .before .args .rows)) 0 (record { kind = 1; start = 0; whole = 8; parent = 0; one = v; two = 0 } ∷ [])) (c .before .before .before .before .before .before .before .before .before .word-at2 .ensures ∙ version-is (now (c .before .before .before .before .before .before .before .before .before .before .before .before .before .before .args .file)) (c .before .before .before .before .before .before .before .before .before .before .before .before .before .before .pre .file) (Bytes-from (now (c .before .before .before .before .before .before .before .before .before .before .before .before .before .before .args .file)) (λ i l. omega (arith, c .before .before .before .before .before .before .before .before .before .before .before .before .before .shared-slice-known .given i))) (c .before .before .before .before .before .before .before .before .before .before .before .before .before .before .pre .reads))) _ (c .before .before .before .before .before .before .before .before .before .before .before .word-at .ensures) _ _ (c .before .before .before .fill-records .ensures) in let r = room (now (c .before .before .before .before .before .before .before .before .before .before .before .before .before .before .args .file)) (c .before .before .before .before .before .before .before .before .before .before .before .before .before .before .pre .file) (Bytes-from (now (c .before .before .before .before .before .before .before .before .before .before .before .before .before .before .args .file)) (λ i l. omega (arith, c .before .before .before .before .before .before .before .before .before .before .before .before .before .shared-slice-known .given i))) (c .before .before .before .before .before .before .before .before .before .before .before .before .before .before .pre .reads) in let q = length-is (now (c .before .before .before .before .before .before .before .before .before .before .before .before .before .before .args .file)) (c .before .before .before .before .before .before .before .before .before .before .before .before .before .before .pre .file) (Bytes-from (now (c .before .before .before .before .before .before .before .before .before .before .before .before .before .before .args .file)) (λ i l. omega (arith, c .before .before .before .before .before .before .before .before .before .before .before .before .before .shared-slice-known .given i))) (c .before .before .before .before .before .before .before .before .before .before .before .before .before .before .pre .reads) in omega (arith, n .0, n .1, r .0, r .1, q, (c .before .before .before .before .before .before .before .before .before .before .before .word-at .ensures))
+cast-t19 c = let records = c .before .before .before in omega (arith, rows records, whole (read (headed records)))
 
 put-row-requires-2 : tie.Need-put-row-requires-2
-unfolding rowOf
-put-row-requires-2 c κs = let n = next-is (now (c .before .before .before .before .before .before .before .before .before .before .before .before .before .before .args .file)) (c .before .before .before .before .before .before .before .before .before .before .before .before .before .before .pre .file) (Bytes-from (now (c .before .before .before .before .before .before .before .before .before .before .before .before .before .before .args .file)) (λ i l. omega (arith, c .before .before .before .before .before .before .before .before .before .before .before .before .before .shared-slice-known .given i))) (c .before .before .before .before .before .before .before .before .before .before .before .before .before .before .pre .reads) (now (c .before .before .before .before .before .before .before .before .before .before .before .before .before .before .args .rows)) (c .before .before .before .before .before .before .before .before .before .before .before .before .before .before .pre .fits) _ (c .before .before .before .before .before .before .before .before .put-row .ensures ∙ ap (λ (v : ℕ). stored (now (c .before .before .before .before .before .before .before .before .before .before .before .before .before .before .args .rows)) 0 (record { kind = 1; start = 0; whole = 8; parent = 0; one = v; two = 0 } ∷ [])) (c .before .before .before .before .before .before .before .before .before .word-at2 .ensures ∙ version-is (now (c .before .before .before .before .before .before .before .before .before .before .before .before .before .before .args .file)) (c .before .before .before .before .before .before .before .before .before .before .before .before .before .before .pre .file) (Bytes-from (now (c .before .before .before .before .before .before .before .before .before .before .before .before .before .before .args .file)) (λ i l. omega (arith, c .before .before .before .before .before .before .before .before .before .before .before .before .before .shared-slice-known .given i))) (c .before .before .before .before .before .before .before .before .before .before .before .before .before .before .pre .reads))) _ (c .before .before .before .before .before .before .before .before .before .before .before .word-at .ensures) _ _ (c .before .before .before .fill-records .ensures) in let s = some (now (c .before .before .before .before .before .before .before .before .before .before .before .before .before .before .args .file)) (c .before .before .before .before .before .before .before .before .before .before .before .before .before .before .pre .file) (Bytes-from (now (c .before .before .before .before .before .before .before .before .before .before .before .before .before .before .args .file)) (λ i l. omega (arith, c .before .before .before .before .before .before .before .before .before .before .before .before .before .shared-slice-known .given i))) (c .before .before .before .before .before .before .before .before .before .before .before .before .before .before .pre .reads) (now (c .before .before .before .before .before .before .before .before .before .before .before .before .before .before .args .rows)) (c .before .before .before .before .before .before .before .before .before .before .before .before .before .before .pre .fits) in omega (arith, n .2, s)
+put-row-requires-2 c κs =
+    let records = c .before .before .before in
+    omega (arith, rows records .2, some (start (read (headed records)) .pre))
 
 sub-fill-events : tie.Need-sub-fill-events
-sub-fill-events c = let r = room (now (c .before .before .before .before .before .before .before .before .before .before .before .before .before .before .before .before .before .args .file)) (c .before .before .before .before .before .before .before .before .before .before .before .before .before .before .before .before .before .pre .file) (Bytes-from (now (c .before .before .before .before .before .before .before .before .before .before .before .before .before .before .before .before .before .args .file)) (λ i l. omega (arith, c .before .before .before .before .before .before .before .before .before .before .before .before .before .before .before .before .shared-slice-known .given i))) (c .before .before .before .before .before .before .before .before .before .before .before .before .before .before .before .before .before .pre .reads) in let q = length-is (now (c .before .before .before .before .before .before .before .before .before .before .before .before .before .before .before .before .before .args .file)) (c .before .before .before .before .before .before .before .before .before .before .before .before .before .before .before .before .before .pre .file) (Bytes-from (now (c .before .before .before .before .before .before .before .before .before .before .before .before .before .before .before .before .before .args .file)) (λ i l. omega (arith, c .before .before .before .before .before .before .before .before .before .before .before .before .before .before .before .before .shared-slice-known .given i))) (c .before .before .before .before .before .before .before .before .before .before .before .before .before .before .before .before .before .pre .reads) in omega (arith, r .0, r .1, q, (c .before .before .before .before .before .before .before .before .before .before .before .before .before .before .word-at .ensures))
+sub-fill-events c = omega (arith, whole (read (headed (entered (c .before .before)))))
 
 part-fill-events-start : tie.Need-part-fill-events-start
-part-fill-events-start c = let r = room (now (c .before .before .before .before .before .before .before .before .before .before .before .before .before .before .before .before .before .args .file)) (c .before .before .before .before .before .before .before .before .before .before .before .before .before .before .before .before .before .pre .file) (Bytes-from (now (c .before .before .before .before .before .before .before .before .before .before .before .before .before .before .before .before .before .args .file)) (λ i l. omega (arith, c .before .before .before .before .before .before .before .before .before .before .before .before .before .before .before .before .shared-slice-known .given i))) (c .before .before .before .before .before .before .before .before .before .before .before .before .before .before .before .before .before .pre .reads) in let q = length-is (now (c .before .before .before .before .before .before .before .before .before .before .before .before .before .before .before .before .before .args .file)) (c .before .before .before .before .before .before .before .before .before .before .before .before .before .before .before .before .before .pre .file) (Bytes-from (now (c .before .before .before .before .before .before .before .before .before .before .before .before .before .before .before .before .before .args .file)) (λ i l. omega (arith, c .before .before .before .before .before .before .before .before .before .before .before .before .before .before .before .before .shared-slice-known .given i))) (c .before .before .before .before .before .before .before .before .before .before .before .before .before .before .before .before .before .pre .reads) in omega (arith, r .0, r .1, q, (c .before .before .before .before .before .before .before .before .before .before .before .before .before .before .word-at .ensures))
+part-fill-events-start c = omega (arith, whole (read (headed (entered (c .before .before)))))
 
 part-fill-events-end : tie.Need-part-fill-events-end
-part-fill-events-end c = let r = room (now (c .before .before .before .before .before .before .before .before .before .before .before .before .before .before .before .before .before .args .file)) (c .before .before .before .before .before .before .before .before .before .before .before .before .before .before .before .before .before .pre .file) (Bytes-from (now (c .before .before .before .before .before .before .before .before .before .before .before .before .before .before .before .before .before .args .file)) (λ i l. omega (arith, c .before .before .before .before .before .before .before .before .before .before .before .before .before .before .before .before .shared-slice-known .given i))) (c .before .before .before .before .before .before .before .before .before .before .before .before .before .before .before .before .before .pre .reads) in let q = length-is (now (c .before .before .before .before .before .before .before .before .before .before .before .before .before .before .before .before .before .args .file)) (c .before .before .before .before .before .before .before .before .before .before .before .before .before .before .before .before .before .pre .file) (Bytes-from (now (c .before .before .before .before .before .before .before .before .before .before .before .before .before .before .before .before .before .args .file)) (λ i l. omega (arith, c .before .before .before .before .before .before .before .before .before .before .before .before .before .before .before .before .shared-slice-known .given i))) (c .before .before .before .before .before .before .before .before .before .before .before .before .before .before .before .before .before .pre .reads) in omega (arith, r .0, r .1, q, (c .before .before .before .before .before .before .before .before .before .before .before .before .before .before .word-at .ensures))
+part-fill-events-end c = search needs
 
 fill-events-requires : tie.Need-fill-events-requires
-unfolding rowOf
-fill-events-requires c κs = fillable-events (now (c .before .before .before .before .before .before .before .before .before .before .before .before .before .before .before .before .before .before .before .args .file)) (c .before .before .before .before .before .before .before .before .before .before .before .before .before .before .before .before .before .before .before .pre .file) (Bytes-from (now (c .before .before .before .before .before .before .before .before .before .before .before .before .before .before .before .before .before .before .before .args .file)) (λ i l. omega (arith, c .before .before .before .before .before .before .before .before .before .before .before .before .before .before .before .before .before .before .shared-slice-known .given i))) (c .before .before .before .before .before .before .before .before .before .before .before .before .before .before .before .before .before .before .before .pre .reads) (now (c .before .before .before .before .before .before .before .before .before .before .before .before .before .before .before .before .before .before .before .args .rows)) (c .before .before .before .before .before .before .before .before .before .before .before .before .before .before .before .before .before .before .before .pre .fits) _ (c .before .before .before .before .before .before .before .before .before .before .before .before .before .put-row .ensures ∙ ap (λ (v : ℕ). stored (now (c .before .before .before .before .before .before .before .before .before .before .before .before .before .before .before .before .before .before .before .args .rows)) 0 (record { kind = 1; start = 0; whole = 8; parent = 0; one = v; two = 0 } ∷ [])) (c .before .before .before .before .before .before .before .before .before .before .before .before .before .before .word-at2 .ensures ∙ version-is (now (c .before .before .before .before .before .before .before .before .before .before .before .before .before .before .before .before .before .before .before .args .file)) (c .before .before .before .before .before .before .before .before .before .before .before .before .before .before .before .before .before .before .before .pre .file) (Bytes-from (now (c .before .before .before .before .before .before .before .before .before .before .before .before .before .before .before .before .before .before .before .args .file)) (λ i l. omega (arith, c .before .before .before .before .before .before .before .before .before .before .before .before .before .before .before .before .before .before .shared-slice-known .given i))) (c .before .before .before .before .before .before .before .before .before .before .before .before .before .before .before .before .before .before .before .pre .reads))) _ (c .before .before .before .before .before .before .before .before .before .before .before .before .before .before .before .before .word-at .ensures) _ _ (c .before .before .before .before .before .before .before .before .fill-records .ensures) _ (c .before .before .before .before .put-row2 .ensures)
+fill-events-requires c κs =
+    let own = c .before .before .before .before in
+    let records = entered own in
+    fillable-events (begun (headed records)) _ _ (records .fill-records .ensures) _ (own .put-row2 .ensures)
 
 same-length : tie.Need-same-length
 same-length c = search needs
 
 returns : tie.Need-returns
-unfolding rowOf
-returns c = λ f e. done (now (c .before .before .before .before .before .before .before .before .before .before .before .before .before .before .before .before .before .before .before .before .before .before .args .file)) (c .before .before .before .before .before .before .before .before .before .before .before .before .before .before .before .before .before .before .before .before .before .before .pre .file) (Bytes-from (now (c .before .before .before .before .before .before .before .before .before .before .before .before .before .before .before .before .before .before .before .before .before .before .args .file)) (λ i l. omega (arith, c .before .before .before .before .before .before .before .before .before .before .before .before .before .before .before .before .before .before .before .before .before .shared-slice-known .given i))) (c .before .before .before .before .before .before .before .before .before .before .before .before .before .before .before .before .before .before .before .before .before .before .pre .reads) (now (c .before .before .before .before .before .before .before .before .before .before .before .before .before .before .before .before .before .before .before .before .before .before .args .rows)) (c .before .before .before .before .before .before .before .before .before .before .before .before .before .before .before .before .before .before .before .before .before .before .pre .fits) _ (c .before .before .before .before .before .before .before .before .before .before .before .before .before .before .before .before .put-row .ensures ∙ ap (λ (v : ℕ). stored (now (c .before .before .before .before .before .before .before .before .before .before .before .before .before .before .before .before .before .before .before .before .before .before .args .rows)) 0 (record { kind = 1; start = 0; whole = 8; parent = 0; one = v; two = 0 } ∷ [])) (c .before .before .before .before .before .before .before .before .before .before .before .before .before .before .before .before .before .word-at2 .ensures ∙ version-is (now (c .before .before .before .before .before .before .before .before .before .before .before .before .before .before .before .before .before .before .before .before .before .before .args .file)) (c .before .before .before .before .before .before .before .before .before .before .before .before .before .before .before .before .before .before .before .before .before .before .pre .file) (Bytes-from (now (c .before .before .before .before .before .before .before .before .before .before .before .before .before .before .before .before .before .before .before .before .before .before .args .file)) (λ i l. omega (arith, c .before .before .before .before .before .before .before .before .before .before .before .before .before .before .before .before .before .before .before .before .before .shared-slice-known .given i))) (c .before .before .before .before .before .before .before .before .before .before .before .before .before .before .before .before .before .before .before .before .before .before .pre .reads))) _ (c .before .before .before .before .before .before .before .before .before .before .before .before .before .before .before .before .before .before .before .word-at .ensures) _ _ (c .before .before .before .before .before .before .before .before .before .before .before .fill-records .ensures) _ (c .before .before .before .before .before .before .before .put-row2 .ensures) _ (c .before .before .fill-events .ensures) ∙ ap (λ (g : File). stored (now (c .before .before .before .before .before .before .before .before .before .before .before .before .before .before .before .before .before .before .before .before .before .before .args .rows)) 0 (rowsOf g)) (ok-inj (sym (c .before .before .before .before .before .before .before .before .before .before .before .before .before .before .before .before .before .before .before .before .before .before .pre .reads) ∙ e))
+returns c =
+    let events = c .before .before in
+    let own = closed events in
+    let records = entered own in
+    done (begun (headed records)) _ _ (records .fill-records .ensures) _ (own .put-row2 .ensures) _ (events .fill-events .ensures)
 
 pub fill-spec : {M : Type 1} → statement M
 fill-spec =
