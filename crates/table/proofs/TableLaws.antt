@@ -18,7 +18,7 @@ use Rattle.containers.specs.Counts.{rowsOfEvents, fileRows}
 use Rattle.containers.proofs.FileParts.{file-good, file-bad}
 use Rattle.rows.specs.Buffers.{stored}
 use Rattle.rows.proofs.StoreLaws.{stored-first}
-use Rattle.table.specs.Filling.{FillableFile}
+use Rattle.table.specs.Filling.{FillableFile, FilledFile}
 
 events-rows : (es : List Container) → rowCount (map eventNode es) ≡ rowsOfEvents es
 events-rows [] = refl
@@ -39,7 +39,8 @@ module _ (bs old : List ℕ) where
   unfolding tableAnswer tableBuffer
   refused c p e = let r : readFile bs ≡ bad c p = file-bad (readFile bs) c p e in (rw r, rw r)
 
-  filled-with : (f : File) → readFile bs ≡ ok f → (n : ℕ) → length (rowsOf f) ≡ n → n ≤ length old / 6 → (new : List ℕ) → new ≡ stored old 0 (rowsOf f)
+  filled-with : (f : File) → readFile bs ≡ ok f → (n : ℕ) → length (rowsOf f) ≡ n → n ≤ length old / 6
+      → (new : List ℕ) → new ≡ stored old 0 (rowsOf f)
       → (record { number = 0; count = n; place = length bs } ≡ tableAnswer bs (length old)) × (new ≡ tableBuffer bs old)
   unfolding tableAnswer tableBuffer
   filled-with f r n s h new g =
@@ -47,7 +48,8 @@ module _ (bs old : List ℕ) where
       (rw (r, t, s), g ∙ stored-first old (rowsOf f) (omega (arith, s)) ∙ rw (r, t))
 
   module _ (n : ℕ) (e : Good n ≡ fileRows (readFile bs)) where
-    pub too-few : length old / 6 < n → (record { number = 12; count = n; place = length bs } ≡ tableAnswer bs (length old)) × (old ≡ tableBuffer bs old)
+    pub too-few : length old / 6 < n
+        → (record { number = 12; count = n; place = length bs } ≡ tableAnswer bs (length old)) × (old ≡ tableBuffer bs old)
     unfolding tableAnswer tableBuffer
     too-few h =
         let (f, r, s) = rows-good (readFile bs) n e in
@@ -58,6 +60,6 @@ module _ (bs old : List ℕ) where
       pub fillable : FillableFile bs (length old)
       fillable = let (f, r, s) = rows-good (readFile bs) n e in record { file = f; reads = r; fits = omega (arith, s) }
 
-      pub filled : (new : List ℕ) → ((f : File) → readFile bs ≡ ok f → new ≡ stored old 0 (rowsOf f))
+      pub filled : (new : List ℕ) → FilledFile bs old new
           → (record { number = 0; count = n; place = length bs } ≡ tableAnswer bs (length old)) × (new ≡ tableBuffer bs old)
       filled new g = let (f, r, s) = rows-good (readFile bs) n e in filled-with f r n s h new (g f r)
