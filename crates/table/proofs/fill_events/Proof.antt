@@ -84,7 +84,7 @@ part-fill-records-end : tie.Need-part-fill-records-end Inv-loop μ-loop
 part-fill-records-end c = whole c .0
 
 add-fill-records : tie.Need-add-fill-records Inv-loop μ-loop
-add-fill-records c = omega (arith, whole (c .before))
+add-fill-records c = search needs
 
 add-fill-records-2 : tie.Need-add-fill-records-2 Inv-loop μ-loop
 add-fill-records-2 c = omega (arith, whole (c .before .before), few (c .before .before .before))
@@ -102,7 +102,7 @@ fill-records-requires c κs =
     fillable (turn .before .loop .inv) (start turn .pre) (turn .loop-test .taken) _ (sized .word-at .ensures)
 
 cast-t12 : tie.Need-cast-t12 Inv-loop μ-loop
-cast-t12 c = omega (arith, whole (read (c .before .before .before)))
+cast-t12 c = search needs
 
 cast-t24 : tie.Need-cast-t24 Inv-loop μ-loop
 cast-t24 c = omega (arith, whole (read (c .before .before .before)))
