@@ -1,23 +1,23 @@
 -- One law for each way through a container's reader, once for configurations and events.
 -- The idea: a container is its two words, in order, and then its records; head and late are what the two kinds of container differ in.
 use mathlib.Core.Path.{_≡_, refl, sym, ap, _∙_, subst}
-use mathlib.Core.List.{List, [], _∷_, _++_}
-use Prim.Native.Nat.{ℕ, zero, suc, _+_, _-_, _≤_, _<_}
+use mathlib.Core.List.{List}
+use Prim.Native.Nat.{ℕ, _+_, _-_, _≤_, _<_}
 use native.Mathlib.Omega.{arith}
 use lib.ListN.{length, take, drop, length-drop}
 use lib.Seq.{length-take-le}
 use borrow.Author.Tests.{le-leb, lt-leb}
 use Rattle.theory.specs.Words.{Bytes}
-use Rattle.theory.specs.Tests.{Res, ok, bad}
+use Rattle.theory.specs.Tests.{Res, ok, bad, bind}
 use Rattle.theory.specs.Structures.{readStructure}
 use Rattle.theory.proofs.WordLaws.{Bytes-drop, Bytes-take}
 use Rattle.theory.proofs.TestLaws.{positive}
-use Rattle.theory.proofs.Items.{Whole}
 use Rattle.theory.proofs.StructureLaws.{opens, length-is, inside}
 use Rattle.note.specs.Words.{order, word}
 use Rattle.note.specs.Records.{Record, Context, recordsBytes, readRecord, readRecords}
 use Rattle.note.specs.Events.{Container}
 use Rattle.demands.proofs.Bundles.{records, same-records}
+use Rattle.record.proofs.StepLaws.{cut}
 use Rattle.containers.specs.declared.Count.{Count}
 use Rattle.containers.specs.declared.Count.the-variants as Count
 use Rattle.containers.specs.declared.Holding.the-variants.{Good, Bad}
@@ -38,55 +38,80 @@ unfolding recordCount
 count-bad (ok xs) c p e = cc
 count-bad (bad c′ p′) c p e = cc
 
+-- What the records' reader answers of a container's contents, as code cuts them: n bytes behind the two words, in the context inner.
+abbrev pub contentsAnswer : Context → ℕ → List ℕ → ℕ → Count
+contentsAnswer inner at bs n = recordCount (readRecords inner (at + 8) (take (8 + n - 8) (drop 8 bs)))
+
 module _ (head : Unit {0} → ℕ → ℕ) (late : Unit {0} → ℕ → ℕ → ℕ) (inner : Context) where
   abbrev pub read : ℕ → List ℕ → Res Container
   read at bs = readStructure order head late (λ s at bs. readRecords inner (at + 8) bs) tt at bs
 
   -- A container that was read: its length word is its contents' length, and it fits.
-  pub sized : (at : ℕ) (bs : List ℕ) (c : Container) → Bytes bs → read at bs ≡ ok c → (length (recordsBytes (c .body)) ≡ word 4 bs) × (8 + word 4 bs ≤ length bs)
+  pub sized : (at : ℕ) (bs : List ℕ) (c : Container) → Bytes bs → read at bs ≡ ok c
+      → (length (recordsBytes (c .body)) ≡ word 4 bs) × (8 + word 4 bs ≤ length bs)
   unfolding readRecords readRecord
   sized at bs c h q = (
     length-is order head late (inside (λ s. inner) records) tt at bs c h q,
     opens order head late (inside (λ s. inner) records .read) tt at bs c q .fits,
   )
 
+  -- Each test of the two words that fails is the refusal; the tests before it have passed.
   module _ (at : ℕ) (bs : List ℕ) where
     pub short : length bs < 8 → Bad 2 at ≡ containerStep (read at bs)
     unfolding containerStep
     short h = rw (lt-leb 8 (length bs) h)
 
-    module _ (h : 8 ≤ length bs) (k : ℕ) (ek : k ≡ word 0 bs) (c : ℕ) (ec : c ≡ head tt k) where
-      pub fault : (c ≡ 0 → ⊥) → Bad c at ≡ containerStep (read at bs)
+    module _ (h : 8 ≤ length bs) where
+      pub fault : (c : ℕ) → c ≡ head tt (word 0 bs) → (c ≡ 0 → ⊥) → Bad c at ≡ containerStep (read at bs)
       unfolding containerStep
-      fault z = rw (← ek, ← ec, le-leb 8 (length bs) h, positive c z)
+      fault c ec z = rw (← ec, le-leb 8 (length bs) h, positive c z)
 
-      module _ (z : c ≡ 0) (n : ℕ) (en : n ≡ word 4 bs) where
+      module _ (z : head tt (word 0 bs) ≡ 0) (n : ℕ) (en : n ≡ word 4 bs) where
         pub long : length bs - 8 < n → Bad 2 at ≡ containerStep (read at bs)
         unfolding containerStep
-        long l = rw (← ek, ← ec, ← en, le-leb 8 (length bs) h, z, lt-leb (8 + n) (length bs) (omega arith))
+        long l = rw (← en, le-leb 8 (length bs) h, z, lt-leb (8 + n) (length bs) (omega arith))
 
-        module _ (l : n ≤ length bs - 8) where
-          pub late-fault : (m : ℕ) → m ≡ late tt k n → (m ≡ 0 → ⊥) → Bad m at ≡ containerStep (read at bs)
-          unfolding containerStep
-          late-fault m em y = rw (← ek, ← ec, ← en, le-leb 8 (length bs) h, z, le-leb (8 + n) (length bs) (omega arith), ← em, positive m y)
+        pub late-fault : n ≤ length bs - 8 → (m : ℕ) → m ≡ late tt (word 0 bs) n → (m ≡ 0 → ⊥) → Bad m at ≡ containerStep (read at bs)
+        unfolding containerStep
+        late-fault l m em y = rw (← en, le-leb 8 (length bs) h, z, le-leb (8 + n) (length bs) (omega arith), ← em, positive m y)
 
-          module _ (y : late tt k n ≡ 0) where
-            cut : take (8 + n - 8) (drop 8 bs) ≡ take n (drop 8 bs)
-            cut = let e : 8 + n - 8 ≡ n = omega arith in rw e
+-- A part whose two words k and n pass each test: they begin a container of n bytes of contents.
+pub record Begun (head : Unit {0} → ℕ → ℕ) (late : Unit {0} → ℕ → ℕ → ℕ) (bs : List ℕ) (k n : ℕ) : Type 0 where
+  pub bytes : Bytes bs
+  pub room : 8 ≤ length bs
+  pub kind-is : k ≡ word 0 bs
+  pub allowed : head tt (word 0 bs) ≡ 0
+  pub length-is : n ≡ word 4 bs
+  pub fits : n ≤ length bs - 8
+  pub placed : late tt (word 0 bs) n ≡ 0
 
-            pub contents-fault : (x p : ℕ) → Count.Bad x p ≡ recordCount (readRecords inner (at + 8) (take (8 + n - 8) (drop 8 bs))) → Bad x p ≡ containerStep (read at bs)
-            unfolding containerStep
-            contents-fault x p e =
-                let r : readRecords inner (at + 8) (take n (drop 8 bs)) ≡ bad x p =
-                ap (readRecords inner (at + 8)) (sym cut) ∙ count-bad (readRecords inner (at + 8) (take (8 + n - 8) (drop 8 bs))) x p e in
-                rw (← ek, ← ec, ← en, le-leb 8 (length bs) h, z, le-leb (8 + n) (length bs) (omega arith), y, r)
+-- The container is then what its contents are read as.
+module _ {head : Unit {0} → ℕ → ℕ} {late : Unit {0} → ℕ → ℕ → ℕ} {bs : List ℕ} {k n : ℕ} (b : Begun head late bs k n) (inner : Context) (at : ℕ) where
+  begun-reads : (r : Res (List Record)) → readRecords inner (at + 8) (take (8 + n - 8) (drop 8 bs)) ≡ r
+      → read head late inner at bs ≡ bind {B = Container} r (λ xs. ok (record { kind = k; body = xs }))
+  begun-reads r e =
+      let same : readRecords inner (at + 8) (take n (drop 8 bs)) ≡ r = ap (readRecords inner (at + 8)) (sym (cut n bs)) ∙ e in
+      rw (
+        ← b .length-is,
+        le-leb 8 (length bs) (b .room),
+        b .allowed,
+        le-leb (8 + n) (length bs) (omega (arith, b .fits, b .room)),
+        b .placed,
+        same,
+        ← b .kind-is,
+      )
 
-            pub held : Bytes bs → (m : ℕ) → Count.Good m ≡ recordCount (readRecords inner (at + 8) (take (8 + n - 8) (drop 8 bs))) → Good k n m ≡ containerStep (read at bs)
-            unfolding containerStep
-            held hb m e =
-                let (xs, q, size) = count-good (readRecords inner (at + 8) (take (8 + n - 8) (drop 8 bs))) m e in
-                let r : readRecords inner (at + 8) (take n (drop 8 bs)) ≡ ok xs = ap (readRecords inner (at + 8)) (sym cut) ∙ q in
-                let body : take n (drop 8 bs) ≡ recordsBytes xs =
-                records .sound inner (at + 8) (take n (drop 8 bs)) xs (Bytes-take n (drop 8 bs) (Bytes-drop 8 bs hb)) (sym (same-records inner (at + 8) (take n (drop 8 bs))) ∙ r) .0 in
-                let len : length (recordsBytes xs) ≡ n = ap length (sym body) ∙ length-take-le n (drop 8 bs) (omega (arith, length-drop 8 bs)) in
-                rw (← ek, ← ec, ← en, le-leb 8 (length bs) h, z, le-leb (8 + n) (length bs) (omega arith), y, r, len, size)
+  pub contents-fault : (x p : ℕ) → Count.Bad x p ≡ contentsAnswer inner at bs n → Bad x p ≡ containerStep (read head late inner at bs)
+  unfolding containerStep
+  contents-fault x p e = rw (begun-reads (bad x p) (count-bad _ x p e))
+
+  pub held : (m : ℕ) → Count.Good m ≡ contentsAnswer inner at bs n → Good k n m ≡ containerStep (read head late inner at bs)
+  unfolding containerStep
+  held m e =
+      let contents : List ℕ = take n (drop 8 bs) in
+      let (xs, q, size) = count-good (readRecords inner (at + 8) (take (8 + n - 8) (drop 8 bs))) m e in
+      let r : records .read inner (at + 8) contents ≡ ok xs =
+      sym (same-records inner (at + 8) contents) ∙ ap (readRecords inner (at + 8)) (sym (cut n bs)) ∙ q in
+      let is : contents ≡ recordsBytes xs = records .sound inner (at + 8) contents xs (Bytes-take n (drop 8 bs) (Bytes-drop 8 bs (b .bytes))) r .0 in
+      let len : length (recordsBytes xs) ≡ n = ap length (sym is) ∙ length-take-le n (drop 8 bs) (omega (arith, length-drop 8 bs, b .fits)) in
+      rw (begun-reads (ok xs) q, len, size)

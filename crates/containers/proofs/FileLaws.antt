@@ -91,8 +91,12 @@ headed-reads : {bs : List ℕ} → Headed bs
     → readFile bs ≡ fileOf (word 4 bs) (readPair (λ s c. tt) containerSize readConfiguration readEvents tt 8 (drop 8 bs))
 unfolding readFile readParts readHeader
 headed-reads {bs} h =
-    rw (le-leb (length bs) fileLimit (h .within), le-leb 8 (length bs) (h .room), eq-eqb (word 0 bs) fileMark (h .marked),
-      eq-eqb (word 4 bs % 65536) format (h .formatted))
+    rw (
+      le-leb (length bs) fileLimit (h .within),
+      le-leb 8 (length bs) (h .room),
+      eq-eqb (word 0 bs) fileMark (h .marked),
+      eq-eqb (word 4 bs % 65536) format (h .formatted),
+    )
 
 -- Its configuration, with n bytes of entries, t of them.
 pub record Configured (bs : List ℕ) (n t : ℕ) : Type 0 where
