@@ -71,7 +71,8 @@ module _ (head : Unit {0} → ℕ → ℕ) (late : Unit {0} → ℕ → ℕ → 
         unfolding containerStep
         long l = rw (← en, le-leb 8 (length bs) h, z, lt-leb (8 + n) (length bs) (omega arith))
 
-        pub late-fault : n ≤ length bs - 8 → (m : ℕ) → m ≡ late tt (word 0 bs) n → (m ≡ 0 → ⊥) → Bad m at ≡ containerStep (read at bs)
+        pub late-fault : n ≤ length bs - 8 → (m : ℕ) → m ≡ late tt (word 0 bs) n → (m ≡ 0 → ⊥)
+            → Bad m at ≡ containerStep (read at bs)
         unfolding containerStep
         late-fault l m em y = rw (← en, le-leb 8 (length bs) h, z, le-leb (8 + n) (length bs) (omega arith), ← em, positive m y)
 
@@ -86,7 +87,8 @@ pub record Begun (head : Unit {0} → ℕ → ℕ) (late : Unit {0} → ℕ → 
   pub placed : late tt (word 0 bs) n ≡ 0
 
 -- The container is then what its contents are read as.
-module _ {head : Unit {0} → ℕ → ℕ} {late : Unit {0} → ℕ → ℕ → ℕ} {bs : List ℕ} {k n : ℕ} (b : Begun head late bs k n) (inner : Context) (at : ℕ) where
+module _ {head : Unit {0} → ℕ → ℕ} {late : Unit {0} → ℕ → ℕ → ℕ} {bs : List ℕ} {k n : ℕ}
+    (b : Begun head late bs k n) (inner : Context) (at : ℕ) where
   begun-reads : (r : Res (List Record)) → readRecords inner (at + 8) (take (8 + n - 8) (drop 8 bs)) ≡ r
       → read head late inner at bs ≡ bind {B = Container} r (λ xs. ok (record { kind = k; body = xs }))
   begun-reads r e =
@@ -112,6 +114,7 @@ module _ {head : Unit {0} → ℕ → ℕ} {late : Unit {0} → ℕ → ℕ → 
       let (xs, q, size) = count-good (readRecords inner (at + 8) (take (8 + n - 8) (drop 8 bs))) m e in
       let r : records .read inner (at + 8) contents ≡ ok xs =
       sym (same-records inner (at + 8) contents) ∙ ap (readRecords inner (at + 8)) (sym (cut n bs)) ∙ q in
-      let is : contents ≡ recordsBytes xs = records .sound inner (at + 8) contents xs (Bytes-take n (drop 8 bs) (Bytes-drop 8 bs (b .bytes))) r .0 in
+      let by : Bytes contents = Bytes-take n (drop 8 bs) (Bytes-drop 8 bs (b .bytes)) in
+      let is : contents ≡ recordsBytes xs = records .sound inner (at + 8) contents xs by r .0 in
       let len : length (recordsBytes xs) ≡ n = ap length (sym is) ∙ length-take-le n (drop 8 bs) (omega (arith, length-drop 8 bs, b .fits)) in
       rw (begun-reads (ok xs) q, len, size)

@@ -11,7 +11,7 @@ use Rattle.theory.proofs.WordLaws.{Bytes-drop}
 use Rattle.theory.proofs.StructureLaws.{length-structure, opens, length-is, inside}
 use Rattle.theory.proofs.LoopLaws.{At, start, ended, stopped, more}
 use Rattle.note.specs.Words.{order, word}
-use Rattle.note.specs.Records.{Record, Context, event, none, recordBytes, recordsBytes, readRecord, readRecords}
+use Rattle.note.specs.Records.{Record, event, none, recordBytes, recordsBytes, readRecords}
 use Rattle.note.specs.Events.{Container, containerSize, eventHead, eventLate, readEvent, readEvents}
 use Rattle.demands.proofs.Bundles.{records, eventItem, same-records, same-event, same-events}
 use Rattle.record.proofs.StepLaws.{cut}
@@ -54,7 +54,10 @@ event-shows at rest e h r =
       kind-is = o .kind-is;
       size = length-is order eventHead eventLate (inside (λ s. event none) records) tt at rest e h r;
       fits = o .fits;
-      contents = ap (readRecords (event none) (at + 8)) (cut (word 4 rest) rest) ∙ same-records (event none) (at + 8) (take (word 4 rest) (drop 8 rest)) ∙ o .body-is;
+      contents =
+          ap (readRecords (event none) (at + 8)) (cut (word 4 rest) rest)
+          ∙ same-records (event none) (at + 8) (take (word 4 rest) (drop 8 rest))
+          ∙ o .body-is;
     }
 
 -- Records are no more than their bytes.
@@ -77,12 +80,13 @@ pub begin : (from : ℕ) (bs : List ℕ) → Bytes bs → Rows from bs from bs 0
 begin from bs h = record { es = []; is = start eventItem tt from bs; size = refl; low = omega arith; bytes = h }
 
 -- An event that was read moves the loop on.
-pub on-event : {from : ℕ} {bs : List ℕ} {at : ℕ} {rest : List ℕ} {es : List Container} → At eventItem tt from bs tt at rest es → 0 < length rest
+pub on-event : {from : ℕ} {bs : List ℕ} {at : ℕ} {rest : List ℕ} {es : List Container}
+    → At eventItem tt from bs tt at rest es → 0 < length rest
     → (e : Container) → eventItem .read tt at rest ≡ ok e → (n : ℕ) → length (recordsBytes (e .body)) ≡ n → 8 + n ≤ length rest
     → At eventItem tt from bs tt (at + (8 + n)) (take (length rest - (8 + n)) (drop (8 + n) rest)) (es ++ e ∷ [])
 on-event {from} {bs} {at} {rest} {es} i l e r n en fits =
-    let z : 8 + length (recordsBytes (e .body)) ≡ 8 + n = ap (λ (x : ℕ). 8 + x) en in
-    let m : At eventItem tt from bs tt (at + (8 + length (recordsBytes (e .body)))) (drop (8 + length (recordsBytes (e .body))) rest) (es ++ e ∷ []) =
+    let z : containerSize e ≡ 8 + n = ap (λ (x : ℕ). 8 + x) en in
+    let m : At eventItem tt from bs tt (at + containerSize e) (drop (containerSize e) rest) (es ++ e ∷ []) =
     more eventItem i l e r (omega arith) (omega (arith, z)) in
     subst (λ (x : List ℕ). At eventItem tt from bs tt (at + (8 + n)) x (es ++ e ∷ [])) (left (8 + n) rest)
     (subst (λ (x : ℕ). At eventItem tt from bs tt (at + x) (drop x rest) (es ++ e ∷ [])) z m)
@@ -98,9 +102,12 @@ module _ {from : ℕ} {bs : List ℕ} {at : ℕ} {rest : List ℕ} {count : ℕ}
   unfolding eventRows
   done h = ap Count.Good (sym (i .size)) ∙ ap eventRows (ended eventItem (i .is) (omega arith) ∙ sym (same-events tt from bs))
 
-  pub stops : 0 < length rest → (c p : ℕ) → Bad c p ≡ containerStep (readEvent tt at rest) → Count.Bad c p ≡ eventRows (readEvents tt from bs)
+  pub stops : 0 < length rest → (c p : ℕ) → Bad c p ≡ containerStep (readEvent tt at rest)
+      → Count.Bad c p ≡ eventRows (readEvents tt from bs)
   unfolding eventRows
-  stops l c p e = ap eventRows (stopped eventItem (i .is) l c p (sym (same-event tt at rest) ∙ holding-bad (readEvent tt at rest) c p e) ∙ sym (same-events tt from bs))
+  stops l c p e =
+      let r : eventItem .read tt at rest ≡ bad c p = sym (same-event tt at rest) ∙ holding-bad (readEvent tt at rest) c p e in
+      ap eventRows (stopped eventItem (i .is) l c p r ∙ sym (same-events tt from bs))
 
   module _ (l : 0 < length rest) (k n t : ℕ) (q : Good k n t ≡ containerStep (readEvent tt at rest)) where
     pub fits : (8 + n ≤ length rest) × (t ≤ n)

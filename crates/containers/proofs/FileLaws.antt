@@ -28,7 +28,8 @@ use Rattle.containers.proofs.ContainerLaws.{counted, sized}
 use Rattle.containers.proofs.EventLoop.{holding-good, holding-bad, few}
 
 -- What a count of rows says of the events that were read.
-pub rows-good : (r : Res (List Container)) (m : ℕ) → Count.Good m ≡ eventRows r → (es : List Container) × (r ≡ ok es) × (rowsOfEvents es ≡ m)
+pub rows-good : (r : Res (List Container)) (m : ℕ) → Count.Good m ≡ eventRows r
+    → (es : List Container) × (r ≡ ok es) × (rowsOfEvents es ≡ m)
 unfolding eventRows
 rows-good (ok es) m e = (es, refl, cc)
 rows-good (bad c p) m e = absurd (subst counted e tt)
@@ -59,7 +60,8 @@ module _ (bs : List ℕ) where
       unfolding readFile readParts readHeader fileRows
       unmarked n = rw (le-leb (length bs) fileLimit h, le-leb 8 (length bs) l, ← ew, ne-eqb w fileMark n)
 
-      pub other-format : w ≡ fileMark → (v : ℕ) → v ≡ word 4 bs → (v % 65536 ≡ format → ⊥) → Count.Bad 4 0 ≡ fileRows (readFile bs)
+      pub other-format : w ≡ fileMark → (v : ℕ) → v ≡ word 4 bs → (v % 65536 ≡ format → ⊥)
+          → Count.Bad 4 0 ≡ fileRows (readFile bs)
       unfolding readFile readParts readHeader fileRows
       other-format m v ev n =
           rw (le-leb (length bs) fileLimit h, le-leb 8 (length bs) l, ← ew, eq-eqb w fileMark m, ← ev, ne-eqb (v % 65536) format n)

@@ -30,7 +30,8 @@ unfolding fileRows
 file-bad (ok f) c p e = cc
 file-bad (bad c′ p′) c p e = cc
 
-pub file-good : (r : Res File) (n : ℕ) → Good n ≡ fileRows r → (f : File) × (r ≡ ok f) × (2 + length (configurationOf f .body) + rowsOfEvents (eventsOf f) ≡ n)
+pub file-good : (r : Res File) (n : ℕ) → Good n ≡ fileRows r
+    → (f : File) × (r ≡ ok f) × (2 + length (configurationOf f .body) + rowsOfEvents (eventsOf f) ≡ n)
 unfolding fileRows
 file-good (ok f) n e = (f, refl, cc)
 file-good (bad c p) n e = absurd (subst counted e tt)
@@ -76,7 +77,9 @@ module _ (bs : List ℕ) (f : File) (h : Bytes bs) (e : readFile bs ≡ ok f) wh
       (omega (arith, size, file-length f), omega (arith, size, sound .1 .within-limit))
 
   behind-words : drop 16 bs ≡ recordsBytes (conf .body) ++ eventsBytes es
-  behind-words = sym (drop-drop 8 8 bs) ∙ ap (drop 8) (behind-header ∙ shape) ∙ drop-two order (conf .kind) n (recordsBytes (conf .body) ++ eventsBytes es)
+  behind-words =
+      sym (drop-drop 8 8 bs) ∙ ap (drop 8) (behind-header ∙ shape)
+      ∙ drop-two order (conf .kind) n (recordsBytes (conf .body) ++ eventsBytes es)
 
   -- The entries.
   pub entries-part : (m : ℕ) → m ≡ word 12 bs → take m (drop 16 bs) ≡ recordsBytes (conf .body)
@@ -91,7 +94,10 @@ module _ (bs : List ℕ) (f : File) (h : Bytes bs) (e : readFile bs ≡ ok f) wh
   events-part : (q : ℕ) → q ≡ 16 + word 12 bs → take (length bs - q) (drop q bs) ≡ eventsBytes es
   events-part q eq =
       let k : q ≡ 16 + n = omega (arith, eq, length-is) in
-      sym (left q bs) ∙ ap (λ (x : ℕ). drop x bs) k ∙ sym (drop-drop n 16 bs) ∙ ap (drop n) behind-words ∙ drop-at (recordsBytes (conf .body)) (eventsBytes es) n refl
+      sym (left q bs) ∙ ap (λ (x : ℕ). drop x bs) k ∙ sym (drop-drop n 16 bs) ∙ ap (drop n) behind-words
+      ∙ drop-at (recordsBytes (conf .body)) (eventsBytes es) n refl
 
   pub events-read : (q : ℕ) → q ≡ 16 + word 12 bs → readEvents tt q (take (length bs - q) (drop q bs)) ≡ ok es
-  events-read q eq = ap (readEvents tt q) (events-part q eq) ∙ same-events tt q (eventsBytes es) ∙ events .complete tt q es (events-ok es (sound .1 .events-valid))
+  events-read q eq =
+      ap (readEvents tt q) (events-part q eq) ∙ same-events tt q (eventsBytes es)
+      ∙ events .complete tt q es (events-ok es (sound .1 .events-valid))

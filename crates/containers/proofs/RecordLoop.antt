@@ -6,11 +6,10 @@ use Prim.Native.Nat.{ℕ, _+_, _-_, _≤_, _<_}
 use native.Mathlib.Omega.{arith}
 use lib.ListN.{length, take, drop, length-drop, length-append}
 use lib.Seq.{take-length}
-use Rattle.theory.specs.Tests.{Res, ok, bad}
 use Rattle.theory.proofs.LoopLaws.{At, start, ended, stopped, more}
-use Rattle.note.specs.Records.{Record, Context, behind, readRecord, readRecords}
+use Rattle.note.specs.Records.{Record, Context, recordSize, behind, readRecord, readRecords}
 use Rattle.demands.proofs.Bundles.{recordItem, same-records}
-use Rattle.record.specs.Steps.{contextOf, stepOf}
+use Rattle.record.specs.Steps.{stepOf}
 use Rattle.record.specs.declared.Step.the-variants as Step
 use Rattle.record.proofs.StepLaws.{Read, read-good, step-bad}
 use Rattle.containers.specs.declared.Count.the-variants.{Good, Bad}
@@ -25,14 +24,15 @@ pub left : (n : ℕ) (rest : List ℕ) → drop n rest ≡ take (length rest - n
 left n rest = sym (take-length (drop n rest)) ∙ ap (λ (x : ℕ). take x (drop n rest)) (length-drop n rest)
 
 -- A record that was read moves the loop on.
-pub on : {s₀ : Context} {from : ℕ} {bs : List ℕ} {s : Context} {at : ℕ} {rest : List ℕ} {xs : List Record} → At recordItem s₀ from bs s at rest xs → 0 < length rest
+pub on : {s₀ : Context} {from : ℕ} {bs : List ℕ} {s : Context} {at : ℕ} {rest : List ℕ} {xs : List Record}
+    → At recordItem s₀ from bs s at rest xs → 0 < length rest
     → (k n : ℕ) → Read s at rest k n → (s′ : Context) → s′ ≡ behind s k
     → At recordItem s₀ from bs s′ (at + (8 + n)) (take (length rest - (8 + n)) (drop (8 + n) rest)) (xs ++ recordAt k n rest ∷ [])
 unfolding readRecord
 on {s₀} {from} {bs} {s} {at} {rest} {xs} i l k n g s′ q =
     let a : Record = recordAt k n rest in
-    let z : 8 + length (take n (drop 8 rest)) ≡ 8 + n = ap (λ (x : ℕ). 8 + x) (g .size) in
-    let m : At recordItem s₀ from bs (behind s k) (at + (8 + length (take n (drop 8 rest)))) (drop (8 + length (take n (drop 8 rest))) rest) (xs ++ a ∷ []) =
+    let z : recordSize a ≡ 8 + n = ap (λ (x : ℕ). 8 + x) (g .size) in
+    let m : At recordItem s₀ from bs (behind s k) (at + recordSize a) (drop (recordSize a) rest) (xs ++ a ∷ []) =
     more recordItem i l a (g .reads) (omega arith) (omega (arith, g .fits, z)) in
     let o : At recordItem s₀ from bs (behind s k) (at + (8 + n)) (drop (8 + n) rest) (xs ++ a ∷ []) =
     subst (λ (x : ℕ). At recordItem s₀ from bs (behind s k) (at + x) (drop x rest) (xs ++ a ∷ [])) z m in
@@ -49,7 +49,8 @@ pub record Counting (s₀ : Context) (from : ℕ) (bs : List ℕ) (s : Context) 
 pub begin : (s : Context) (from : ℕ) (bs : List ℕ) → Counting s from bs s from bs 0
 begin s from bs = record { xs = []; is = start recordItem s from bs; size = refl; low = omega arith }
 
-module _ {s₀ : Context} {from : ℕ} {bs : List ℕ} {s : Context} {at : ℕ} {rest : List ℕ} {count : ℕ} (i : Counting s₀ from bs s at rest count) where
+module _ {s₀ : Context} {from : ℕ} {bs : List ℕ} {s : Context} {at : ℕ} {rest : List ℕ} {count : ℕ}
+    (i : Counting s₀ from bs s at rest count) where
   pub place : at + length rest ≡ from + length bs
   place = i .is .place
 
@@ -60,7 +61,8 @@ module _ {s₀ : Context} {from : ℕ} {bs : List ℕ} {s : Context} {at : ℕ} 
   unfolding recordCount
   done h = ap Good (sym (i .size)) ∙ ap recordCount (ended recordItem (i .is) (omega arith) ∙ sym (same-records s₀ from bs))
 
-  pub refused : 0 < length rest → (c p : ℕ) → Step.Bad c p ≡ stepOf (readRecord s at rest) → Bad c p ≡ recordCount (readRecords s₀ from bs)
+  pub refused : 0 < length rest → (c p : ℕ) → Step.Bad c p ≡ stepOf (readRecord s at rest)
+      → Bad c p ≡ recordCount (readRecords s₀ from bs)
   unfolding recordCount readRecord
   refused l c p e = ap recordCount (stopped recordItem (i .is) l c p (step-bad (readRecord s at rest) c p e) ∙ sym (same-records s₀ from bs))
 
@@ -68,7 +70,8 @@ module _ {s₀ : Context} {from : ℕ} {bs : List ℕ} {s : Context} {at : ℕ} 
     pub fits : 8 + n ≤ length rest
     fits = read-good s at rest k n e .fits
 
-    pub next : (s′ : Context) → s′ ≡ behind s k → Counting s₀ from bs s′ (at + (8 + n)) (take (length rest - (8 + n)) (drop (8 + n) rest)) (count + 1)
+    pub next : (s′ : Context) → s′ ≡ behind s k
+        → Counting s₀ from bs s′ (at + (8 + n)) (take (length rest - (8 + n)) (drop (8 + n) rest)) (count + 1)
     next s′ q = record {
       xs = i .xs ++ recordAt k n rest ∷ [];
       is = on (i .is) l k n (read-good s at rest k n e) s′ q;

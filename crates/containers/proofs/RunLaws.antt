@@ -31,7 +31,12 @@ pub record Run (from : ℕ) (bs : List ℕ) (s₁ : Context) (at₁ : ℕ) (rest
 
 pub begin : (from : ℕ) (bs : List ℕ) (s : Context) (at : ℕ) (rest : List ℕ) (count known : ℕ) → Alike known rest
     → Run from bs s at rest count known s at rest count true
-begin from bs s at rest count known a = record { counts = λ s₀ i. i; alike = λ e. a; within = omega arith; shorter = λ e. absurd (false≢true (sym e)) }
+begin from bs s at rest count known a = record {
+  counts = λ s₀ i. i;
+  alike = λ e. a;
+  within = omega arith;
+  shorter = λ e. absurd (false≢true (sym e));
+}
 
 module _ {from : ℕ} {bs : List ℕ} {s₁ : Context} {at₁ : ℕ} {rest₁ : List ℕ} {count₁ known : ℕ}
     {s : Context} {at : ℕ} {rest : List ℕ} {count : ℕ} {more : Bool}
@@ -43,7 +48,8 @@ module _ {from : ℕ} {bs : List ℕ} {s₁ : Context} {at₁ : ℕ} {rest₁ : 
   some : 0 < length rest
   some = r .alike t .0
 
-  pub refused : (s₀ : Context) → Counting s₀ from bs s₁ at₁ rest₁ count₁ → (c p : ℕ) → Step.Bad c p ≡ stepOf (readRecord s at rest)
+  pub refused : (s₀ : Context) → Counting s₀ from bs s₁ at₁ rest₁ count₁
+      → (c p : ℕ) → Step.Bad c p ≡ stepOf (readRecord s at rest)
       → Bad c p ≡ recordCount (readRecords s₀ from bs)
   refused s₀ i c p e = loop.refused (r .counts s₀ i) some c p e
 
@@ -57,7 +63,8 @@ module _ {from : ℕ} {bs : List ℕ} {s₁ : Context} {at₁ : ℕ} {rest₁ : 
     pub fits : 8 + known ≤ length rest
     fits = read-good s at rest k known step .fits
 
-    pub next : (s′ : Context) → s′ ≡ behind s k → (more′ : Bool) → (more′ ≡ true → (8 ≤ length rest′) × (known ≡ word 4 rest′))
+    pub next : (s′ : Context) → s′ ≡ behind s k
+        → (more′ : Bool) → (more′ ≡ true → (8 ≤ length rest′) × (known ≡ word 4 rest′))
         → Run from bs s₁ at₁ rest₁ count₁ known s′ (at + (8 + known)) rest′ (count + 1) more′
     next s′ q more′ a =
         let size : length rest′ ≡ length rest - (8 + known) = ap length (sym (left (8 + known) rest)) ∙ length-drop (8 + known) rest in

@@ -34,7 +34,8 @@ allowed c = rw (← c .before .word-at .ensures, eq-eqb _ _ (c .if2 .left))
 abbrev named : tie.Else3 → tie.Else2
 named c = c .before .before
 
-begun : (c : tie.Else3) → Begun configurationHead configurationLate (part (named c)) (named c .before .word-at .result) (c .before .word-at2 .result)
+begun : (c : tie.Else3)
+    → Begun configurationHead configurationLate (part (named c)) (named c .before .word-at .result) (c .before .word-at2 .result)
 begun c = record {
   bytes = Bytes-from (part (named c)) (λ i l. omega (arith, named c .before .before .before .shared-slice-known .given i));
   room = named c .before .before .if1 .left;

@@ -126,11 +126,15 @@ enum-known-number c = search needs
 
 returns-5 : tie.Need-returns-5
 unfolding readEvent
-returns-5 c = let read = c .before .before .before in held (begun (opened read)) _ _ _ (sym (c .before .count .given .1) ∙ contents read)
+returns-5 c =
+    let read = c .before .before .before in
+    held (begun (opened read)) _ _ _ (sym (c .before .count .given .1) ∙ contents read)
 
 returns-6 : tie.Need-returns-6
 unfolding readEvent
-returns-6 c = let read = c .before .before .before in contents-fault (begun (opened read)) _ _ _ _ (sym (c .before .number .given .1) ∙ contents read)
+returns-6 c =
+    let read = c .before .before .before in
+    contents-fault (begun (opened read)) _ _ _ _ (sym (c .before .number .given .1) ∙ contents read)
 
 pub event-in-spec : {M : Type 1} → statement M
 event-in-spec =

@@ -33,7 +33,8 @@ abbrev records : tie.After-length Inv-loop μ-loop → ℕ
 records c = c .length .given .0 .1 .1 .0
 
 read : (c : tie.After-length Inv-loop μ-loop)
-    → Good (c .length .given .0 .0) (size c) (records c) ≡ containerStep (readEvent tt (turn c .before .loop .at) (now (turn c .before .loop .rest)))
+    → Good (c .length .given .0 .0) (size c) (records c)
+    ≡ containerStep (readEvent tt (turn c .before .loop .at) (now (turn c .before .loop .rest)))
 read c = sym (c .length .given .1) ∙ c .before .before .event-in .ensures
 
 -- It stays in the rest, and has no more records than bytes.

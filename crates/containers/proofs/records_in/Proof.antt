@@ -31,10 +31,13 @@ Inv-loop part from rest₀ at₀ count₀ state₀ rest at count state = Countin
 abbrev μ-loop : tie.MeasureT-loop
 μ-loop part from rest₀ at₀ count₀ state₀ rest at count state = length rest
 
+abbrev start : tie.At-loop2 Inv-loop2 μ-loop2 Inv-loop μ-loop → tie.Start Inv-loop2 μ-loop2 Inv-loop μ-loop
+start c = c .before .before .before .before .before
+
 -- What was counted so far, in a run.
 counted : (c : tie.At-loop2 Inv-loop2 μ-loop2 Inv-loop μ-loop)
-    → Counting (contextOf (c .before .before .before .before .before .args .context)) (c .before .before .before .before .before .args .from)
-    (now (c .before .before .before .before .before .args .part)) (contextOf (c .loop2 .state)) (c .loop2 .at) (now (c .loop2 .rest)) (c .loop2 .count)
+    → Counting (contextOf (start c .args .context)) (start c .args .from) (now (start c .args .part))
+    (contextOf (c .loop2 .state)) (c .loop2 .at) (now (c .loop2 .rest)) (c .loop2 .count)
 counted c = c .loop2 .inv .counts _ (c .before .before .before .loop .inv)
 
 -- The turn of a good record.
