@@ -7,7 +7,6 @@ use native.Mathlib.Omega.{arith}
 use lib.ListN.{length, take, drop, length-append}
 use Rattle.theory.specs.Words.{Bytes}
 use Rattle.theory.specs.Tests.{Res, ok, bad}
-use Rattle.theory.proofs.WordLaws.{Bytes-drop}
 use Rattle.theory.proofs.StructureLaws.{length-structure, opens, length-is, inside}
 use Rattle.theory.proofs.LoopLaws.{At, start, ended, stopped, more}
 use Rattle.note.specs.Words.{order, word}
@@ -19,7 +18,7 @@ use Rattle.containers.specs.declared.Count.the-variants as Count
 use Rattle.containers.specs.declared.Holding.{Holding}
 use Rattle.containers.specs.declared.Holding.the-variants.{Good, Bad}
 use Rattle.containers.specs.Counts.{containerStep, rowsOfEvents, eventRows}
-use Rattle.containers.proofs.RecordLoop.{left}
+use Rattle.containers.proofs.RecordLoop.{behindOf, left, Bytes-behind}
 use Rattle.containers.proofs.ContainerLaws.{sized}
 
 abbrev stepped : Holding → Type 0
@@ -83,7 +82,7 @@ begin from bs h = record { es = []; is = start eventItem tt from bs; size = refl
 pub on-event : {from : ℕ} {bs : List ℕ} {at : ℕ} {rest : List ℕ} {es : List Container}
     → At eventItem tt from bs tt at rest es → 0 < length rest
     → (e : Container) → eventItem .read tt at rest ≡ ok e → (n : ℕ) → length (recordsBytes (e .body)) ≡ n → 8 + n ≤ length rest
-    → At eventItem tt from bs tt (at + (8 + n)) (take (length rest - (8 + n)) (drop (8 + n) rest)) (es ++ e ∷ [])
+    → At eventItem tt from bs tt (at + (8 + n)) (behindOf (8 + n) rest) (es ++ e ∷ [])
 on-event {from} {bs} {at} {rest} {es} i l e r n en fits =
     let z : containerSize e ≡ 8 + n = ap (λ (x : ℕ). 8 + x) en in
     let m : At eventItem tt from bs tt (at + containerSize e) (drop (containerSize e) rest) (es ++ e ∷ []) =
@@ -117,7 +116,7 @@ module _ {from : ℕ} {bs : List ℕ} {at : ℕ} {rest : List ℕ} {count : ℕ}
         let (a, b) = sized eventHead eventLate (event none) at rest e (i .bytes) r in
         (omega arith, omega (arith, few (e .body)))
 
-    pub next : Rows from bs (at + (8 + n)) (take (length rest - (8 + n)) (drop (8 + n) rest)) (count + 1 + t)
+    pub next : Rows from bs (at + (8 + n)) (behindOf (8 + n) rest) (count + 1 + t)
     next =
         let (e, r, k-is, n-is, t-is) = holding-good (readEvent tt at rest) k n t q in
         let f : (8 + n ≤ length rest) × (t ≤ n) = fits in
@@ -126,5 +125,5 @@ module _ {from : ℕ} {bs : List ℕ} {at : ℕ} {rest : List ℕ} {count : ℕ}
           is = on-event (i .is) l e (sym (same-event tt at rest) ∙ r) n n-is (f .0);
           size = rows-more (i .es) e ∙ omega (arith, i .size, t-is);
           low = omega (arith, i .low, f .1);
-          bytes = subst Bytes (left (8 + n) rest) (Bytes-drop (8 + n) rest (i .bytes));
+          bytes = Bytes-behind (8 + n) rest (i .bytes);
         }

@@ -2,9 +2,9 @@
 -- The idea: the definition reads the same parts in the same order; what code cuts off the front is what the definition drops.
 use mathlib.Core.Path.{_≡_, refl, sym, ap, ap₂, _∙_, subst}
 use mathlib.Core.List.{List, [], _∷_}
-use Prim.Native.Nat.{ℕ, _+_, _-_, _%_, _≤_, _<_}
+use Prim.Native.Nat.{ℕ, _+_, _%_, _≤_, _<_}
 use native.Mathlib.Omega.{arith}
-use lib.ListN.{length, take, drop, length-append, length-drop}
+use lib.ListN.{length, drop, length-append, length-drop}
 use lib.Seq.{drop-drop}
 use borrow.Author.Tests.{le-leb, lt-leb, eq-eqb, ne-eqb}
 use Rattle.theory.specs.Words.{Bytes}
@@ -23,7 +23,7 @@ use Rattle.containers.specs.declared.Count.the-variants as Count
 use Rattle.containers.specs.declared.Holding.{Holding}
 use Rattle.containers.specs.declared.Holding.the-variants as Holding
 use Rattle.containers.specs.Counts.{containerStep, rowsOfEvents, eventRows, fileRows}
-use Rattle.containers.proofs.RecordLoop.{left}
+use Rattle.containers.proofs.RecordLoop.{behindOf, left, length-behind, Bytes-behind}
 use Rattle.containers.proofs.ContainerLaws.{counted, sized}
 use Rattle.containers.proofs.EventLoop.{holding-good, holding-bad, few}
 
@@ -74,16 +74,12 @@ pub record Headed (bs : List ℕ) : Type 0 where
   pub marked : word 0 bs ≡ fileMark
   pub formatted : word 4 bs % 65536 ≡ format
 
--- What is left of a list after n bytes, as code cuts it.
-abbrev behind : ℕ → List ℕ → List ℕ
-behind n bs = take (length bs - n) (drop n bs)
-
 -- What configuration_in answers behind the header, and events_in behind n bytes of entries.
 abbrev configurationAnswer : List ℕ → Holding
-configurationAnswer bs = containerStep (readConfiguration tt 8 (behind 8 bs))
+configurationAnswer bs = containerStep (readConfiguration tt 8 (behindOf 8 bs))
 
 abbrev pub eventsAnswer : List ℕ → ℕ → Count
-eventsAnswer bs n = eventRows (readEvents tt (16 + n) (behind (16 + n) bs))
+eventsAnswer bs n = eventRows (readEvents tt (16 + n) (behindOf (16 + n) bs))
 
 -- A file by its version word and by what is read behind its header.
 abbrev fileOf : ℕ → Res (Container × List Container) → Res File
@@ -120,7 +116,7 @@ module _ {bs : List ℕ} (h : Headed bs) where
   pub configured : (k n t : ℕ) → Holding.Good k n t ≡ configurationAnswer bs → Configured bs n t
   unfolding readConfiguration
   configured k n t q =
-      let (c, r, k-is, n-is, t-is) = holding-good (readConfiguration tt 8 (behind 8 bs)) k n t q in
+      let (c, r, k-is, n-is, t-is) = holding-good (readConfiguration tt 8 (behindOf 8 bs)) k n t q in
       let same : readConfiguration tt 8 (drop 8 bs) ≡ ok c = ap (readConfiguration tt 8) (left 8 bs) ∙ r in
       let (s, fit) = sized configurationHead configurationLate entry 8 (drop 8 bs) c (Bytes-drop 8 bs (h .bytes)) same in
       record {
@@ -138,11 +134,11 @@ module _ {bs : List ℕ} {n t : ℕ} (i : Configured bs n t) where
   at-events : 8 + containerSize (i .configuration) ≡ 16 + n
   at-events = omega (arith, i .size)
 
-  same-part : drop (containerSize (i .configuration)) (drop 8 bs) ≡ behind (16 + n) bs
+  same-part : drop (containerSize (i .configuration)) (drop 8 bs) ≡ behindOf (16 + n) bs
   same-part = drop-drop (containerSize (i .configuration)) 8 bs ∙ ap (λ (x : ℕ). drop x bs) at-events ∙ left (16 + n) bs
 
   -- The file is read as its events are.
-  file-reads : (r : Res (List Container)) → readEvents tt (16 + n) (behind (16 + n) bs) ≡ r
+  file-reads : (r : Res (List Container)) → readEvents tt (16 + n) (behindOf (16 + n) bs) ≡ r
       → readFile bs ≡ fileOf (word 4 bs) (bind r (λ es. ok (i .configuration, es)))
   file-reads r e =
       let r-is : readEvents tt (8 + containerSize (i .configuration)) (drop (containerSize (i .configuration)) (drop 8 bs)) ≡ r =
@@ -156,15 +152,14 @@ module _ {bs : List ℕ} {n t : ℕ} (i : Configured bs n t) where
   module _ (x : ℕ) (e : Count.Good x ≡ eventsAnswer bs n) where
     pub few-events : x ≤ length bs
     few-events =
-        let z : List ℕ = behind (16 + n) bs in
+        let z : List ℕ = behindOf (16 + n) bs in
         let (es, r, s) = rows-good (readEvents tt (16 + n) z) x e in
-        let by : Bytes z = subst Bytes (left (16 + n) bs) (Bytes-drop (16 + n) bs (i .headed .bytes)) in
+        let by : Bytes z = Bytes-behind (16 + n) bs (i .headed .bytes) in
         let all : z ≡ eventsBytes es = events .sound tt (16 + n) z es by (sym (same-events tt (16 + n) z) ∙ r) .0 in
-        let size : length z ≡ length bs - (16 + n) = ap length (sym (left (16 + n) bs)) ∙ length-drop (16 + n) bs in
-        omega (arith, few-rows es, ap length all)
+        omega (arith, few-rows es, ap length all, length-behind (16 + n) bs)
 
     pub whole : Count.Good (2 + t + x) ≡ fileRows (readFile bs)
     unfolding fileRows
     whole =
-        let (es, r, s) = rows-good (readEvents tt (16 + n) (behind (16 + n) bs)) x e in
+        let (es, r, s) = rows-good (readEvents tt (16 + n) (behindOf (16 + n) bs)) x e in
         rw (file-reads (ok es) r) (ap₂ (λ (a b : ℕ). Count.Good (2 + a + b)) (sym (i .entries)) (sym s))

@@ -6,6 +6,8 @@ use Prim.Native.Nat.{ℕ, _+_, _-_, _≤_, _<_}
 use native.Mathlib.Omega.{arith}
 use lib.ListN.{length, take, drop, length-drop, length-append}
 use lib.Seq.{take-length}
+use Rattle.theory.specs.Words.{Bytes}
+use Rattle.theory.proofs.WordLaws.{Bytes-drop}
 use Rattle.theory.proofs.LoopLaws.{At, start, ended, stopped, more}
 use Rattle.note.specs.Records.{Record, Context, recordSize, behind, readRecord, readRecords}
 use Rattle.demands.proofs.Bundles.{recordItem, same-records}
@@ -20,14 +22,23 @@ abbrev pub recordAt : ℕ → ℕ → List ℕ → Record
 recordAt k n rest = record { kind = k; body = take n (drop 8 rest) }
 
 -- What is left of a list after n bytes, as code cuts it.
-pub left : (n : ℕ) (rest : List ℕ) → drop n rest ≡ take (length rest - n) (drop n rest)
+abbrev pub behindOf : ℕ → List ℕ → List ℕ
+behindOf n rest = take (length rest - n) (drop n rest)
+
+pub left : (n : ℕ) (rest : List ℕ) → drop n rest ≡ behindOf n rest
 left n rest = sym (take-length (drop n rest)) ∙ ap (λ (x : ℕ). take x (drop n rest)) (length-drop n rest)
+
+pub length-behind : (n : ℕ) (rest : List ℕ) → length (behindOf n rest) ≡ length rest - n
+length-behind n rest = ap length (sym (left n rest)) ∙ length-drop n rest
+
+pub Bytes-behind : (n : ℕ) (rest : List ℕ) → Bytes rest → Bytes (behindOf n rest)
+Bytes-behind n rest h = subst Bytes (left n rest) (Bytes-drop n rest h)
 
 -- A record that was read moves the loop on.
 pub on : {s₀ : Context} {from : ℕ} {bs : List ℕ} {s : Context} {at : ℕ} {rest : List ℕ} {xs : List Record}
     → At recordItem s₀ from bs s at rest xs → 0 < length rest
     → (k n : ℕ) → Read s at rest k n → (s′ : Context) → s′ ≡ behind s k
-    → At recordItem s₀ from bs s′ (at + (8 + n)) (take (length rest - (8 + n)) (drop (8 + n) rest)) (xs ++ recordAt k n rest ∷ [])
+    → At recordItem s₀ from bs s′ (at + (8 + n)) (behindOf (8 + n) rest) (xs ++ recordAt k n rest ∷ [])
 unfolding readRecord
 on {s₀} {from} {bs} {s} {at} {rest} {xs} i l k n g s′ q =
     let a : Record = recordAt k n rest in
@@ -36,7 +47,7 @@ on {s₀} {from} {bs} {s} {at} {rest} {xs} i l k n g s′ q =
     more recordItem i l a (g .reads) (omega arith) (omega (arith, g .fits, z)) in
     let o : At recordItem s₀ from bs (behind s k) (at + (8 + n)) (drop (8 + n) rest) (xs ++ a ∷ []) =
     subst (λ (x : ℕ). At recordItem s₀ from bs (behind s k) (at + x) (drop x rest) (xs ++ a ∷ [])) z m in
-    subst (λ (t : Context). At recordItem s₀ from bs t (at + (8 + n)) (take (length rest - (8 + n)) (drop (8 + n) rest)) (xs ++ a ∷ [])) (sym q)
+    subst (λ (t : Context). At recordItem s₀ from bs t (at + (8 + n)) (behindOf (8 + n) rest) (xs ++ a ∷ [])) (sym q)
     (subst (λ (r : List ℕ). At recordItem s₀ from bs (behind s k) (at + (8 + n)) r (xs ++ a ∷ [])) (left (8 + n) rest) o)
 
 -- Counting: so many records were read.
@@ -71,7 +82,7 @@ module _ {s₀ : Context} {from : ℕ} {bs : List ℕ} {s : Context} {at : ℕ} 
     fits = read-good s at rest k n e .fits
 
     pub next : (s′ : Context) → s′ ≡ behind s k
-        → Counting s₀ from bs s′ (at + (8 + n)) (take (length rest - (8 + n)) (drop (8 + n) rest)) (count + 1)
+        → Counting s₀ from bs s′ (at + (8 + n)) (behindOf (8 + n) rest) (count + 1)
     next s′ q = record {
       xs = i .xs ++ recordAt k n rest ∷ [];
       is = on (i .is) l k n (read-good s at rest k n e) s′ q;

@@ -1,12 +1,12 @@
 -- A run: records of one length word, one after the other; what is known at each turn in it, and one law for each way of a turn.
 -- The idea: whatever was counted where the run begins, its records are counted behind that; a good record is as long as its length word says, so
 -- the step over it is the known one.
-use mathlib.Core.Path.{_≡_, sym, ap, _∙_, subst}
+use mathlib.Core.Path.{_≡_, sym, _∙_, subst}
 use mathlib.Core.Bool.{Bool, true, false, false≢true}
 use mathlib.Core.List.{List}
 use Prim.Native.Nat.{ℕ, _+_, _-_, _≤_, _<_}
 use native.Mathlib.Omega.{arith}
-use lib.ListN.{length, take, drop, length-drop}
+use lib.ListN.{length}
 use Rattle.note.specs.Words.{word}
 use Rattle.note.specs.Records.{Context, behind, readRecord, readRecords}
 use Rattle.record.specs.Steps.{stepOf}
@@ -15,7 +15,7 @@ use Rattle.record.proofs.StepLaws.{read-good}
 use Rattle.containers.specs.declared.Count.the-variants.{Bad}
 use Rattle.containers.specs.Counts.{recordCount}
 use Rattle.containers.proofs.RecordLoop as loop
-use Rattle.containers.proofs.RecordLoop.{Counting, left}
+use Rattle.containers.proofs.RecordLoop.{Counting, behindOf, length-behind}
 
 -- The rest goes on with the known length word, if it has one.
 abbrev pub Alike : ℕ → List ℕ → Type 0
@@ -43,7 +43,7 @@ module _ {from : ℕ} {bs : List ℕ} {s₁ : Context} {at₁ : ℕ} {rest₁ : 
     (r : Run from bs s₁ at₁ rest₁ count₁ known s at rest count more) (t : more ≡ true) where
   -- What is left behind the known step.
   abbrev rest′ : List ℕ
-  rest′ = take (length rest - (8 + known)) (drop (8 + known) rest)
+  rest′ = behindOf (8 + known) rest
 
   some : 0 < length rest
   some = r .alike t .0
@@ -67,7 +67,7 @@ module _ {from : ℕ} {bs : List ℕ} {s₁ : Context} {at₁ : ℕ} {rest₁ : 
         → (more′ : Bool) → (more′ ≡ true → (8 ≤ length rest′) × (known ≡ word 4 rest′))
         → Run from bs s₁ at₁ rest₁ count₁ known s′ (at + (8 + known)) rest′ (count + 1) more′
     next s′ q more′ a =
-        let size : length rest′ ≡ length rest - (8 + known) = ap length (sym (left (8 + known) rest)) ∙ length-drop (8 + known) rest in
+        let size : length rest′ ≡ length rest - (8 + known) = length-behind (8 + known) rest in
         record {
           counts = λ s₀ i. loop.next (r .counts s₀ i) some k known step s′ q;
           alike = λ y. (omega (arith, a y .0), λ l. a y .1);
