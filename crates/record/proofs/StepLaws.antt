@@ -1,17 +1,16 @@
 -- One law for each way through record_in, and what a good step shows.
 -- The idea: each premise is a test that the code has taken, in the definition's order, so the definition computes to the answer.
 use mathlib.Core.Path.{_≡_, refl, sym, ap, _∙_, subst}
-use mathlib.Core.Bool.{Bool, true, false}
-use mathlib.Core.List.{List, [], _∷_}
-use Prim.Native.Nat.{ℕ, zero, suc, _+_, _-_, _≤_, _<_}
+use mathlib.Core.Bool.{true, false}
+use mathlib.Core.List.{List}
+use Prim.Native.Nat.{ℕ, _+_, _-_, _≤_, _<_}
 use native.Mathlib.Omega.{arith}
-use lib.Dec.{leb}
 use lib.ListN.{length, take, drop, length-drop}
-use lib.Seq.{length-take-le, take-length}
+use lib.Seq.{length-take-le}
 use borrow.Author.Tests.{le-leb, lt-leb}
-use Rattle.theory.specs.Tests.{Res, ok, bad, need}
+use Rattle.theory.specs.Tests.{Res, ok, bad, need, bind, unless}
 use Rattle.theory.proofs.TestLaws.{need-ok, ok-inj, positive}
-use Rattle.theory.proofs.StructureLaws.{Opened, opens}
+use Rattle.theory.proofs.StructureLaws.{opens}
 use Rattle.note.specs.Words.{order, word}
 use Rattle.note.specs.Records.{Record, Context, isKind, isAllowed, recordRule, recordHead, recordLate, readRecord}
 use Rattle.record.specs.declared.Step.{Step}
@@ -27,34 +26,56 @@ module _ (s : Context) (at : ℕ) (bs : List ℕ) where
   unfolding readRecord stepOf
   short h = rw (lt-leb 8 (length bs) h)
 
-  module _ (h : 8 ≤ length bs) (k : ℕ) (ek : k ≡ word 0 bs) where
-    pub unknown : isKind s k ≡ false → Bad 5 at ≡ stepOf (readRecord s at bs)
-    unfolding readRecord stepOf
-    unknown f = rw (← ek, le-leb 8 (length bs) h, f)
+  pub unknown : 8 ≤ length bs → (k : ℕ) → k ≡ word 0 bs → isKind s k ≡ false → Bad 5 at ≡ stepOf (readRecord s at bs)
+  unfolding readRecord stepOf
+  unknown h k ek f = rw (← ek, le-leb 8 (length bs) h, f)
 
-    module _ (f : isKind s k ≡ true) (n : ℕ) (en : n ≡ word 4 bs) where
-      pub long : length bs - 8 < n → Bad 2 at ≡ stepOf (readRecord s at bs)
-      unfolding readRecord stepOf
-      long l = rw (← ek, ← en, le-leb 8 (length bs) h, f, lt-leb (8 + n) (length bs) (omega arith))
+-- A part whose kind word k is allowed in its context.
+pub record Named (s : Context) (bs : List ℕ) (k : ℕ) : Type 0 where
+  pub room : 8 ≤ length bs
+  pub kind-is : k ≡ word 0 bs
+  pub known : isKind s k ≡ true
 
-      module _ (l : n ≤ length bs - 8) where
-        pub misplaced : isAllowed s k ≡ false → Bad 9 at ≡ stepOf (readRecord s at bs)
-        unfolding readRecord stepOf
-        misplaced p = rw (← ek, ← en, le-leb 8 (length bs) h, f, le-leb (8 + n) (length bs) (omega arith), p)
+pub long : {s : Context} {bs : List ℕ} {k : ℕ} → Named s bs k → (at n : ℕ) → n ≡ word 4 bs → length bs - 8 < n
+    → Bad 2 at ≡ stepOf (readRecord s at bs)
+unfolding readRecord stepOf
+long {s} {bs} {k} a at n en l =
+    rw (← a .kind-is, ← en, le-leb 8 (length bs) (a .room), a .known, lt-leb (8 + n) (length bs) (omega (arith, l, a .room)))
 
-        module _ (p : isAllowed s k ≡ true) (c : ℕ) (ec : c ≡ recordRule k (take (8 + n - 8) (drop 8 bs))) where
-          is : recordRule k (take n (drop 8 bs)) ≡ c
-          is = ap (recordRule k) (sym (cut n bs)) ∙ sym ec
+-- And whose length word n leaves its body within the part.
+pub record Sized (s : Context) (bs : List ℕ) (k n : ℕ) : Type 0 where
+  pub named : Named s bs k
+  pub length-is : n ≡ word 4 bs
+  pub fits : n ≤ length bs - 8
 
-          pub fault : (c ≡ 0 → ⊥) → Bad c at ≡ stepOf (readRecord s at bs)
-          unfolding readRecord stepOf
-          fault z = rw (← ek, ← en, le-leb 8 (length bs) h, f, le-leb (8 + n) (length bs) (omega arith), p, is, positive c z)
+module _ {s : Context} {bs : List ℕ} {k n : ℕ} (a : Sized s bs k n) (at : ℕ) where
+  whole : 8 + n ≤ length bs
+  whole = omega (arith, a .fits, a .named .room)
 
-          pub good : c ≡ 0 → Good k n ≡ stepOf (readRecord s at bs)
-          unfolding readRecord stepOf
-          good z =
-              let size : length (take n (drop 8 bs)) ≡ n = length-take-le n (drop 8 bs) (omega (arith, length-drop 8 bs)) in
-              rw (← ek, ← en, le-leb 8 (length bs) h, f, le-leb (8 + n) (length bs) (omega arith), p, is, z, size)
+  -- What is read then hangs on the record's place and its body alone.
+  sized-reads : readRecord s at bs
+      ≡ need (unless (isAllowed s k) 9) at (bind {B = Record} (need (recordRule k (take n (drop 8 bs))) at (ok (take n (drop 8 bs)))) (λ b.
+      ok (record { kind = k; body = b })))
+  unfolding readRecord
+  sized-reads = rw (← a .named .kind-is, ← a .length-is, le-leb 8 (length bs) (a .named .room), a .named .known, le-leb (8 + n) (length bs) whole)
+
+  pub misplaced : isAllowed s k ≡ false → Bad 9 at ≡ stepOf (readRecord s at bs)
+  unfolding stepOf
+  misplaced p = rw (sized-reads, p)
+
+  module _ (p : isAllowed s k ≡ true) (c : ℕ) (ec : c ≡ recordRule k (take (8 + n - 8) (drop 8 bs))) where
+    is : recordRule k (take n (drop 8 bs)) ≡ c
+    is = ap (recordRule k) (sym (cut n bs)) ∙ sym ec
+
+    pub fault : (c ≡ 0 → ⊥) → Bad c at ≡ stepOf (readRecord s at bs)
+    unfolding stepOf
+    fault z = rw (sized-reads, p, is, positive c z)
+
+    pub good : c ≡ 0 → Good k n ≡ stepOf (readRecord s at bs)
+    unfolding stepOf
+    good z =
+        let size : length (take n (drop 8 bs)) ≡ n = length-take-le n (drop 8 bs) (omega (arith, length-drop 8 bs, whole)) in
+        rw (sized-reads, p, is, z, size)
 
 -- A good step: what was read, and what it shows.
 pub record Read (s : Context) (at : ℕ) (bs : List ℕ) (k n : ℕ) : Type 0 where
@@ -80,7 +101,8 @@ step-bad (ok a) c p e = cc
 step-bad (bad c′ p′) c p e = cc
 
 -- A record that was read is the bytes at the front: its kind word, its length word, its body.
-pub read-shows : (s : Context) (at : ℕ) (bs : List ℕ) (a : Record) → readRecord s at bs ≡ ok a → Read s at bs (word 0 bs) (word 4 bs) × (a ≡ record { kind = word 0 bs; body = take (word 4 bs) (drop 8 bs) })
+pub read-shows : (s : Context) (at : ℕ) (bs : List ℕ) (a : Record) → readRecord s at bs ≡ ok a
+    → Read s at bs (word 0 bs) (word 4 bs) × (a ≡ record { kind = word 0 bs; body = take (word 4 bs) (drop 8 bs) })
 unfolding readRecord
 read-shows s at bs a ea =
     let o = opens order recordHead recordLate (λ s at b. need (recordRule (s .1) b) at (ok b)) s at bs a ea in

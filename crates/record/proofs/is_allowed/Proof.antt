@@ -1,5 +1,4 @@
 -- Only in an event does what came before matter.
-use mathlib.Core.Path.{sym, _∙_}
 use Rattle.note.specs.Records.{isAllowed}
 use Rattle.record.specs.Steps.{contextOf}
 use borrow.Author.Needs.{needs}

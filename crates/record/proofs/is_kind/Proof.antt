@@ -1,5 +1,4 @@
 -- Each context has its list of kinds; alone has both.
-use mathlib.Core.Path.{sym, _∙_}
 use Rattle.note.specs.Records.{isKind}
 use Rattle.record.specs.Steps.{contextOf}
 use borrow.Author.Needs.{needs}
@@ -45,7 +44,9 @@ returns-3 c = rw (c .before .enum-told2 .given .1) (c .is-record-kind .ensures)
 
 returns-4 : tie.Need-returns-4
 unfolding isKind contextOf
-returns-4 c = rw (c .before .before .before .enum-told3 .given .1, ← c .before .before .is-entry-kind2 .ensures, c .before .if1 .left) (c .is-record-kind2 .ensures)
+returns-4 c =
+    let asked = c .before .before in
+    rw (asked .before .enum-told3 .given .1, ← asked .is-entry-kind2 .ensures, c .before .if1 .left) (c .is-record-kind2 .ensures)
 
 pub is-kind-spec : {M : Type 1} → statement M
 is-kind-spec =
