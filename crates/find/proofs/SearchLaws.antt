@@ -15,7 +15,6 @@ use Rattle.theory.specs.Words.{Bytes}
 use Rattle.theory.specs.Tests.{Res, ok}
 use Rattle.theory.proofs.WordLaws.{Bytes-drop, Bytes-take, word-of-part}
 use Rattle.theory.proofs.TestLaws.{ok-inj}
-use Rattle.theory.proofs.Items.{Item}
 use Rattle.theory.proofs.LoopLaws.{Ahead, ahead}
 use Rattle.note.specs.Limits.{fileLimit}
 use Rattle.note.specs.Words.{order, word}
@@ -29,19 +28,9 @@ use Rattle.demands.proofs.Bundles.{recordItem, eventItem, same-record, same-rec
 use Rattle.demands.proofs.EventLaws.{first-administrative}
 use Rattle.rules.proofs.LengthLaws.{long-enough}
 use Rattle.record.proofs.StepLaws.{Read, read-shows, cut}
-use Rattle.containers.proofs.RecordLoop.{left}
+use Rattle.containers.proofs.RecordLoop.{recordAt, behindOf, left, length-behind, Bytes-behind}
 use Rattle.containers.proofs.EventLoop.{Shown, event-shows}
 use Rattle.find.specs.Search.{Searchable, tracesRead}
-
--- What is left of a part, as code cuts it.
-abbrev behindOf : ℕ → List ℕ → List ℕ
-behindOf n bs = take (length bs - n) (drop n bs)
-
-length-behind : (n : ℕ) (bs : List ℕ) → length (behindOf n bs) ≡ length bs - n
-length-behind n bs = ap length (sym (left n bs)) ∙ length-drop n bs
-
-Bytes-behind : (n : ℕ) (bs : List ℕ) → Bytes bs → Bytes (behindOf n bs)
-Bytes-behind n bs h = subst Bytes (left n bs) (Bytes-drop n bs h)
 
 no-records : (c : Context) (at : ℕ) (bs : List ℕ) (rs : List Record) → length bs ≤ 0 → readRecords c at bs ≡ ok rs → rs ≡ []
 unfolding readRecords
@@ -66,7 +55,8 @@ other-number number code n d at (r ∷ rs) ts = go (isTrace r) (other-number num
     more : List TraceAt
     more = tracesIn n (at + recordSize r) rs
 
-    go : (b : Bool) → firstMatch number code (more ++ ts) ≡ firstMatch number code ts → firstMatch number code (keptIf b t more ++ ts) ≡ firstMatch number code ts
+    go : (b : Bool) → firstMatch number code (more ++ ts) ≡ firstMatch number code ts
+        → firstMatch number code (keptIf b t more ++ ts) ≡ firstMatch number code ts
     go true e = rw (ne-eqb n number d) e
     go false e = e
 
@@ -81,7 +71,8 @@ pub record Looking (number code : ℕ) (answer : List ℕ) (next : ℕ) (later :
   pub ends : place + length bs ≡ next
   pub bytes : Bytes bs
 
-module _ {number code : ℕ} {answer : List ℕ} {next : ℕ} {later : List TraceAt} {place : ℕ} {bs : List ℕ} (i : Looking number code answer next later place bs) where
+module _ {number code : ℕ} {answer : List ℕ} {next : ℕ} {later : List TraceAt} {place : ℕ} {bs : List ℕ}
+    (i : Looking number code answer next later place bs) where
   pub looked : length bs ≤ 0 → firstMatch number code later ≡ answer
   unfolding tracesIn
   looked l =
@@ -92,7 +83,7 @@ module _ {number code : ℕ} {answer : List ℕ} {next : ℕ} {later : List Trac
     front : Ahead recordItem (i .state) place bs (i .rs)
     front = ahead recordItem (i .state) place bs (i .rs) (i .bytes) l (sym (same-records (i .state) place bs) ∙ i .reads)
 
-    shown : Read (i .state) place bs (word 0 bs) (word 4 bs) × (front .item ≡ record { kind = word 0 bs; body = take (word 4 bs) (drop 8 bs) })
+    shown : Read (i .state) place bs (word 0 bs) (word 4 bs) × (front .item ≡ recordAt (word 0 bs) (word 4 bs) bs)
     shown = read-shows (i .state) place bs (front .item) (same-record (i .state) place bs ∙ front .reads-item)
 
     pub record-fits : 8 + word 4 bs ≤ length bs
@@ -108,10 +99,11 @@ module _ {number code : ℕ} {answer : List ℕ} {next : ℕ} {later : List Trac
     split : firstMatch number code (keptIf (eqb (word 0 bs) (traceKind .word)) this others ++ later) ≡ answer
     unfolding tracesIn traceOf
     split =
-        let a : Record = record { kind = word 0 bs; body = take (word 4 bs) (drop 8 bs) } in
+        let a : Record = recordAt (word 0 bs) (word 4 bs) bs in
+        let trace : Bool = eqb (word 0 bs) (traceKind .word) in
         let size : place + recordSize a ≡ place + (8 + word 4 bs) = ap (λ (n : ℕ). place + (8 + n)) (shown .0 .size) in
         let both : i .rs ≡ a ∷ front .others = front .splits ∙ ap (λ (r : Record). r ∷ front .others) (shown .1) in
-        ap (λ (p : ℕ). firstMatch number code (keptIf (eqb (word 0 bs) (traceKind .word)) this (tracesIn number p (front .others)) ++ later)) (sym size)
+        ap (λ (p : ℕ). firstMatch number code (keptIf trace this (tracesIn number p (front .others)) ++ later)) (sym size)
         ∙ ap (λ (rs : List Record). firstMatch number code (tracesIn number place rs ++ later)) (sym both) ∙ i .still
 
     -- a trace has room for the words before its samples; its code is the record's word 24
@@ -149,10 +141,10 @@ module _ {number code : ℕ} {answer : List ℕ} {next : ℕ} {later : List Trac
     past d m em =
         let n : ℕ = 8 + word 4 bs in
         let s : Context = behind (i .state) (front .item .kind) in
-        let size : 8 + length (front .item .body) ≡ n = ap (λ (r : Record). 8 + length (r .body)) (shown .1) ∙ ap (λ (x : ℕ). 8 + x) (shown .0 .size) in
+        let size : recordSize (front .item) ≡ n = ap recordSize (shown .1) ∙ ap (λ (x : ℕ). 8 + x) (shown .0 .size) in
         let behind-it : readRecords s (place + n) (drop n bs) ≡ ok (front .others) =
         subst (λ (x : ℕ). readRecords s (place + x) (drop x bs) ≡ ok (front .others)) size
-        (same-records s (place + (8 + length (front .item .body))) (drop (8 + length (front .item .body)) bs) ∙ front .reads-others) in
+        (same-records s (place + recordSize (front .item)) (drop (recordSize (front .item)) bs) ∙ front .reads-others) in
         subst (λ (x : ℕ). Looking number code answer next later (place + (8 + x)) (behindOf (8 + x) bs)) (sym em)
         (record {
           state = s;
@@ -223,15 +215,18 @@ module _ {number code : ℕ} {answer : List ℕ} {at : ℕ} {bs : List ℕ} (i :
         ahead recordItem (event none) (at + 8) inner (e .body) inner-bytes (omega (arith, v .not-empty, shown-event .size, inner-length))
         (sym (same-records (event none) (at + 8) inner) ∙ shown-event .contents)
 
-    first-shown : Read (event none) (at + 8) inner (word 0 inner) (word 4 inner) × (inner-front .item ≡ record { kind = word 0 inner; body = take (word 4 inner) (drop 8 inner) })
+    first-shown : Read (event none) (at + 8) inner (word 0 inner) (word 4 inner)
+        × (inner-front .item ≡ recordAt (word 0 inner) (word 4 inner) inner)
     first-shown = read-shows (event none) (at + 8) inner (inner-front .item) (same-record (event none) (at + 8) inner ∙ inner-front .reads-item)
 
     first-room : 24 ≤ length (inner-front .item .body)
     unfolding kindOf
     first-room =
         let r : Record = inner-front .item in
-        let v : ValidRecord (event none) r = record-valid (event none) r (recordItem .sound (event none) (at + 8) inner r inner-bytes (inner-front .reads-item) .1) in
-        long-enough (administrativeKind .word) (r .body) (subst (λ (w : ℕ). recordRule w (r .body) ≡ 0) (first-administrative r v) (v .body-rule))
+        let good = recordItem .sound (event none) (at + 8) inner r inner-bytes (inner-front .reads-item) .1 in
+        let v : ValidRecord (event none) r = record-valid (event none) r good in
+        long-enough (administrativeKind .word) (r .body)
+        (subst (λ (w : ℕ). recordRule w (r .body) ≡ 0) (first-administrative r v) (v .body-rule))
 
     -- there is room for it; its number is the event's word 24
     first-long : 32 ≤ length inner
@@ -264,7 +259,8 @@ module _ {number code : ℕ} {answer : List ℕ} {at : ℕ} {bs : List ℕ} (i :
         let n : ℕ = 8 + word 4 bs in
         let rs : List Record = front-event .item .body in
         let size : containerSize (front-event .item) ≡ n = ap (λ (x : ℕ). 8 + x) (shown-event .size) in
-        ap₂ (λ (w : ℕ) (r : Res (List Container)). firstMatch number code (tracesIn w (at + 8) rs ++ tracesRead (at + n) r)) (sym number-is) behind-event
+        ap₂ (λ (w : ℕ) (r : Res (List Container)). firstMatch number code (tracesIn w (at + 8) rs ++ tracesRead (at + n) r))
+        (sym number-is) behind-event
         ∙ ap (λ (x : ℕ). firstMatch number code (tracesIn (eventNumber rs) (at + 8) rs ++ tracesFrom (at + x) (front-event .others))) (sym size)
         ∙ ap (λ (es : List Container). firstMatch number code (tracesFrom at es)) (sym (front-event .splits))
         ∙ i .still
@@ -273,12 +269,14 @@ module _ {number code : ℕ} {answer : List ℕ} {at : ℕ} {bs : List ℕ} (i :
     pub into : (m : ℕ) → m ≡ word 4 bs → word 24 bs ≡ number
         → Looking number code answer (at + (8 + m)) (laterTraces (8 + m) at bs) (at + 8) (take (8 + m - 8) (drop 8 bs))
     into m em same =
+        let rs : List Record = front-event .item .body in
+        let later : List TraceAt = laterTraces (8 + word 4 bs) at bs in
         subst (λ (x : ℕ). Looking number code answer (at + (8 + x)) (laterTraces (8 + x) at bs) (at + 8) (take (8 + x - 8) (drop 8 bs))) (sym em)
         (record {
           state = event none;
-          rs = front-event .item .body;
+          rs = rs;
           reads = shown-event .contents;
-          still = subst (λ (w : ℕ). firstMatch number code (tracesIn w (at + 8) (front-event .item .body) ++ laterTraces (8 + word 4 bs) at bs) ≡ answer) same split-event;
+          still = subst (λ (w : ℕ). firstMatch number code (tracesIn w (at + 8) rs ++ later) ≡ answer) same split-event;
           ends = omega (arith, inner-length);
           bytes = inner-bytes;
         })
@@ -298,7 +296,8 @@ module _ {number code : ℕ} {answer : List ℕ} {at : ℕ} {bs : List ℕ} (i :
           bytes = Bytes-behind (8 + m) bs (i .bytes);
         }
 
-    pub past-other : (m : ℕ) → m ≡ word 4 bs → (word 24 bs ≡ number → ⊥) → firstMatch number code (laterTraces (8 + m) at bs) ≡ answer
+    pub past-other : (m : ℕ) → m ≡ word 4 bs → (word 24 bs ≡ number → ⊥)
+        → firstMatch number code (laterTraces (8 + m) at bs) ≡ answer
     past-other m em d =
         subst (λ (x : ℕ). firstMatch number code (laterTraces (8 + x) at bs) ≡ answer) (sym em)
         (sym (other-number number code (word 24 bs) d (at + 8) (front-event .item .body) (laterTraces (8 + word 4 bs) at bs)) ∙ split-event)

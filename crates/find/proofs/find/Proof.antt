@@ -1,11 +1,13 @@
 -- The two ways out are the laws of CallLaws: check's refusal, and what the search of the events finds.
 -- The idea: the file's bytes are known to be bytes, and its configuration's length word tells where the events begin.
 use mathlib.Core.Path.{sym, _∙_}
+use mathlib.Core.List.{List}
+use Prim.Native.Nat.{ℕ}
 use native.Mathlib.Omega.{arith}
 use denote.Ref.{now}
 use Rattle.theory.proofs.WordLaws.{Bytes-from}
 use Rattle.note.specs.Answers.{givenFind}
-use Rattle.find.proofs.CallLaws.{refused, word-fits, events-fit, searchable, searched}
+use Rattle.find.proofs.CallLaws.{refused, Checked, checked, word-fits, events-fit, searchable, searched}
 use borrow.Author.Needs.{needs}
 use Rattle.find.proofs.find.Statement.{statement}
 use Rattle.find.proofs.find.Tie as tie
@@ -14,6 +16,18 @@ use Rattle.find.proofs.find.Lts as lts
 use Rattle.containers.proofs.check.Reads as check-reads
 use Rattle.find.proofs.search.Reads as search-reads
 use Rattle.words.proofs.word_at.Reads as word-at-reads
+
+-- Where check accepted the file.
+abbrev start : tie.After-enum-told → tie.Start
+start c = c .before .before .before .before
+
+abbrev file : tie.After-enum-told → List ℕ
+file c = now (start c .args .file)
+
+accepted : (c : tie.After-enum-told) → Checked (file c)
+accepted c =
+    checked (file c) (Bytes-from (file c) (λ i l. omega (arith, c .before .before .before .shared-slice-known .given i)))
+    _ (sym (c .enum-told .given .1) ∙ c .before .before .check .ensures)
 
 check-requires : tie.Need-check-requires
 check-requires c κs = search needs
@@ -25,10 +39,7 @@ enum-told : tie.Need-enum-told
 enum-told c = search needs
 
 word-at-requires : tie.Need-word-at-requires
-word-at-requires c κs =
-    let a = c .before .before .before .before .args in
-    let h = Bytes-from (now (a .file)) (λ i l. omega (arith, c .before .before .before .shared-slice-known .given i)) in
-    word-fits (now (a .file)) h _ (sym (c .enum-told .given .1) ∙ c .before .before .check .ensures)
+word-at-requires c κs = word-fits (accepted c)
 
 cast-from : tie.Need-cast-from
 cast-from c = search needs
@@ -37,35 +48,29 @@ add-from : tie.Need-add-from
 add-from c = search needs
 
 sub-search : tie.Need-sub-search
-sub-search c =
-    let a = c .before .before .before .before .before .args in
-    let h = Bytes-from (now (a .file)) (λ i l. omega (arith, c .before .before .before .before .shared-slice-known .given i)) in
-    events-fit (now (a .file)) h _ (sym (c .before .enum-told .given .1) ∙ c .before .before .before .check .ensures) _ (c .word-at .ensures)
+sub-search c = events-fit (accepted (c .before)) _ (c .word-at .ensures)
 
 part-search-start : tie.Need-part-search-start
-part-search-start c =
-    let a = c .before .before .before .before .before .args in
-    let h = Bytes-from (now (a .file)) (λ i l. omega (arith, c .before .before .before .before .shared-slice-known .given i)) in
-    events-fit (now (a .file)) h _ (sym (c .before .enum-told .given .1) ∙ c .before .before .before .check .ensures) _ (c .word-at .ensures)
+part-search-start c = events-fit (accepted (c .before)) _ (c .word-at .ensures)
 
 part-search-end : tie.Need-part-search-end
 part-search-end c = search needs
 
 search-requires : tie.Need-search-requires
-search-requires c κs =
-    let a = c .before .before .before .before .before .before .args in
-    let h = Bytes-from (now (a .file)) (λ i l. omega (arith, c .before .before .before .before .before .shared-slice-known .given i)) in
-    searchable (now (a .file)) h _ (sym (c .before .before .enum-told .given .1) ∙ c .before .before .before .before .check .ensures) _ (c .before .word-at .ensures)
+search-requires c κs = searchable (accepted (c .before .before)) _ (c .before .word-at .ensures)
 
 returns : tie.Need-returns
 unfolding givenFind
-returns c = let a = c .before .before .before .before .before .args in refused (now (a .file)) (a .number) (a .code) _ _ (sym (c .before .fault .given .1) ∙ c .before .before .before .check .ensures)
+returns c =
+    let answer = c .before .before .before in
+    let a = answer .before .before .args in
+    refused (now (a .file)) (a .number) (a .code) _ _ (sym (c .before .fault .given .1) ∙ answer .check .ensures)
 
 returns-2 : tie.Need-returns-2
 returns-2 c =
-    let a = c .before .before .before .before .before .before .before .args in
-    let h = Bytes-from (now (a .file)) (λ i l. omega (arith, c .before .before .before .before .before .before .shared-slice-known .given i)) in
-    c .search .ensures ∙ searched (now (a .file)) h _ (sym (c .before .before .before .enum-told .given .1) ∙ c .before .before .before .before .before .check .ensures) _ (c .before .before .word-at .ensures) (a .number) (a .code)
+    let good = c .before .before .before in
+    let a = start good .args in
+    searched (accepted good) _ (c .before .before .word-at .ensures) (a .number) (a .code) _ (c .search .ensures)
 
 pub find-spec : {M : Type 1} → statement M
 find-spec =

@@ -41,7 +41,8 @@ abbrev μ-events : tie.MeasureT-events
 μ-events part from number code found₀ rest₀ at₀ found rest at = length rest
 
 -- The event that stands next, where its length word was read: it stays in the rest.
-event-stays : (c : tie.After-word-at Inv-loop μ-loop Inv-events μ-events) → 8 + c .word-at .result ≤ length (now (c .before .before .events .rest))
+event-stays : (c : tie.After-word-at Inv-loop μ-loop Inv-events μ-events)
+    → 8 + c .word-at .result ≤ length (now (c .before .before .events .rest))
 event-stays c = omega (arith, event-fits (c .before .before .events .inv .1) (c .before .events-test .taken), c .word-at .ensures)
 
 -- The loop over an event's records, and the event around it.
@@ -52,7 +53,8 @@ around c = c .before .before .before .before
 abbrev turn : tie.After-word-at5 Inv-loop μ-loop Inv-events μ-events → tie.In-loop Inv-loop μ-loop Inv-events μ-events
 turn c = c .before .before .before
 
-record-stays : (c : tie.After-word-at5 Inv-loop μ-loop Inv-events μ-events) → 8 + c .word-at5 .result ≤ length (now (turn c .before .loop .records))
+record-stays : (c : tie.After-word-at5 Inv-loop μ-loop Inv-events μ-events)
+    → 8 + c .word-at5 .result ≤ length (now (turn c .before .loop .records))
 record-stays c = omega (arith, record-fits (turn c .before .loop .inv .1) (turn c .loop-test .taken), c .word-at5 .ensures)
 
 events-holds : tie.Need-events-holds Inv-loop μ-loop Inv-events μ-events
