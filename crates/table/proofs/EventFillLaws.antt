@@ -9,7 +9,6 @@ use lib.Seq.{length-take-le}
 use Rattle.theory.specs.Words.{Bytes}
 use Rattle.theory.specs.Tests.{ok}
 use Rattle.theory.specs.Layout.{Row, Child, Node, total, extents, childRows, rows, rowCount}
-use Rattle.theory.proofs.WordLaws.{Bytes-drop}
 use Rattle.theory.proofs.TestLaws.{ok-inj}
 use Rattle.theory.proofs.LayoutLaws.{rows-append, length-rows, rowCount-append, extents-append}
 use Rattle.theory.proofs.LoopLaws.{At, start, ended, prefix, reads}
@@ -20,7 +19,7 @@ use Rattle.note.specs.Events.{Container}
 use Rattle.note.specs.Rows.{childOf, childrenOf, eventNode}
 use Rattle.demands.proofs.Bundles.{eventItem, events, same-events}
 use Rattle.demands.proofs.RowLaws.{children-total}
-use Rattle.containers.proofs.RecordLoop.{left}
+use Rattle.containers.proofs.RecordLoop.{behindOf, Bytes-behind}
 use Rattle.containers.proofs.EventLoop.{Shown, event-shows, on-event, few}
 use Rattle.record.proofs.StepLaws.{cut}
 use Rattle.rows.specs.declared.Row as code
@@ -104,7 +103,7 @@ module _ {from : ℕ} {bs rows₀ : List ℕ} {first : ℕ} {now rest : List ℕ
       sized = (omega (arith, em, coming .fits), omega (arith, em, coming .fits, i .is .place, p .within))
 
       -- the loop behind it
-      moved : At eventItem tt from bs tt (at + (8 + m)) (take (length rest - (8 + m)) (drop (8 + m) rest)) (i .es ++ this ∷ [])
+      moved : At eventItem tt from bs tt (at + (8 + m)) (behindOf (8 + m) rest) (i .es ++ this ∷ [])
       moved = on-event (i .is) l this (coming .read) m contents-size (sized .0)
 
       -- how many rows and bytes it adds
@@ -198,7 +197,7 @@ module _ {from : ℕ} {bs rows₀ : List ℕ} {first : ℕ} {now rest : List ℕ
               ∙ stored-before now n ownRow (childRows (n + 1) (at + 8) ch)
               ∙ ap (stored now n) mine-is
 
-          pub next-event : FillingEvents from bs rows₀ first now′ (take (length rest - (8 + m)) (drop (8 + m) rest)) (at + (8 + m)) next
+          pub next-event : FillingEvents from bs rows₀ first now′ (behindOf (8 + m) rest) (at + (8 + m)) next
           next-event = record {
             es = i .es ++ this ∷ [];
             is = moved;
@@ -208,5 +207,5 @@ module _ {from : ℕ} {bs rows₀ : List ℕ} {first : ℕ} {now rest : List ℕ
                 ∙ ap₂ (λ (x : List ℕ) (y : ℕ). stored x y mine) (i .held) row-is
                 ∙ sym (stored-append rows₀ first old mine)
                 ∙ ap (stored rows₀ first) (sym with-mine);
-            bytes = subst Bytes (left (8 + m) rest) (Bytes-drop (8 + m) rest (i .bytes));
+            bytes = Bytes-behind (8 + m) rest (i .bytes);
           }

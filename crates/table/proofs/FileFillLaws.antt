@@ -4,7 +4,7 @@ use mathlib.Core.Path.{_≡_, refl, sym, ap, ap₂, _∙_}
 use mathlib.Core.List.{List, [], _∷_, _++_, map}
 use Prim.Native.Nat.{ℕ, _+_, _-_, _≤_}
 use native.Mathlib.Omega.{arith}
-use lib.ListN.{length, take, drop, length-append, length-map, length-drop}
+use lib.ListN.{length, take, drop, length-append, length-map}
 use Rattle.theory.specs.Words.{Bytes}
 use Rattle.theory.specs.Tests.{ok}
 use Rattle.theory.specs.Layout.{Row, Child, total, childRows, rows}
@@ -17,7 +17,7 @@ use Rattle.note.specs.Events.{readEvents}
 use Rattle.note.specs.Files.{File, versionOf, configurationOf, eventsOf}
 use Rattle.note.specs.Rows.{childOf, childrenOf, eventNode, nodesOf, rowsOf}
 use Rattle.demands.proofs.RowLaws.{children-total}
-use Rattle.containers.proofs.RecordLoop.{left}
+use Rattle.containers.proofs.RecordLoop.{behindOf, length-behind}
 use Rattle.containers.proofs.EventLoop.{few}
 use Rattle.containers.proofs.FileParts.{version-is, length-is, room, entries-part, entries-read, events-read}
 use Rattle.rows.specs.declared.Row as code
@@ -60,7 +60,7 @@ abbrev entriesPart : List ℕ → ℕ → List ℕ
 entriesPart bs m = take (8 + (8 + m) - 16) (drop 16 bs)
 
 abbrev eventsPart : List ℕ → ℕ → List ℕ
-eventsPart bs m = take (length bs - (8 + (8 + m))) (drop (8 + (8 + m)) bs)
+eventsPart bs m = behindOf (8 + (8 + m)) bs
 
 abbrev putHeader : ℕ → code.Row
 putHeader v = record { kind = 1; start = 0; whole = 8; parent = 0; one = v; two = 0 }
@@ -175,12 +175,10 @@ module _ {bs buffer : List ℕ} {m : ℕ} {one : List ℕ} (b : Begun bs buffer 
       -- the events can be filled behind them
       pub fillable-events : FillableEvents (8 + (8 + m)) (eventsPart bs m) (length three) next
       fillable-events =
-          let size : length (eventsPart bs m) ≡ length bs - (8 + (8 + m)) =
-          ap length (sym (left (8 + (8 + m)) bs)) ∙ length-drop (8 + (8 + m)) bs in
           record {
             events = eventsOf f;
             reads = events-are;
-            within = omega (arith, size, contents);
+            within = omega (arith, length-behind (8 + (8 + m)) bs, contents);
             low = omega (arith, next-row);
             fits = omega (arith, ap length event-rows, count f, b .asked .fits, ap length three-is, length-stored buffer 0 (front f), filled .1);
           }

@@ -18,7 +18,7 @@ use Rattle.note.specs.Records.{Record, Context, behind, readRecords}
 use Rattle.note.specs.Rows.{childOf, childrenOf}
 use Rattle.demands.proofs.Bundles.{recordItem, same-record, same-records}
 use Rattle.record.proofs.StepLaws.{Read, read-shows, cut, body-follows, body-length}
-use Rattle.containers.proofs.RecordLoop.{recordAt, on}
+use Rattle.containers.proofs.RecordLoop.{recordAt, behindOf, on}
 use Rattle.rows.specs.declared.Row as code
 use Rattle.rows.specs.declared.Values.{Values}
 use Rattle.rows.specs.Buffers.{rowOf, stored}
@@ -92,7 +92,7 @@ module _ {s₀ : Context} {from : ℕ} {bs rows₀ : List ℕ} {first parent : �
     this = recordAt k m rest
 
     -- the loop behind it
-    moved : At recordItem s₀ from bs (behind (i .state) k) (at + (8 + m)) (take (length rest - (8 + m)) (drop (8 + m) rest)) (i .xs ++ this ∷ [])
+    moved : At recordItem s₀ from bs (behind (i .state) k) (at + (8 + m)) (behindOf (8 + m) rest) (i .xs ++ this ∷ [])
     moved = on (i .is) l k m shown (behind (i .state) k) refl
 
     row-fits-in : (first + length rs) * rowWidth ≤ length rows₀ → n * rowWidth + rowWidth ≤ length rows
@@ -121,7 +121,7 @@ module _ {s₀ : Context} {from : ℕ} {bs rows₀ : List ℕ} {first parent : �
           rw (v-is, shown .size, i .here)
 
       next-in : (rows′ : List ℕ) → rows′ ≡ stored rows n (rowOf (putRow v at m parent) ∷ [])
-          → FillingIn s₀ from bs rows₀ first parent rows′ (take (length rest - (8 + m)) (drop (8 + m) rest)) (at + (8 + m)) (n + 1)
+          → FillingIn s₀ from bs rows₀ first parent rows′ (behindOf (8 + m) rest) (at + (8 + m)) (n + 1)
       unfolding childOf
       next-in rows′ ew = record {
         state = behind (i .state) k;
@@ -170,7 +170,7 @@ module _ {from : ℕ} {bs rows₀ : List ℕ} {first parent : ℕ} {rows rest : 
     (i : Filling from bs rows₀ first parent rows rest at n) where
   pub next : 0 < length rest → (k m : ℕ) → k ≡ word 0 rest → m ≡ word 4 rest → (v : Values) → v ≡ valuesOf k (take (8 + m - 8) (drop 8 rest))
       → (rows′ : List ℕ) → rows′ ≡ stored rows n (rowOf (putRow v at m parent) ∷ [])
-      → Filling from bs rows₀ first parent rows′ (take (length rest - (8 + m)) (drop (8 + m) rest)) (at + (8 + m)) (n + 1)
+      → Filling from bs rows₀ first parent rows′ (behindOf (8 + m) rest) (at + (8 + m)) (n + 1)
   next l k m ek em v ev rows′ ew s rs w = next-in (i s rs w) rs w l k m ek em v ev rows′ ew
 
   pub done : length rest ≤ 0 → Filled from bs rows₀ first parent rows n
