@@ -32,8 +32,8 @@ module _ (bs : List ℕ) (place : ℕ) where
     pub past : length bs < place → Bad 2 place ≡ stepOf (recordFound bs place)
     past l = rw found-behind (short alone place (drop place bs) (omega (arith, length-drop place bs)))
 
-    pub inside : (r : Step) → r ≡ stepOf (readRecord alone place (take (length bs - place) (drop place bs))) → r ≡ stepOf (recordFound bs place)
-    inside r e =
+    pub inside : {r : Step} → r ≡ stepOf (readRecord alone place (take (length bs - place) (drop place bs))) → r ≡ stepOf (recordFound bs place)
+    inside e =
         let all : take (length bs - place) (drop place bs) ≡ drop place bs = rw (← length-drop place bs) (take-length (drop place bs)) in
         rw (found-behind, ← all) e
 
@@ -51,9 +51,10 @@ within-limit bs place e = elim (decLt fileLimit (length bs)) [
   | no h ↦ omega arith
 ]
 
-module _ (bs : List ℕ) (place : ℕ) {k n : ℕ} {s : Step} (is : s ≡ Good k n) (gives : s ≡ stepOf (recordFound bs place)) where
-  pub good-found : Found bs place k n
-  good-found =
+module _ {bs : List ℕ} {place k n : ℕ} where
+  -- A good step shows it.
+  pub good-found : {s : Step} → s ≡ Good k n → s ≡ stepOf (recordFound bs place) → Found bs place k n
+  good-found is gives =
       let e : Good k n ≡ stepOf (recordFound bs place) = sym is ∙ gives in
       let w : length bs ≤ fileLimit = within-limit bs place e in
       let g : Read alone place (drop place bs) k n = read-good alone place (drop place bs) k n (e ∙ ap stepOf (found-behind bs place w)) in
@@ -67,17 +68,17 @@ module _ (bs : List ℕ) (place : ℕ) {k n : ℕ} {s : Step} (is : s ≡ Good k
       }
 
   -- What a call asks of the body that it hands on, and its answer from the body's.
-  module _ {b : List ℕ} (cut : b ≡ bodyAt bs place n) where
+  module _ (g : Found bs place k n) {b : List ℕ} (cut : b ≡ bodyAt bs place n) where
     pub body-follows : recordRule k b ≡ 0
-    body-follows = rw cut (good-found .follows)
+    body-follows = rw cut (g .follows)
 
     pub body-ends : place + 8 + length b ≤ fileLimit
-    body-ends = let g = good-found in rw (cut, g .size) (omega arith)
+    body-ends = rw (cut, g .size) (omega (arith, g .fits, g .within))
 
     pub good-given : (given : Res Record → Given) {a : Given} → a ≡ given (ok (record { kind = k; body = b })) → a ≡ given (recordFound bs place)
-    good-given given e = rw (good-found .found, ← cut) e
+    good-given given e = rw (g .found, ← cut) e
 
 -- A refused step is the call's refusal.
-pub bad-given : (bs : List ℕ) (place : ℕ) {c p : ℕ} {s : Step} → s ≡ Bad c p → s ≡ stepOf (recordFound bs place) → (given : Res Record → Given)
-    → given (bad c p) ≡ given (recordFound bs place)
+pub bad-given : (bs : List ℕ) (place : ℕ) {c p : ℕ} {s : Step} → s ≡ Bad c p → s ≡ stepOf (recordFound bs place)
+    → (given : Res Record → Given) → given (bad c p) ≡ given (recordFound bs place)
 bad-given bs place is gives given = ap given (sym (step-bad (recordFound bs place) _ _ (sym is ∙ gives)))

@@ -4,13 +4,12 @@ use Rattle.answers.proofs.FoundLaws.{over, past, inside}
 use Rattle.answers.proofs.record_found.Statement.{statement}
 use Rattle.answers.proofs.record_found.Tie as tie
 use Rattle.record.specs.Steps.{contextOf}
-use denote.Ref.{now}
 
 returns : tie.Need-returns
-returns c = over (now (c .before .before .args .file)) (c .before .before .args .place) (c .if1 .taken)
+returns c = over _ _ (c .if1 .taken)
 
 returns-2 : tie.Need-returns-2
-returns-2 c = past (now (c .before .before .before .args .file)) (c .before .before .before .args .place) (c .before .if1 .left) (c .if2 .taken)
+returns-2 c = past _ _ (c .before .if1 .left) (c .if2 .taken)
 
 sub-record-in : tie.Need-sub-record-in
 sub-record-in c = search needs
@@ -26,7 +25,7 @@ record-in-requires c κs = search needs
 
 returns-3 : tie.Need-returns-3
 unfolding contextOf
-returns-3 c = inside (now (c .before .before .before .before .before .args .file)) (c .before .before .before .before .before .args .place) (c .before .before .before .if1 .left) _ (c .record-in .ensures)
+returns-3 c = inside _ _ (c .before .before .before .if1 .left) (c .record-in .ensures)
 
 pub record-found-spec : {M : Type 1} → statement M
 record-found-spec =
