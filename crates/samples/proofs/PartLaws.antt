@@ -12,15 +12,21 @@ use Rattle.note.specs.Records.{Record}
 use Rattle.note.specs.Calls.{recordFound, samplesPart, samplesAt}
 use Rattle.record.specs.Steps.{stepOf}
 use Rattle.answers.proofs.FoundLaws.{Found, good-found}
-use Rattle.samples.proofs.SampleLaws.{no-part, refused-part, empty-part, part-found, part-given, cut-long, long, some}
+use Rattle.samples.proofs.SampleLaws.{no-part, refused-part, empty-part, trace-found, part-found, part-given, cut-long, long, some}
 
 -- What stands at a place, for one who asks for samples: none, or a part within the file.
 pub data Stands (bs : List ℕ) (place : ℕ) : Type 0 where
   none : samplesPart bs place ≡ (0, 0) → length (samplesAt bs place) ≡ 0 → Stands bs place
-  part : (n : ℕ) → samplesPart bs place ≡ (place + 56, n) → length (samplesAt bs place) ≡ n → 0 < n → place + 56 + n ≤ fileLimit → Stands bs place
+  part : (n : ℕ) → samplesPart bs place ≡ (place + 56, n) → length (samplesAt bs place) ≡ n → 0 < n → place + 56 + n ≤ fileLimit
+      → Stands bs place
 
 empty : (bs : List ℕ) (place : ℕ) → samplesPart bs place ≡ (0, 0) → Stands bs place
 empty bs place e = none e (ap length (sym (empty-part bs place e)))
+
+-- A trace that was found stands there with its samples.
+whole : {bs : List ℕ} {place n : ℕ} → Found bs place 0x11 n → Stands bs place
+whole {bs} {place} {n} g =
+    part (n - 48) (part-found g) (ap length (sym (part-given g)) ∙ cut-long g) (some g) (omega (arith, g .fits, g .within, long g))
 
 pub stands : (bs : List ℕ) (place : ℕ) → Stands bs place
 unfolding stepOf
@@ -29,11 +35,10 @@ stands bs place = go (recordFound bs place) refl
     go : (r : Res Record) → recordFound bs place ≡ r → Stands bs place
     go (bad c p) e = empty bs place (refused-part bs place {c = c} {p = p} {s = stepOf (recordFound bs place)} (ap stepOf e) refl)
     go (ok r) e =
-        let g : Found bs place (r .kind) (length (r .body)) = good-found bs place {s = stepOf (recordFound bs place)} (ap stepOf e) refl in
+        let g : Found bs place (r .kind) (length (r .body)) = good-found {s = stepOf (recordFound bs place)} (ap stepOf e) refl in
         elim (ℕ-discrete (r .kind) 0x11) [
-          | yes t ↦ part (length (r .body) - 48) (part-found bs place g t) (ap length (sym (part-given bs place g t)) ∙ cut-long bs place g t)
-              (some bs place g t) (omega (arith, g .fits, g .within, long bs place g t))
-          | no o ↦ empty bs place (no-part bs place g o)
+          | yes t ↦ whole (trace-found g t)
+          | no o ↦ empty bs place (no-part g o)
         ]
 
 -- The same as the code asks it: by the length alone.

@@ -29,7 +29,9 @@ drop-take : (a n : ℕ) (xs : List ℕ) → drop a (take n xs) ≡ take (n - a) 
 drop-take zero n xs = let e : n ≡ n - 0 = omega arith in ap (λ (m : ℕ). take m xs) e
 drop-take (suc a) zero xs = let e : 0 ≡ 0 - suc a = omega arith in ap (λ (m : ℕ). take m (drop (suc a) xs)) e
 drop-take (suc a) (suc n) [] = sym (take-none (suc n - suc a))
-drop-take (suc a) (suc n) (x ∷ xs) = let e : n - a ≡ suc n - suc a = omega arith in drop-take a n xs ∙ ap (λ (m : ℕ). take m (drop a xs)) e
+drop-take (suc a) (suc n) (x ∷ xs) =
+    let e : n - a ≡ suc n - suc a = omega arith in
+    drop-take a n xs ∙ ap (λ (m : ℕ). take m (drop a xs)) e
 
 module _ (b : List ℕ) (e : recordRule 0x11 b ≡ 0) where
   trace-follows : traceRule b ≡ 0
@@ -49,7 +51,7 @@ module _ (b : List ℕ) (e : recordRule 0x11 b ≡ 0) where
   count-even = equal-passed (word 44 b % 2) 0 10 (first-at _ (first-at _ (first-at (traceTests b) trace-follows 3) 1) 0)
 
 -- Another kind.
-module _ (bs : List ℕ) (place : ℕ) {k n : ℕ} (g : Found bs place k n) (other : k ≡ 0x11 → ⊥) where
+module _ {bs : List ℕ} {place k n : ℕ} (g : Found bs place k n) (other : k ≡ 0x11 → ⊥) where
   pub no-part : samplesPart bs place ≡ (0, 0)
   unfolding samplesPart
   no-part = rw (g .found, ne-eqb k 0x11 other)
@@ -59,10 +61,10 @@ module _ (bs : List ℕ) (place : ℕ) {k n : ℕ} (g : Found bs place k n) (oth
   no-sample m = rw (g .found, ne-eqb k 0x11 other)
 
 -- A trace.
-module _ (bs : List ℕ) (place : ℕ) {k n : ℕ} (g₀ : Found bs place k n) (trace : k ≡ 0x11) where
-  g : Found bs place 0x11 n
-  g = subst (λ (w : ℕ). Found bs place w n) trace g₀
+pub trace-found : {bs : List ℕ} {place k n : ℕ} → Found bs place k n → k ≡ 0x11 → Found bs place 0x11 n
+trace-found {bs} {place} {k} {n} g trace = subst (λ (w : ℕ). Found bs place w n) trace g
 
+module _ {bs : List ℕ} {place n : ℕ} (g : Found bs place 0x11 n) where
   abbrev count : ℕ
   count = word 44 (bodyAt bs place n)
 
@@ -95,7 +97,9 @@ module _ (bs : List ℕ) (place : ℕ) {k n : ℕ} (g₀ : Found bs place k n) (
   cut-size = omega (arith, long)
 
   pub cut-long : length cut ≡ n - 48
-  cut-long = rw cut-size (length-take-le (n - 48) (drop (place + 56) bs) (omega (arith, g .fits, long, length-drop (place + 56) bs)))
+  cut-long =
+      let inside : n - 48 ≤ length (drop (place + 56) bs) = omega (arith, g .fits, long, length-drop (place + 56) bs) in
+      rw cut-size (length-take-le (n - 48) (drop (place + 56) bs) inside)
 
   pub whole-words : (m : ℕ) → 1 ≤ m → m ≤ (n - 48) / 2 → 4 * ((m - 1) / 2) + 4 ≤ length cut
   whole-words m l h = rw cut-long (omega (arith, size-of-trace, count-even (bodyAt bs place n) (g .follows), h, l))
@@ -114,7 +118,8 @@ module _ (bs : List ℕ) (place : ℕ) {k n : ℕ} (g₀ : Found bs place k n) (
   sample-given m l h e = rw (g .found, le-leb 1 m l, le-leb m count (omega (arith, size-of-trace, h)), e, cut-size, part-bytes)
 
 -- No part: another kind, or a refusal.
-pub refused-part : (bs : List ℕ) (place : ℕ) {c p : ℕ} {s : Step} → s ≡ Bad c p → s ≡ stepOf (recordFound bs place) → samplesPart bs place ≡ (0, 0)
+pub refused-part : (bs : List ℕ) (place : ℕ) {c p : ℕ} {s : Step} → s ≡ Bad c p → s ≡ stepOf (recordFound bs place)
+    → samplesPart bs place ≡ (0, 0)
 unfolding samplesPart
 refused-part bs place is gives = rw (step-bad (recordFound bs place) _ _ (sym is ∙ gives))
 

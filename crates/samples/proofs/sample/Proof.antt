@@ -1,10 +1,10 @@
--- Each way out is a law of SampleLaws.
+-- `samples::sample` meets its contract: each way out is a law of SampleLaws, handed the record that was found and the tests on the way.
 use denote.Ref.{now}
 use native.Mathlib.Omega.{arith}
 use Rattle.note.specs.Answers.{givenSample}
 use Rattle.note.specs.Calls.{sampleGiven, sampleAt}
-use Rattle.answers.proofs.FoundLaws.{good-found, bad-given}
-use Rattle.samples.proofs.SampleLaws.{no-sample, long, low, high, whole-words, sample-given}
+use Rattle.answers.proofs.FoundLaws.{Found, good-found, bad-given}
+use Rattle.samples.proofs.SampleLaws.{trace-found, no-sample, long, low, high, whole-words, sample-given}
 use borrow.Author.Needs.{needs}
 use Rattle.samples.proofs.sample.Statement.{statement}
 use Rattle.samples.proofs.sample.Tie as tie
@@ -19,29 +19,43 @@ record-found-requires c κs = search needs
 enum-known-kind : tie.Need-enum-known-kind
 enum-known-kind c = search needs
 
+-- Where the step is good: a record was found.
+abbrev start : tie.After-kind → tie.Start
+start c = c .before .before .before .before
+
+found : (c : tie.After-kind) → Found (now (start c .args .file)) (start c .args .place) (c .kind .given .0 .0) (c .kind .given .0 .1 .0)
+found c = good-found (c .kind .given .1) (c .before .before .record-found .ensures)
+
+-- Where its kind is asked: it's a trace.
+abbrev good : tie.Else1 → tie.After-kind
+good c = c .before .before
+
+trace : (c : tie.Else1) → Found (now (start (good c) .args .file)) (start (good c) .args .place) 0x11 (good c .kind .given .0 .1 .0)
+trace c = trace-found (found (good c)) (c .if1 .left)
+
 returns : tie.Need-returns
 unfolding givenSample
-returns c = no-sample (now (c .before .before .before .before .before .before .args .file)) (c .before .before .before .before .before .before .args .place) (good-found (now (c .before .before .before .before .before .before .args .file)) (c .before .before .before .before .before .before .args .place) (c .before .before .kind .given .1) (c .before .before .before .before .record-found .ensures)) (c .if1 .taken) _
+returns c = no-sample (found (c .before .before)) (c .if1 .taken) _
 
 returns-2 : tie.Need-returns-2
 unfolding givenSample
-returns-2 c = low (now (c .before .before .before .before .before .before .before .args .file)) (c .before .before .before .before .before .before .before .args .place) (good-found (now (c .before .before .before .before .before .before .before .args .file)) (c .before .before .before .before .before .before .before .args .place) (c .before .before .before .kind .given .1) (c .before .before .before .before .before .record-found .ensures)) (c .before .if1 .left) _ (c .if2 .taken)
+returns-2 c = low (trace (c .before)) _ (c .if2 .taken)
 
 sub-if3 : tie.Need-sub-if3
-sub-if3 c = long (now (c .before .before .before .before .before .before .before .args .file)) (c .before .before .before .before .before .before .before .args .place) (good-found (now (c .before .before .before .before .before .before .before .args .file)) (c .before .before .before .before .before .before .before .args .place) (c .before .before .before .kind .given .1) (c .before .before .before .before .before .record-found .ensures)) (c .before .if1 .left)
+sub-if3 c = long (trace (c .before))
 
 returns-3 : tie.Need-returns-3
 unfolding givenSample
-returns-3 c = high (now (c .before .before .before .before .before .before .before .before .args .file)) (c .before .before .before .before .before .before .before .before .args .place) (good-found (now (c .before .before .before .before .before .before .before .before .args .file)) (c .before .before .before .before .before .before .before .before .args .place) (c .before .before .before .before .kind .given .1) (c .before .before .before .before .before .before .record-found .ensures)) (c .before .before .if1 .left) _ (c .before .if2 .left) (c .if3 .taken)
+returns-3 c = high (trace (c .before .before)) _ (c .before .if2 .left) (c .if3 .taken)
 
 add-sample-of : tie.Need-add-sample-of
-add-sample-of c = let g = (good-found (now (c .before .before .before .before .before .before .before .before .args .file)) (c .before .before .before .before .before .before .before .before .args .place) (c .before .before .before .before .kind .given .1) (c .before .before .before .before .before .before .record-found .ensures)) in omega (arith, g .fits, g .within)
+add-sample-of c = omega (arith, trace (c .before .before))
 
 add-sample-of-2 : tie.Need-add-sample-of-2
-add-sample-of-2 c = let g = (good-found (now (c .before .before .before .before .before .before .before .before .args .file)) (c .before .before .before .before .before .before .before .before .args .place) (c .before .before .before .before .kind .given .1) (c .before .before .before .before .before .before .record-found .ensures)) in omega (arith, g .fits, g .within)
+add-sample-of-2 c = omega (arith, trace (c .before .before))
 
 add-sample-of-3 : tie.Need-add-sample-of-3
-add-sample-of-3 c = let g = (good-found (now (c .before .before .before .before .before .before .before .before .args .file)) (c .before .before .before .before .before .before .before .before .args .place) (c .before .before .before .before .kind .given .1) (c .before .before .before .before .before .before .record-found .ensures)) in omega (arith, g .fits, g .within)
+add-sample-of-3 c = omega (arith, trace (c .before .before))
 
 sub-sample-of : tie.Need-sub-sample-of
 sub-sample-of c = search needs
@@ -50,21 +64,27 @@ part-sample-of-start : tie.Need-part-sample-of-start
 part-sample-of-start c = search needs
 
 part-sample-of-end : tie.Need-part-sample-of-end
-part-sample-of-end c = let g = (good-found (now (c .before .before .before .before .before .before .before .before .args .file)) (c .before .before .before .before .before .before .before .before .args .place) (c .before .before .before .before .kind .given .1) (c .before .before .before .before .before .before .record-found .ensures)) in omega (arith, g .fits, g .within)
+part-sample-of-end c = trace (c .before .before) .fits
 
 sample-of-requires : tie.Need-sample-of-requires
-sample-of-requires c κs = (c .before .before .if2 .left, whole-words (now (c .before .before .before .before .before .before .before .before .before .args .file)) (c .before .before .before .before .before .before .before .before .before .args .place) (good-found (now (c .before .before .before .before .before .before .before .before .before .args .file)) (c .before .before .before .before .before .before .before .before .before .args .place) (c .before .before .before .before .before .kind .given .1) (c .before .before .before .before .before .before .before .record-found .ensures)) (c .before .before .before .if1 .left) _ (c .before .before .if2 .left) (c .before .if3 .left))
+sample-of-requires c κs =
+    let asked = c .before .before in
+    (asked .if2 .left, whole-words (trace (asked .before)) _ (asked .if2 .left) (c .before .if3 .left))
 
 enum-known-why : tie.Need-enum-known-why
 enum-known-why c = search needs
 
 returns-4 : tie.Need-returns-4
 unfolding givenSample
-returns-4 c = sample-given (now (c .before .before .before .before .before .before .before .before .before .before .args .file)) (c .before .before .before .before .before .before .before .before .before .before .args .place) (good-found (now (c .before .before .before .before .before .before .before .before .before .before .args .file)) (c .before .before .before .before .before .before .before .before .before .before .args .place) (c .before .before .before .before .before .before .kind .given .1) (c .before .before .before .before .before .before .before .before .record-found .ensures)) (c .before .before .before .before .if1 .left) _ (c .before .before .before .if2 .left) (c .before .before .if3 .left) (c .sample-of .ensures)
+returns-4 c =
+    let asked = c .before .before .before in
+    sample-given (trace (asked .before)) _ (asked .if2 .left) (c .before .before .if3 .left) (c .sample-of .ensures)
 
 returns-5 : tie.Need-returns-5
 unfolding givenSample sampleAt
-returns-5 c = bad-given (now (c .before .before .before .before .before .args .file)) (c .before .before .before .before .before .args .place) (c .before .why .given .1) (c .before .before .before .record-found .ensures) (sampleGiven (c .before .before .before .before .before .args .place) _)
+returns-5 c =
+    let called = c .before .before .before in
+    bad-given _ _ (c .before .why .given .1) (called .record-found .ensures) (sampleGiven (called .before .before .args .place) _)
 
 pub sample-spec : {M : Type 1} → statement M
 sample-spec =

@@ -1,8 +1,8 @@
--- The part runs from the samples' first byte to the record's last, where a trace was found.
-use Rattle.samples.proofs.SampleLaws.{no-part, long, part-found, part-given, refused-part, empty-part}
+-- `samples::samples` meets its contract: the part runs from the samples' first byte to the record's last, where a trace was found.
+use Rattle.samples.proofs.SampleLaws.{trace-found, no-part, long, part-found, part-given, refused-part, empty-part}
 use denote.Ref.{now}
 use native.Mathlib.Omega.{arith}
-use Rattle.answers.proofs.FoundLaws.{good-found}
+use Rattle.answers.proofs.FoundLaws.{Found, good-found}
 use borrow.Author.Needs.{needs}
 use Rattle.samples.proofs.samples.Statement.{statement}
 use Rattle.samples.proofs.samples.Tie as tie
@@ -16,26 +16,40 @@ record-found-requires c κs = search needs
 enum-known-kind : tie.Need-enum-known-kind
 enum-known-kind c = search needs
 
+-- Where the step is good: a record was found.
+abbrev start : tie.After-kind → tie.Start
+start c = c .before .before .before .before
+
+found : (c : tie.After-kind) → Found (now (start c .args .file)) (start c .args .place) (c .kind .given .0 .0) (c .kind .given .0 .1 .0)
+found c = good-found (c .kind .given .1) (c .before .before .record-found .ensures)
+
+-- Where its kind was asked: it's a trace, so its samples lie between its 48 first bytes and its end.
+abbrev good : tie.Then1 → tie.After-kind
+good c = c .before .before
+
+trace : (c : tie.Then1) → Found (now (start (good c) .args .file)) (start (good c) .args .place) 0x11 (good c .kind .given .0 .1 .0)
+trace c = trace-found (found (good c)) (c .if1 .taken)
+
 add-result : tie.Need-add-result
-add-result c = let g = (good-found (now (c .before .before .before .before .before .before .args .file)) (c .before .before .before .before .before .before .args .place) (c .before .before .kind .given .1) (c .before .before .before .before .record-found .ensures)) in let l = long (now (c .before .before .before .before .before .before .args .file)) (c .before .before .before .before .before .before .args .place) g (c .if1 .taken) in omega (arith, g .fits, g .within, l)
+add-result c = omega (arith, trace c)
 
 add-result-2 : tie.Need-add-result-2
-add-result-2 c = let g = (good-found (now (c .before .before .before .before .before .before .args .file)) (c .before .before .before .before .before .before .args .place) (c .before .before .kind .given .1) (c .before .before .before .before .record-found .ensures)) in let l = long (now (c .before .before .before .before .before .before .args .file)) (c .before .before .before .before .before .before .args .place) g (c .if1 .taken) in omega (arith, g .fits, g .within, l)
+add-result-2 c = omega (arith, trace c)
 
 add-result-3 : tie.Need-add-result-3
-add-result-3 c = let g = (good-found (now (c .before .before .before .before .before .before .args .file)) (c .before .before .before .before .before .before .args .place) (c .before .before .kind .given .1) (c .before .before .before .before .record-found .ensures)) in let l = long (now (c .before .before .before .before .before .before .args .file)) (c .before .before .before .before .before .before .args .place) g (c .if1 .taken) in omega (arith, g .fits, g .within, l)
+add-result-3 c = omega (arith, trace c)
 
 sub-result : tie.Need-sub-result
-sub-result c = let g = (good-found (now (c .before .before .before .before .before .before .args .file)) (c .before .before .before .before .before .before .args .place) (c .before .before .kind .given .1) (c .before .before .before .before .record-found .ensures)) in let l = long (now (c .before .before .before .before .before .before .args .file)) (c .before .before .before .before .before .before .args .place) g (c .if1 .taken) in omega (arith, g .fits, g .within, l)
+sub-result c = omega (arith, long (trace c))
 
 part-result-start : tie.Need-part-result-start
-part-result-start c = let g = (good-found (now (c .before .before .before .before .before .before .args .file)) (c .before .before .before .before .before .before .args .place) (c .before .before .kind .given .1) (c .before .before .before .before .record-found .ensures)) in let l = long (now (c .before .before .before .before .before .before .args .file)) (c .before .before .before .before .before .before .args .place) g (c .if1 .taken) in omega (arith, g .fits, g .within, l)
+part-result-start c = omega (arith, long (trace c))
 
 part-result-end : tie.Need-part-result-end
-part-result-end c = let g = (good-found (now (c .before .before .before .before .before .before .args .file)) (c .before .before .before .before .before .before .args .place) (c .before .before .kind .given .1) (c .before .before .before .before .record-found .ensures)) in let l = long (now (c .before .before .before .before .before .before .args .file)) (c .before .before .before .before .before .before .args .place) g (c .if1 .taken) in omega (arith, g .fits, g .within, l)
+part-result-end c = trace c .fits
 
 returns : tie.Need-returns
-returns c = let g = (good-found (now (c .before .before .before .before .before .before .before .args .file)) (c .before .before .before .before .before .before .before .args .place) (c .before .before .before .kind .given .1) (c .before .before .before .before .before .record-found .ensures)) in (part-given (now (c .before .before .before .before .before .before .before .args .file)) (c .before .before .before .before .before .before .before .args .place) g (c .before .if1 .taken), rw (part-found (now (c .before .before .before .before .before .before .before .args .file)) (c .before .before .before .before .before .before .before .args .place) g (c .before .if1 .taken)))
+returns c = let g = trace (c .before) in (part-given g, rw (part-found g))
 
 sub-result-2 : tie.Need-sub-result-2
 sub-result-2 c = search needs
@@ -59,10 +73,15 @@ part-result-end-3 : tie.Need-part-result-end-3
 part-result-end-3 c = search needs
 
 returns-2 : tie.Need-returns-2
-returns-2 c = let e = no-part (now (c .before .before .before .before .before .before .before .args .file)) (c .before .before .before .before .before .before .before .args .place) (good-found (now (c .before .before .before .before .before .before .before .args .file)) (c .before .before .before .before .before .before .before .args .place) (c .before .before .before .kind .given .1) (c .before .before .before .before .before .record-found .ensures)) (c .before .if1 .left) in (empty-part (now (c .before .before .before .before .before .before .before .args .file)) (c .before .before .before .before .before .before .before .args .place) e, rw e)
+returns-2 c =
+    let test = c .before in
+    let none = no-part (found (test .before .before)) (test .if1 .left) in
+    (empty-part _ _ none, rw none)
 
 returns-3 : tie.Need-returns-3
-returns-3 c = let e = refused-part (now (c .before .before .before .before .before .args .file)) (c .before .before .before .before .before .args .place) (c .before .enum-told .given .1) (c .before .before .before .record-found .ensures) in (empty-part (now (c .before .before .before .before .before .args .file)) (c .before .before .before .before .before .args .place) e, rw e)
+returns-3 c =
+    let none = refused-part _ _ (c .before .enum-told .given .1) (c .before .before .before .record-found .ensures) in
+    (empty-part _ _ none, rw none)
 
 pub samples-spec : {M : Type 1} → statement M
 samples-spec =
