@@ -1,9 +1,10 @@
--- The answer's case is the definition's; each field is the same number in 64 bits.
-use mir.Syntax.{w32}
-use mir.Val.{ofZ}
+-- `exports::dwj_record` meets its contract: the answer's case is the definition's, and each field is the same number in 64 bits.
+use mathlib.Core.Path.{refl}
+use mathlib.Core.List.{[], _∷_}
+use lib.ListN.{replicate}
 use Rattle.note.specs.Answers.{givenRecord}
 use Rattle.exports.specs.Lent.{numberOf, placeAfter, wholesIn, wholesAfter}
-use Rattle.exports.proofs.WideLaws.{widened, kept, counted}
+use Rattle.exports.proofs.WideLaws.{signed, count, widened, told}
 use borrow.Author.Needs.{needs}
 use Rattle.exports.proofs.dwj_record.Statement.{statement}
 use Rattle.exports.proofs.dwj_record.Tie as tie
@@ -18,64 +19,64 @@ enum-known-code : tie.Need-enum-known-code
 enum-known-code c = search needs
 
 cast-t67 : tie.Need-cast-t67
-cast-t67 c = widened (ofZ w32 (c .before .code .given .0 .0))
+cast-t67 c = search (needs, widened)
 
 cast-t68 : tie.Need-cast-t68
-cast-t68 c = widened (ofZ w32 (c .before .code .given .0 .1 .0))
+cast-t68 c = search (needs, widened)
 
 cast-t69 : tie.Need-cast-t69
-cast-t69 c = widened (ofZ w32 (c .before .code .given .0 .1 .1 .0))
+cast-t69 c = search (needs, widened)
 
 cast-t70 : tie.Need-cast-t70
-cast-t70 c = widened (ofZ w32 (c .before .code .given .0 .1 .1 .1 .0))
+cast-t70 c = search (needs, widened)
 
 cast-t71 : tie.Need-cast-t71
-cast-t71 c = widened (ofZ w32 (c .before .code .given .0 .1 .1 .1 .1 .0))
+cast-t71 c = search (needs, widened)
 
 cast-t72 : tie.Need-cast-t72
-cast-t72 c = widened (ofZ w32 (c .before .code .given .0 .1 .1 .1 .1 .1 .0))
+cast-t72 c = search (needs, widened)
 
 cast-t73 : tie.Need-cast-t73
-cast-t73 c = widened (ofZ w32 (c .before .code .given .0 .1 .1 .1 .1 .1 .1 .0))
+cast-t73 c = search (needs, widened)
 
 cast-t74 : tie.Need-cast-t74
-cast-t74 c = widened (ofZ w32 (c .before .code .given .0 .1 .1 .1 .1 .1 .1 .1 .0))
+cast-t74 c = search (needs, widened)
 
 cast-t75 : tie.Need-cast-t75
-cast-t75 c = widened (ofZ w32 (c .before .code .given .0 .1 .1 .1 .1 .1 .1 .1 .1 .0))
+cast-t75 c = search (needs, widened)
 
 cast-t76 : tie.Need-cast-t76
-cast-t76 c = widened (ofZ w32 (c .before .code .given .0 .1 .1 .1 .1 .1 .1 .1 .1 .1 .0))
+cast-t76 c = search (needs, widened)
 
 cast-t77 : tie.Need-cast-t77
-cast-t77 c = widened (ofZ w32 (c .before .code .given .0 .1 .1 .1 .1 .1 .1 .1 .1 .1 .1 .0))
+cast-t77 c = search (needs, widened)
 
 enum-known-code-2 : tie.Need-enum-known-code-2
 enum-known-code-2 c = search needs
 
 cast-t78 : tie.Need-cast-t78
-cast-t78 c = widened (ofZ w32 (c .before .code2 .given .0 .0))
+cast-t78 c = search (needs, widened)
 
 cast-t79 : tie.Need-cast-t79
-cast-t79 c = widened (ofZ w32 (c .before .code2 .given .0 .1 .0))
+cast-t79 c = search (needs, widened)
 
 cast-t80 : tie.Need-cast-t80
-cast-t80 c = widened (ofZ w32 (c .before .code2 .given .0 .1 .1 .0))
+cast-t80 c = search (needs, widened)
 
 cast-t81 : tie.Need-cast-t81
-cast-t81 c = widened (ofZ w32 (c .before .code2 .given .0 .1 .1 .1 .0))
+cast-t81 c = search (needs, widened)
 
 cast-t82 : tie.Need-cast-t82
-cast-t82 c = widened (ofZ w32 (c .before .code2 .given .0 .1 .1 .1 .1 .0))
+cast-t82 c = search (needs, widened)
 
 cast-t83 : tie.Need-cast-t83
-cast-t83 c = widened (ofZ w32 (c .before .code2 .given .0 .1 .1 .1 .1 .1 .0))
+cast-t83 c = search (needs, widened)
 
 cast-t84 : tie.Need-cast-t84
-cast-t84 c = widened (ofZ w32 (c .before .code2 .given .0 .1 .1 .1 .1 .1 .1 .0))
+cast-t84 c = search (needs, widened)
 
 cast-t85 : tie.Need-cast-t85
-cast-t85 c = widened (ofZ w32 (c .before .code2 .given .0 .1 .1 .1 .1 .1 .1 .1 .0))
+cast-t85 c = search (needs, widened)
 
 enum-known-date : tie.Need-enum-known-date
 enum-known-date c = search needs
@@ -111,7 +112,7 @@ cast-t94 : tie.Need-cast-t94
 cast-t94 c = search needs
 
 cast-t95 : tie.Need-cast-t95
-cast-t95 c = widened (ofZ w32 (c .before .address .given .0 .1 .1 .1 .0))
+cast-t95 c = search (needs, widened)
 
 cast-t96 : tie.Need-cast-t96
 cast-t96 c = search needs
@@ -217,39 +218,65 @@ enum-known-number c = search needs
 
 returns : tie.Need-returns
 unfolding numberOf placeAfter wholesIn wholesAfter givenRecord
-returns c = let t = c .before .known-told .given in let e = c .before .before .before .before .«record» .ensures in let f = c .before .before .code .given .0 in let v = c .before .before .code .given .1 in (rw (← e, v), (rw (← e, v, kept (f .0) (t .0 .1), kept (f .1 .0) (t .1 .0 .1), kept (f .1 .1 .0) (t .1 .1 .0 .1), kept (f .1 .1 .1 .0) (t .1 .1 .1 .0 .1), kept (f .1 .1 .1 .1 .0) (t .1 .1 .1 .1 .0 .1), kept (f .1 .1 .1 .1 .1 .0) (t .1 .1 .1 .1 .1 .0 .1), kept (f .1 .1 .1 .1 .1 .1 .0) (t .1 .1 .1 .1 .1 .1 .0 .1), kept (f .1 .1 .1 .1 .1 .1 .1 .0) (t .1 .1 .1 .1 .1 .1 .1 .0 .1), kept (f .1 .1 .1 .1 .1 .1 .1 .1 .0) (t .1 .1 .1 .1 .1 .1 .1 .1 .0 .1), kept (f .1 .1 .1 .1 .1 .1 .1 .1 .1 .0) (t .1 .1 .1 .1 .1 .1 .1 .1 .1 .0 .1), kept (f .1 .1 .1 .1 .1 .1 .1 .1 .1 .1 .0) (t .1 .1 .1 .1 .1 .1 .1 .1 .1 .1 .0 .1)), rw (← e, v)))
+returns c =
+    let read = c .before .before in
+    rw (← read .before .before .«record» .ensures, read .code .given .1)
+    (refl, (told (replicate 11 signed) (read .code .given .0) (c .before .known-told .given) _, refl))
 
 returns-2 : tie.Need-returns-2
 unfolding numberOf placeAfter wholesIn wholesAfter givenRecord
-returns-2 c = let t = c .before .known-told2 .given in let e = c .before .before .before .before .«record» .ensures in let f = c .before .before .code2 .given .0 in let v = c .before .before .code2 .given .1 in (rw (← e, v), (rw (← e, v, kept (f .0) (t .0 .1), kept (f .1 .0) (t .1 .0 .1), kept (f .1 .1 .0) (t .1 .1 .0 .1), kept (f .1 .1 .1 .0) (t .1 .1 .1 .0 .1), kept (f .1 .1 .1 .1 .0) (t .1 .1 .1 .1 .0 .1), kept (f .1 .1 .1 .1 .1 .0) (t .1 .1 .1 .1 .1 .0 .1), kept (f .1 .1 .1 .1 .1 .1 .0) (t .1 .1 .1 .1 .1 .1 .0 .1), kept (f .1 .1 .1 .1 .1 .1 .1 .0) (t .1 .1 .1 .1 .1 .1 .1 .0 .1)), rw (← e, v)))
+returns-2 c =
+    let read = c .before .before in
+    rw (← read .before .before .«record» .ensures, read .code2 .given .1)
+    (refl, (told (replicate 8 signed) (read .code2 .given .0) (c .before .known-told2 .given) _, refl))
 
 returns-3 : tie.Need-returns-3
 unfolding numberOf placeAfter wholesIn wholesAfter givenRecord
-returns-3 c = let t = c .before .known-told3 .given in let e = c .before .before .before .before .«record» .ensures in let f = c .before .before .date .given .0 in let v = c .before .before .date .given .1 in (rw (← e, v), (rw (← e, v, counted (f .0) (t .0 .1), counted (f .1 .0) (t .1 .0 .1), counted (f .1 .1 .0) (t .1 .1 .0 .1), counted (f .1 .1 .1 .0) (t .1 .1 .1 .0 .1), counted (f .1 .1 .1 .1 .0) (t .1 .1 .1 .1 .0 .1), counted (f .1 .1 .1 .1 .1 .0) (t .1 .1 .1 .1 .1 .0 .1)), rw (← e, v)))
+returns-3 c =
+    let read = c .before .before in
+    rw (← read .before .before .«record» .ensures, read .date .given .1)
+    (refl, (told (replicate 6 count) (read .date .given .0) (c .before .known-told3 .given) _, refl))
 
 returns-4 : tie.Need-returns-4
 unfolding numberOf placeAfter wholesIn wholesAfter givenRecord
-returns-4 c = let t = c .before .known-told4 .given in let e = c .before .before .before .before .«record» .ensures in let f = c .before .before .address .given .0 in let v = c .before .before .address .given .1 in (rw (← e, v), (rw (← e, v, counted (f .0) (t .0 .1), counted (f .1 .0) (t .1 .0 .1), counted (f .1 .1 .0) (t .1 .1 .0 .1), kept (f .1 .1 .1 .0) (t .1 .1 .1 .0 .1), counted (f .1 .1 .1 .1 .0) (t .1 .1 .1 .1 .0 .1), counted (f .1 .1 .1 .1 .1 .0) (t .1 .1 .1 .1 .1 .0 .1)), rw (← e, v)))
+returns-4 c =
+    let read = c .before .before in
+    rw (← read .before .before .«record» .ensures, read .address .given .1)
+    (refl, (told (count ∷ count ∷ count ∷ signed ∷ count ∷ count ∷ []) (read .address .given .0) (c .before .known-told4 .given) _, refl))
 
 returns-5 : tie.Need-returns-5
 unfolding numberOf placeAfter wholesIn wholesAfter givenRecord
-returns-5 c = let t = c .before .known-told5 .given in let e = c .before .before .before .before .«record» .ensures in let f = c .before .before .veto-times .given .0 in let v = c .before .before .veto-times .given .1 in (rw (← e, v), (rw (← e, v, counted (f .0) (t .0 .1), counted (f .1 .0) (t .1 .0 .1), counted (f .1 .1 .0) (t .1 .1 .0 .1), counted (f .1 .1 .1 .0) (t .1 .1 .1 .0 .1), counted (f .1 .1 .1 .1 .0) (t .1 .1 .1 .1 .0 .1), counted (f .1 .1 .1 .1 .1 .0) (t .1 .1 .1 .1 .1 .0 .1), counted (f .1 .1 .1 .1 .1 .1 .0) (t .1 .1 .1 .1 .1 .1 .0 .1), counted (f .1 .1 .1 .1 .1 .1 .1 .0) (t .1 .1 .1 .1 .1 .1 .1 .0 .1)), rw (← e, v)))
+returns-5 c =
+    let read = c .before .before in
+    rw (← read .before .before .«record» .ensures, read .veto-times .given .1)
+    (refl, (told (replicate 8 count) (read .veto-times .given .0) (c .before .known-told5 .given) _, refl))
 
 returns-6 : tie.Need-returns-6
 unfolding numberOf placeAfter wholesIn wholesAfter givenRecord
-returns-6 c = let t = c .before .known-told6 .given in let e = c .before .before .before .before .«record» .ensures in let f = c .before .before .year .given .0 in let v = c .before .before .year .given .1 in (rw (← e, v), (rw (← e, v, counted (f .0) (t .0 .1), counted (f .1 .0) (t .1 .0 .1), counted (f .1 .1 .0) (t .1 .1 .0 .1), counted (f .1 .1 .1 .0) (t .1 .1 .1 .0 .1), counted (f .1 .1 .1 .1 .0) (t .1 .1 .1 .1 .0 .1), counted (f .1 .1 .1 .1 .1 .0) (t .1 .1 .1 .1 .1 .0 .1), counted (f .1 .1 .1 .1 .1 .1 .0) (t .1 .1 .1 .1 .1 .1 .0 .1)), rw (← e, v)))
+returns-6 c =
+    let read = c .before .before in
+    rw (← read .before .before .«record» .ensures, read .year .given .1)
+    (refl, (told (replicate 7 count) (read .year .given .0) (c .before .known-told6 .given) _, refl))
 
 returns-7 : tie.Need-returns-7
 unfolding numberOf placeAfter wholesIn wholesAfter givenRecord
-returns-7 c = let t = c .before .known-told7 .given in let e = c .before .before .before .before .«record» .ensures in let f = c .before .before .mask1 .given .0 in let v = c .before .before .mask1 .given .1 in (rw (← e, v), (rw (← e, v, counted (f .0) (t .0 .1), counted (f .1 .0) (t .1 .0 .1), counted (f .1 .1 .0) (t .1 .1 .0 .1), counted (f .1 .1 .1 .0) (t .1 .1 .1 .0 .1), counted (f .1 .1 .1 .1 .0) (t .1 .1 .1 .1 .0 .1), counted (f .1 .1 .1 .1 .1 .0) (t .1 .1 .1 .1 .1 .0 .1)), rw (← e, v)))
+returns-7 c =
+    let read = c .before .before in
+    rw (← read .before .before .«record» .ensures, read .mask1 .given .1)
+    (refl, (told (replicate 6 count) (read .mask1 .given .0) (c .before .known-told7 .given) _, refl))
 
 returns-8 : tie.Need-returns-8
 unfolding numberOf placeAfter wholesIn wholesAfter givenRecord
-returns-8 c = let t = c .before .known-told8 .given in let e = c .before .before .before .before .«record» .ensures in let f = c .before .before .tower1 .given .0 in let v = c .before .before .tower1 .given .1 in (rw (← e, v), (rw (← e, v, counted (f .0) (t .0 .1), counted (f .1 .0) (t .1 .0 .1), counted (f .1 .1 .0) (t .1 .1 .0 .1), counted (f .1 .1 .1 .0) (t .1 .1 .1 .0 .1), counted (f .1 .1 .1 .1 .0) (t .1 .1 .1 .1 .0 .1), counted (f .1 .1 .1 .1 .1 .0) (t .1 .1 .1 .1 .1 .0 .1)), rw (← e, v)))
+returns-8 c =
+    let read = c .before .before in
+    rw (← read .before .before .«record» .ensures, read .tower1 .given .1)
+    (refl, (told (replicate 6 count) (read .tower1 .given .0) (c .before .known-told8 .given) _, refl))
 
 returns-9 : tie.Need-returns-9
 unfolding numberOf placeAfter wholesIn wholesAfter givenRecord
-returns-9 c = let e = c .before .before .before .«record» .ensures in let v = c .before .number .given .1 in (rw (← e, v), (rw (← e, v), rw (← e, v)))
+returns-9 c =
+    let read = c .before in
+    rw (← read .before .before .«record» .ensures, read .number .given .1) (refl, (refl, refl))
 
 pub dwj-record-spec : {M : Type 1} → statement M
 dwj-record-spec =
