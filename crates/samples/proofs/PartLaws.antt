@@ -41,29 +41,29 @@ stands bs place = go (recordFound bs place) refl
           | no o ↦ empty bs place (no-part g o)
         ]
 
--- The same as the code asks it: by the length alone.
-module _ (bs : List ℕ) (place : ℕ) where
-  pub part-length : length (samplesAt bs place) ≡ samplesPart bs place .1
+-- The same as the code asks it: by the length of the part alone.
+module _ (bs : List ℕ) (place : ℕ) {samples : List ℕ} (given : samples ≡ samplesAt bs place) where
+  pub part-length : length samples ≡ samplesPart bs place .1
   part-length = elim (stands bs place) [
-    | none e l ↦ rw e l
-    | part n e l s w ↦ rw e l
+    | none e l ↦ rw (given, e) l
+    | part n e l s w ↦ rw (given, e) l
   ]
 
-  pub starts-at-none : length (samplesAt bs place) ≡ 0 → 0 ≡ samplesPart bs place .0
+  pub starts-at-none : length samples ≡ 0 → 0 ≡ samplesPart bs place .0
   starts-at-none z = elim (stands bs place) [
     | none e l ↦ rw e
-    | part n e l s w ↦ absurd (omega (arith, z, l, s))
+    | part n e l s w ↦ absurd (omega (arith, z, ap length given, l, s))
   ]
 
-  module _ (some : length (samplesAt bs place) ≡ 0 → ⊥) where
+  module _ (some : length samples ≡ 0 → ⊥) where
     pub starts-at-place : place + 56 ≡ samplesPart bs place .0
     starts-at-place = elim (stands bs place) [
-      | none e l ↦ absurd (some l)
+      | none e l ↦ absurd (some (ap length given ∙ l))
       | part n e l s w ↦ rw e
     ]
 
     pub place-within : place + 56 ≤ fileLimit
     place-within = elim (stands bs place) [
-      | none e l ↦ absurd (some l)
+      | none e l ↦ absurd (some (ap length given ∙ l))
       | part n e l s w ↦ omega (arith, w)
     ]

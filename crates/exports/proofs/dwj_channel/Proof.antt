@@ -1,4 +1,5 @@
--- Where the number is 0 the four numbers and the names go over, and otherwise nothing is stored.
+-- `exports::dwj_channel` meets its contract: where the number is 0 the four numbers and the names go over, and otherwise nothing is stored.
+use mathlib.Core.Path.{refl}
 use borrow.Author.Tests.{ne-eqb}
 use mathlib.Core.Bool.{cond}
 use borrow.Author.Needs.{needs}
@@ -12,11 +13,15 @@ channel-requires : tie.Need-channel-requires
 channel-requires c κs = search needs
 
 returns : tie.Need-returns
-returns c = let s = c .before .before .before .before .before in
-    (rw (s .channel .ensures), (rw (← s .channel .ensures, c .before .before .before .if1 .taken), (rw (← s .channel .ensures, c .before .before .before .if1 .taken), rw (← s .channel .ensures, c .before .before .before .if1 .taken))))
+returns c =
+    let test = c .before .before .before in
+    let e = test .before .before .channel .ensures in
+    (rw e, rw (← e, test .if1 .taken) (refl, (refl, refl)))
 
 returns-2 : tie.Need-returns-2
-returns-2 c = let s = c .before .before in (rw (s .channel .ensures), (rw (← s .channel .ensures, ne-eqb _ 0 (c .if1 .left)), (rw (← s .channel .ensures, ne-eqb _ 0 (c .if1 .left)), rw (← s .channel .ensures, ne-eqb _ 0 (c .if1 .left)))))
+returns-2 c =
+    let e = c .before .before .channel .ensures in
+    (rw e, rw (← e, ne-eqb _ 0 (c .if1 .left)) (refl, (refl, refl)))
 
 pub dwj-channel-spec : {M : Type 1} → statement M
 dwj-channel-spec = tie.close (tie.spec channel-requires returns returns-2)

@@ -1,4 +1,5 @@
--- The answer's case is the definition's, and each lent number follows it.
+-- `exports::dwj_code` meets its contract: the answer's case is the definition's, and each lent number follows it.
+use mathlib.Core.Path.{refl}
 use Rattle.exports.specs.Lent.{numberOf, wholesIn, wholesAfter}
 use Rattle.note.specs.Answers.{givenCode}
 use borrow.Author.Needs.{needs}
@@ -19,11 +20,11 @@ enum-known-number c = search needs
 
 returns : tie.Need-returns
 unfolding numberOf wholesIn wholesAfter givenCode
-returns c = let s = c .before .before .before in (rw (← s .code .ensures, c .before .found .given .1), rw (← s .code .ensures, c .before .found .given .1))
+returns c = rw (← c .before .before .before .code .ensures, c .before .found .given .1) (refl, refl)
 
 returns-2 : tie.Need-returns-2
 unfolding numberOf wholesIn wholesAfter givenCode
-returns-2 c = let s = c .before .before .before in (rw (← s .code .ensures, c .before .number .given .1), rw (← s .code .ensures, c .before .number .given .1))
+returns-2 c = rw (← c .before .before .before .code .ensures, c .before .number .given .1) (refl, refl)
 
 pub dwj-code-spec : {M : Type 1} → statement M
 dwj-code-spec =

@@ -1,11 +1,6 @@
--- The step's own numbers and yield, told in lent numbers.
-use mathlib.Core.Path.{_≡_, ap, _∙_}
-use denote.Ref.{now}
-use Rattle.note.specs.declared.WalkerYield.{WalkerYield}
-use Rattle.note.specs.Answers.{givenYield}
-use Rattle.walk.specs.declared.Spot.{Spot}
-use Rattle.exports.specs.Lent.{numberOf, placeAfter}
-use Rattle.exports.specs.Walkers.{numbersOf, spotOf, rowAfter}
+-- `exports::dwj_next` meets its contract: the step's own numbers and yield, told in lent numbers.
+use mathlib.Core.Path.{refl}
+use Rattle.exports.specs.Walkers.{numbersOf, spotOf}
 use borrow.Author.Needs.{needs}
 use Rattle.exports.proofs.dwj_next.Statement.{statement}
 use Rattle.exports.proofs.dwj_next.Tie as tie
@@ -62,8 +57,10 @@ tell-requires c κs = search needs
 
 returns : tie.Need-returns
 unfolding numbersOf spotOf
-returns c = let a = c .before .before .before .before .before .before .before .before .before .before .before .before .before .before .before .before .args in let o = c .before .before .before .before .before .before .before .before .step .ensures in let t = c .tell .ensures in let m = c .before .before .before .last .ensures ∙ ap (λ (x : Spot). x .last) o in
-    (t .0 ∙ ap (λ (y : WalkerYield). numberOf (givenYield y)) m, (ap numbersOf o, (t .1 .0 ∙ ap (rowAfter (now (a .row))) m, t .1 .1 ∙ ap (λ (y : WalkerYield). placeAfter (now (a .refusal)) (givenYield y)) m)))
+returns c =
+    let asked = c .before .before .before in
+    let stepped = asked .before .before .before .before .before in
+    rw (← stepped .step .ensures, ← asked .last .ensures) (c .tell .ensures .0, (refl, c .tell .ensures .1))
 
 pub dwj-next-spec : {M : Type 1} → statement M
 dwj-next-spec =

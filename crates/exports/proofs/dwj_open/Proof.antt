@@ -1,11 +1,6 @@
--- The walk's own numbers and yield, told in lent numbers.
-use mathlib.Core.Path.{_≡_, ap, _∙_}
-use denote.Ref.{now}
-use Rattle.note.specs.declared.WalkerYield.{WalkerYield}
-use Rattle.note.specs.Answers.{givenYield}
-use Rattle.walk.specs.declared.Spot.{Spot}
-use Rattle.exports.specs.Lent.{numberOf, placeAfter}
-use Rattle.exports.specs.Walkers.{numbersOf, rowAfter}
+-- `exports::dwj_open` meets its contract: the walk's own numbers and yield, told in lent numbers.
+use mathlib.Core.Path.{refl}
+use Rattle.exports.specs.Walkers.{numbersOf}
 use borrow.Author.Needs.{needs}
 use Rattle.exports.proofs.dwj_open.Statement.{statement}
 use Rattle.exports.proofs.dwj_open.Tie as tie
@@ -35,8 +30,10 @@ tell-requires c κs = search needs
 
 returns : tie.Need-returns
 unfolding numbersOf
-returns c = let a = c .before .before .before .before .before .before .before .before .before .before .args in let o = c .before .before .before .before .before .before .before .before .opened .ensures in let t = c .tell .ensures in let m = c .before .before .before .last .ensures ∙ ap (λ (x : Spot). x .last) o in
-    (t .0 ∙ ap (λ (y : WalkerYield). numberOf (givenYield y)) m, (ap numbersOf o, (t .1 .0 ∙ ap (rowAfter (now (a .row))) m, t .1 .1 ∙ ap (λ (y : WalkerYield). placeAfter (now (a .refusal)) (givenYield y)) m)))
+returns c =
+    let asked = c .before .before .before in
+    let opened = asked .before .before .before .before .before in
+    rw (← opened .opened .ensures, ← asked .last .ensures) (c .tell .ensures .0, (refl, c .tell .ensures .1))
 
 pub dwj-open-spec : {M : Type 1} → statement M
 dwj-open-spec =

@@ -1,4 +1,5 @@
--- The answer's case is the definition's, and each lent number follows it.
+-- `exports::dwj_sample` meets its contract: the answer's case is the definition's, and each lent number follows it.
+use mathlib.Core.Path.{refl}
 use Rattle.exports.specs.Lent.{numberOf, placeAfter, wholesIn, wholesAfter}
 use Rattle.note.specs.Answers.{givenSample}
 use borrow.Author.Needs.{needs}
@@ -22,11 +23,11 @@ enum-known-why c = search needs
 
 returns : tie.Need-returns
 unfolding numberOf placeAfter wholesIn wholesAfter givenSample
-returns c = let e = c .before .before .before .sample .ensures in let v = c .before .found .given .1 in (rw (← e, v), (rw (← e, v), rw (← e, v)))
+returns c = rw (← c .before .before .before .sample .ensures, c .before .found .given .1) (refl, (refl, refl))
 
 returns-2 : tie.Need-returns-2
 unfolding numberOf placeAfter wholesIn wholesAfter givenSample
-returns-2 c = let e = c .before .before .before .sample .ensures in let v = c .before .why .given .1 in (rw (← e, v), (rw (← e, v), rw (← e, v)))
+returns-2 c = rw (← c .before .before .before .sample .ensures, c .before .why .given .1) (refl, (refl, refl))
 
 pub dwj-sample-spec : {M : Type 1} → statement M
 dwj-sample-spec =

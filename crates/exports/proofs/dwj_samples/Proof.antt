@@ -1,8 +1,5 @@
--- The part is empty exactly where it stands nowhere.
-use mathlib.Core.Path.{sym, ap, _∙_}
-use lib.ListN.{length}
+-- `exports::dwj_samples` meets its contract: the part is empty exactly where it stands nowhere.
 use native.Mathlib.Omega.{arith}
-use denote.Ref.{now}
 use Rattle.samples.proofs.PartLaws.{part-length, starts-at-none, starts-at-place, place-within}
 use borrow.Author.Needs.{needs}
 use Rattle.exports.proofs.dwj_samples.Statement.{statement}
@@ -15,13 +12,13 @@ samples-requires : tie.Need-samples-requires
 samples-requires c κs = search needs
 
 returns : tie.Need-returns
-returns c = let bs = now (c .before .before .before .args .file) in let p = c .before .before .before .args .place in let l = ap length (c .before .samples .ensures .0) in (starts-at-none bs p (sym l ∙ c .if1 .taken), l ∙ part-length bs p)
+returns c = let given = c .before .samples .ensures .0 in (starts-at-none _ _ given (c .if1 .taken), part-length _ _ given)
 
 add-offset : tie.Need-add-offset
-add-offset c = let bs = now (c .before .before .before .args .file) in let p = c .before .before .before .args .place in let l = ap length (c .before .samples .ensures .0) in let w = place-within bs p (λ z. c .if1 .left (l ∙ z)) in omega (arith, w)
+add-offset c = omega (arith, place-within _ _ (c .before .samples .ensures .0) (c .if1 .left))
 
 returns-2 : tie.Need-returns-2
-returns-2 c = let bs = now (c .before .before .before .args .file) in let p = c .before .before .before .args .place in let l = ap length (c .before .samples .ensures .0) in (starts-at-place bs p (λ z. c .if1 .left (l ∙ z)), l ∙ part-length bs p)
+returns-2 c = let given = c .before .samples .ensures .0 in (starts-at-place _ _ given (c .if1 .left), part-length _ _ given)
 
 pub dwj-samples-spec : {M : Type 1} → statement M
 dwj-samples-spec = tie.close (tie.spec samples-requires returns add-offset returns-2)

@@ -1,4 +1,5 @@
--- Each case of a yield, and the lent numbers that follow it.
+-- `exports::tell` meets its contract: each case of a yield, and the lent numbers that follow it.
+use mathlib.Core.Path.{refl}
 use Rattle.exports.specs.Lent.{numberOf, placeAfter}
 use Rattle.exports.specs.Walkers.{rowAfter}
 use Rattle.note.specs.Answers.{givenYield}
@@ -19,15 +20,15 @@ enum-known-last-2 c = search needs
 
 returns : tie.Need-returns
 unfolding numberOf placeAfter rowAfter givenYield
-returns c = let v = c .before .before .last .given .1 in (rw v, (rw v, rw v))
+returns c = rw (c .before .before .last .given .1) (refl, (refl, refl))
 
 returns-2 : tie.Need-returns-2
 unfolding numberOf placeAfter rowAfter givenYield
-returns-2 c = let v = c .before .enum-told .given .1 in (rw v, (rw v, rw v))
+returns-2 c = rw (c .before .enum-told .given .1) (refl, (refl, refl))
 
 returns-3 : tie.Need-returns-3
 unfolding numberOf placeAfter rowAfter givenYield
-returns-3 c = let v = c .before .last2 .given .1 in (rw v, (rw v, rw v))
+returns-3 c = rw (c .before .last2 .given .1) (refl, (refl, refl))
 
 pub tell-spec : {M : Type 1} → statement M
 tell-spec =
