@@ -38,20 +38,36 @@ both : (P : Spot → Type 0) (b : Bool) (x y : Spot) → (b ≡ true → P x) �
 both P true x y f g = f refl
 both P false x y f g = g
 
--- A step's numbers fit.
+-- Numbers that a walk can have tell of no more rows than the limit, so a step's numbers fit, by each way that it can go.
+usable-rows : (bs : List ℕ) (at : Spot) → usable bs at ≡ true → at .rows ≤ fileLimit
+unfolding usable
+usable-rows bs at u =
+    let rest = and-eq-true-iff (leb (length bs) fileLimit) _ .0 u .1 in
+    leb-true (at .rows) fileLimit (and-eq-true-iff (leb (at .rows) fileLimit) _ .0 rest .0)
+
+module _ (at : Spot) (h : Narrow at) (r : at .rows ≤ fileLimit) where
+  header-narrow : (bs : List ℕ) → Narrow (headerStep bs at)
+  unfolding headerStep stayed
+  header-narrow bs = both Narrow (leb 8 (length bs)) _ _ (λ l. (h .0, omega arith, omega (arith, r))) h
+
+  record-narrow : (bs : List ℕ) → Narrow (recordStep bs at)
+  unfolding recordStep stayed
+  record-narrow bs =
+      both Narrow (stands bs) _ _
+      (λ s. both Narrow (hasValues (word 0 bs) (bodyIn bs)) _ _ (λ v. (h .0, h .1, omega (arith, r))) h) h
+
+  container-narrow : (bs : List ℕ) → Narrow (containerStep bs at)
+  unfolding containerStep stayed
+  container-narrow bs = both Narrow (stands bs) _ _ (λ s. (h .0, omega (arith, r), omega (arith, r))) h
+
 step-narrow : (bs : List ℕ) (at : Spot) → Narrow at → Narrow (stepOf bs at)
-unfolding stepOf usable stayed headerStep recordStep containerStep
+unfolding stepOf stayed
 step-narrow bs at h =
     both Narrow (eqb (at .number) 0) _ _ (λ z.
-    both Narrow (leb (length bs) fileLimit && (leb (at .rows) fileLimit && (leb (at .end) (length bs) && leb (at .place) (length bs)))) _ _ (λ u.
-    let rest : leb (at .rows) fileLimit && (leb (at .end) (length bs) && leb (at .place) (length bs)) ≡ true = and-eq-true-iff (leb (length bs) fileLimit) _ .0 u .1 in
-    let r : at .rows ≤ fileLimit = leb-true (at .rows) fileLimit (and-eq-true-iff (leb (at .rows) fileLimit) _ .0 rest .0) in
-    both Narrow (eqb (at .place) 0) _ _ (λ p. both Narrow (leb 8 (length bs)) _ _ (λ l. (h .0, omega arith, omega (arith, r))) h)
-    (both Narrow (ltb (at .place) (at .end)) _ _
-    (λ i. both Narrow (stands (take (at .end - at .place) (drop (at .place) bs))) _ _
-    (λ s. both Narrow (hasValues (word 0 (take (at .end - at .place) (drop (at .place) bs))) (bodyIn (take (at .end - at .place) (drop (at .place) bs)))) _ _
-    (λ v. (h .0, h .1, omega (arith, r))) h) h)
-    (both Narrow (stands (drop (at .place) bs)) _ _ (λ s. (h .0, omega (arith, r), omega (arith, r))) h))) h) h
+    both Narrow (usable bs at) _ _ (λ u.
+    let r = usable-rows bs at u in
+    both Narrow (eqb (at .place) 0) _ _ (λ p. header-narrow at h r bs)
+    (both Narrow (ltb (at .place) (at .end)) _ _ (λ i. record-narrow at h r _) (container-narrow at h r _))) h) h
 
 steps-narrow : (bs : List ℕ) (k : ℕ) (at : Spot) → Narrow at → Narrow (stepsFrom bs k at)
 unfolding stepsFrom
@@ -70,7 +86,8 @@ numbers-follow bs h (suc k) =
 
 -- The C walker's theorem: what dwj_next tells after opening and k calls before it is the definition's yield with the number k + 1. That
 -- the first numbers fit 32 bits is what the types of dwj_open's spot say.
-pub c-walker-yields : (bs : List ℕ) → Bytes bs → Narrow (openedOf bs) → (k : ℕ) → givenYield (stepOf bs (spotOf (walkerAfter bs k)) .last) ≡ yieldAt bs (suc k)
+pub c-walker-yields : (bs : List ℕ) → Bytes bs → Narrow (openedOf bs) → (k : ℕ)
+    → givenYield (stepOf bs (spotOf (walkerAfter bs k)) .last) ≡ yieldAt bs (suc k)
 c-walker-yields bs b h k =
     let at : Spot = stepsFrom bs k (openedOf bs) in
     ap (λ (ns : List ℕ). givenYield (stepOf bs (spotOf ns) .last)) (numbers-follow bs h k)
