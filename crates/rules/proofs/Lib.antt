@@ -1,3 +1,4 @@
 pub mod SectionLaws
+pub mod KindLaws
 pub mod LengthLaws
 pub mod RoomLaws

@@ -1,3 +1,4 @@
+-- `rules::administrative_rule` meets its contract: the length, then the first two words' fault.
 use borrow.Author.Tests.{eq-eqb, ne-eqb}
 use Rattle.theory.specs.Tests.{first}
 use Rattle.theory.proofs.TestLaws.{last}

@@ -48,7 +48,18 @@ returns c =
     let at7 = at6 .before in
     let at8 = at7 .before in
     let at9 = at8 .before in
-    rw (c .or-unless3 .ensures, at1 .is-named .ensures, at2 .word-at4 .ensures, at3 .or-unless2 .ensures, at4 .is-channel .ensures, at5 .word-at3 .ensures, at6 .or-unless .ensures, at7 .word-at2 .ensures, at8 .unless .ensures, at9 .word-at .ensures) (simp first-of-part)
+    rw (
+      c .or-unless3 .ensures,
+      at1 .is-named .ensures,
+      at2 .word-at4 .ensures,
+      at3 .or-unless2 .ensures,
+      at4 .is-channel .ensures,
+      at5 .word-at3 .ensures,
+      at6 .or-unless .ensures,
+      at7 .word-at2 .ensures,
+      at8 .unless .ensures,
+      at9 .word-at .ensures,
+    ) (simp first-of-part)
 
 pub bookkeeping-rule-spec : {M : Type 1} → statement M
 bookkeeping-rule-spec =

@@ -64,7 +64,22 @@ returns-2 c =
     let at10 = at9 .before in
     let at11 = at10 .before in
     let at12 = at11 .before in
-    rw (c .earlier .ensures, at1 .gps-fault .ensures, at2 .decimal6 .ensures, at3 .decimal5 .ensures, at4 .decimal4 .ensures, at5 .decimal3 .ensures, at6 .decimal2 .ensures, at7 .decimal .ensures, at8 .gps-digits-fault .ensures, at9 .word-at3 .ensures, at10 .word-at2 .ensures, at11 .word-at .ensures, gps-rule-in-parts, eq-eqb _ _ (at12 .if1 .left)) (simp pass-over)
+    rw (
+      c .earlier .ensures,
+      at1 .gps-fault .ensures,
+      at2 .decimal6 .ensures,
+      at3 .decimal5 .ensures,
+      at4 .decimal4 .ensures,
+      at5 .decimal3 .ensures,
+      at6 .decimal2 .ensures,
+      at7 .decimal .ensures,
+      at8 .gps-digits-fault .ensures,
+      at9 .word-at3 .ensures,
+      at10 .word-at2 .ensures,
+      at11 .word-at .ensures,
+      gps-rule-in-parts,
+      eq-eqb _ _ (at12 .if1 .left),
+    ) (simp pass-over)
 
 pub gps-rule-spec : {M : Type 1} → statement M
 gps-rule-spec =

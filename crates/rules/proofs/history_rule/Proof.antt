@@ -1,12 +1,15 @@
--- The tests are the definition's, in its order; a section that passed has its end within a machine number.
+-- `rules::history_rule` meets its contract: the tests are the definition's, in its order; a section that passed has its end within a machine number.
+use Prim.Native.Nat.{ℕ}
 use mathlib.Core.Path.{_≡_, sym, _∙_}
+use mathlib.Core.Bool.{true, false}
+use mathlib.Core.List.{List, [], _∷_}
+use lib.Dec.{eqb}
+use lib.ListN.{length}
 use denote.Ref.{now}
 use Rattle.rules.proofs.SectionLaws.{room, thin, small}
-use native.Mathlib.Omega.{arith}
-use Prim.Native.Nat.{_≤_}
 use borrow.Author.Tests.{eq-eqb, le-leb, lt-leb, ne-eqb}
 use Rattle.note.specs.History.{historyRule, sectionRule, after}
-use Rattle.theory.specs.Tests.{first}
+use Rattle.theory.specs.Tests.{unless, first}
 use Rattle.theory.proofs.TestLaws.{positive}
 use borrow.Author.Needs.{needs}
 use Rattle.rules.proofs.history_rule.Statement.{statement}
@@ -27,41 +30,76 @@ returns-2 c = rw (le-leb _ _ (c .before .if1 .left), ne-eqb _ _ (c .if2 .taken))
 section-rule-requires : tie.Need-section-rule-requires
 section-rule-requires c κs = search needs
 
-returns-3 : tie.Need-returns-3
+-- Where the length has passed its two tests: the rest of the list is asked.
+abbrev body : tie.Else2 → List ℕ
+body c = now (c .before .before .before .args .b)
+
+sized : (c : tie.Else2)
+    → historyRule (body c)
+    ≡ first (sectionRule false 0 (body c) ∷ sectionRule true (after 0 (body c)) (body c)
+    ∷ unless (eqb (length (body c)) (after (after 0 (body c)) (body c))) 6 ∷ [])
 unfolding historyRule first
-returns-3 c = rw (le-leb _ _ (c .before .before .before .if1 .left), eq-eqb _ _ (c .before .before .if2 .left), ← c .before .section-rule .ensures, positive (c .before .section-rule .result) (c .if3 .taken))
+sized c = rw (le-leb _ _ (c .before .if1 .left), eq-eqb _ _ (c .if2 .left))
+
+returns-3 : tie.Need-returns-3
+unfolding first
+returns-3 c = rw (sized (c .before .before), ← c .before .section-rule .ensures, positive (c .before .section-rule .result) (c .if3 .taken))
+
+-- Where the veto section has passed: it follows its rule.
+veto-passed : (c : tie.Else3) → sectionRule false 0 (body (c .before .before)) ≡ 0
+veto-passed c = sym (c .before .section-rule .ensures) ∙ c .if3 .left
 
 section-end-requires : tie.Need-section-end-requires
 section-end-requires c κs =
-    let b = now (c .before .before .before .before .before .args .b) in
-    let e : sectionRule _ 0 b ≡ 0 = sym (c .before .section-rule .ensures) ∙ c .if3 .left in
-    (room _ 0 b e, thin _ 0 b e, c .before .before .before .before .before .pre)
+    let e = veto-passed c in
+    (room _ 0 _ e, thin _ 0 _ e, c .before .before .before .before .before .pre)
 
 section-rule-requires-2 : tie.Need-section-rule-requires-2
 section-rule-requires-2 c κs =
-    let b = now (c .before .before .before .before .before .before .args .b) in
-    let e : sectionRule _ 0 b ≡ 0 = sym (c .before .before .section-rule .ensures) ∙ c .before .if3 .left in
-    let s : after 0 b ≤ 0x7FFFFFFFFFFFFFFF = small _ 0 b e (c .before .before .before .before .before .before .pre) in
-    (rw (c .section-end .ensures) s, c .before .before .before .before .before .before .pre)
+    let short = c .before .before .before .before .before .before .pre in
+    (rw (c .section-end .ensures) (small _ 0 _ (veto-passed (c .before)) short), short)
 
 returns-4 : tie.Need-returns-4
-unfolding historyRule first
-returns-4 c = rw (le-leb _ _ (c .before .before .before .before .before .before .if1 .left), eq-eqb _ _ (c .before .before .before .before .before .if2 .left), ← c .before .before .before .before .section-rule .ensures, c .before .before .before .if3 .left, ← c .before .before .section-end .ensures, ← c .before .section-rule2 .ensures, positive (c .before .section-rule2 .result) (c .if4 .taken))
+unfolding first
+returns-4 c =
+    let middle = c .before .before in
+    let veto = middle .before in
+    rw (
+      sized (veto .before .before),
+      veto-passed veto,
+      ← middle .section-end .ensures,
+      ← c .before .section-rule2 .ensures,
+      positive (c .before .section-rule2 .result) (c .if4 .taken),
+    )
+
+-- Where the trigger section has passed: it follows its rule, and only where it ends is asked.
+abbrev middle : tie.Else4 → tie.After-section-end
+middle c = c .before .before
+
+abbrev whole : tie.Else4 → List ℕ
+whole c = body (middle c .before .before .before)
+
+trigger-passed : (c : tie.Else4) → sectionRule true (middle c .section-end .result) (whole c) ≡ 0
+trigger-passed c = sym (c .before .section-rule2 .ensures) ∙ c .if4 .left
+
+end-asked : (c : tie.Else4) → historyRule (whole c) ≡ first (unless (eqb (length (whole c)) (after (middle c .section-end .result) (whole c))) 6 ∷ [])
+unfolding first
+end-asked c =
+    let veto = middle c .before in
+    rw (sized (veto .before .before), veto-passed veto, ← middle c .section-end .ensures, trigger-passed c)
 
 section-end-requires-2 : tie.Need-section-end-requires-2
 section-end-requires-2 c κs =
-    let b = now (c .before .before .before .before .before .before .before .before .args .b) in
-    let m = c .before .before .section-end .result in
-    let e : sectionRule _ m b ≡ 0 = sym (c .before .section-rule2 .ensures) ∙ c .if4 .left in
-    (room _ m b e, thin _ m b e, c .before .before .before .before .before .before .before .before .pre)
+    let e = trigger-passed c in
+    (room _ _ _ e, thin _ _ _ e, middle c .before .before .before .before .before .before .pre)
 
 returns-5 : tie.Need-returns-5
-unfolding historyRule first
-returns-5 c = rw (le-leb _ _ (c .before .before .before .before .before .before .before .before .if1 .left), eq-eqb _ _ (c .before .before .before .before .before .before .before .if2 .left), ← c .before .before .before .before .before .before .section-rule .ensures, c .before .before .before .before .before .if3 .left, ← c .before .before .before .before .section-end .ensures, ← c .before .before .before .section-rule2 .ensures, c .before .before .if4 .left, ← c .before .before .before .before .section-end .ensures, ← c .before .section-end2 .ensures, ne-eqb _ _ (c .if5 .taken))
+unfolding first
+returns-5 c = rw (end-asked (c .before .before), ← c .before .section-end2 .ensures, ne-eqb _ _ (c .if5 .taken))
 
 returns-6 : tie.Need-returns-6
-unfolding historyRule first
-returns-6 c = rw (le-leb _ _ (c .before .before .before .before .before .before .before .before .if1 .left), eq-eqb _ _ (c .before .before .before .before .before .before .before .if2 .left), ← c .before .before .before .before .before .before .section-rule .ensures, c .before .before .before .before .before .if3 .left, ← c .before .before .before .before .section-end .ensures, ← c .before .before .before .section-rule2 .ensures, c .before .before .if4 .left, ← c .before .before .before .before .section-end .ensures, ← c .before .section-end2 .ensures, eq-eqb _ _ (c .if5 .left))
+unfolding first
+returns-6 c = rw (end-asked (c .before .before), ← c .before .section-end2 .ensures, eq-eqb _ _ (c .if5 .left))
 
 pub history-rule-spec : {M : Type 1} → statement M
 history-rule-spec =

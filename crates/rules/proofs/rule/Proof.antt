@@ -1,9 +1,9 @@
--- At each kind word the definition's kind computes to that kind; in the default it is none.
+-- `rules::rule` meets its contract: at each kind word the definition's kind computes to that kind; in the default it is none.
 use mathlib.Core.Path.{sym, ap}
 use denote.Ref.{now}
 use Rattle.note.specs.Kinds.{Kind}
-use Rattle.note.proofs.KindCases.{no-kind}
 use Rattle.note.specs.Records.{kindOf}
+use Rattle.rules.proofs.KindLaws.{no-arm}
 use borrow.Author.Needs.{needs}
 use Rattle.rules.proofs.rule.Statement.{statement}
 use Rattle.rules.proofs.rule.Tie as tie
@@ -75,7 +75,7 @@ unfolding kindOf
 returns-8 c = rw (c .before .match .keys8) (c .tlb-rule .ensures)
 
 returns-9 : tie.Need-returns-9
-returns-9 c = sym (ap (λ (k : Kind). k .rule (now (c .before .before .args .b))) (no-kind _ (c .match .rest .0 .0 .0 .0 .0 .0 .0 .1) (c .match .rest .0 .0 .0 .0 .0 .0 .1) (c .match .rest .0 .0 .0 .0 .0 .1) (c .match .rest .0 .0 .0 .0 .1) (c .match .rest .0 .0 .0 .1) (c .match .rest .0 .0 .1) (c .match .rest .0 .1) (c .match .rest .1)))
+returns-9 c = sym (ap (λ (k : Kind). k .rule (now (c .before .before .args .b))) (no-arm (c .match .rest)))
 
 pub rule-spec : {M : Type 1} → statement M
 rule-spec =

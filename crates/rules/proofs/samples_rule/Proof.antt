@@ -36,7 +36,15 @@ returns c =
     let at4 = at3 .before in
     let at5 = at4 .before in
     let at6 = at5 .before in
-    rw (c .or-unless .ensures, at1 .word-at3 .ensures, at2 .earlier .ensures, at3 .count-fault .ensures, at4 .unless .ensures, at5 .word-at2 .ensures, at6 .word-at .ensures) (simp first-of-part)
+    rw (
+      c .or-unless .ensures,
+      at1 .word-at3 .ensures,
+      at2 .earlier .ensures,
+      at3 .count-fault .ensures,
+      at4 .unless .ensures,
+      at5 .word-at2 .ensures,
+      at6 .word-at .ensures,
+    ) (simp first-of-part)
 
 pub samples-rule-spec : {M : Type 1} → statement M
 samples-rule-spec =

@@ -1,5 +1,5 @@
--- The places are the definition's; the product fits because the width is a signed number and the times lie in the body.
-use mathlib.Core.Path.{_≡_, refl, sym, _∙_}
+-- `rules::section_end` meets its contract: the places are the definition's; the product fits because the width is a signed number and the times lie in the body.
+use Prim.Native.Nat.{_*_, _≤_}
 use native.Mathlib.Omega.{arith}
 use Rattle.note.specs.History.{widthAt, widthOf, after}
 use Rattle.rules.proofs.SectionLaws.{product}
@@ -39,23 +39,20 @@ add-result : tie.Need-add-result
 unfolding widthAt widthOf
 add-result c = omega arith
 
-mul-result : tie.Need-mul-result
+-- Where both counts were read: the times lie in the body and the width is a signed number, which bounds their product.
+spanned : (c : tie.After-word-at2) → c .before .word-at .result * c .word-at2 .result ≤ 0x40000000 * 0x7FFFFFFF
 unfolding widthAt widthOf
-mul-result c =
-    let p = product (c .before .word-at .result) (c .word-at2 .result) (omega arith) (rw (c .word-at2 .ensures, c .before .word-at .ensures) (c .before .before .before .pre .1)) in
-    omega (arith, p)
+spanned c = product _ _ (omega arith) (rw (c .word-at2 .ensures, c .before .word-at .ensures) (c .before .before .before .pre .1))
+
+mul-result : tie.Need-mul-result
+mul-result c = omega (arith, spanned c)
 
 mul-result-2 : tie.Need-mul-result-2
-unfolding widthAt widthOf
-mul-result-2 c =
-    let p = product (c .before .word-at .result) (c .word-at2 .result) (omega arith) (rw (c .word-at2 .ensures, c .before .word-at .ensures) (c .before .before .before .pre .1)) in
-    omega (arith, p)
+mul-result-2 c = omega (arith, spanned c)
 
 add-result-2 : tie.Need-add-result-2
-unfolding widthAt widthOf
-add-result-2 c =
-    let p = product (c .before .word-at .result) (c .word-at2 .result) (omega arith) (rw (c .word-at2 .ensures, c .before .word-at .ensures) (c .before .before .before .pre .1)) in
-    omega (arith, p)
+unfolding widthAt
+add-result-2 c = omega (arith, spanned c)
 
 returns : tie.Need-returns
 unfolding after widthOf widthAt

@@ -68,7 +68,16 @@ returns-4 c =
     let at5 = at4 .before in
     let at6 = at5 .before in
     let at7 = at6 .before in
-    rw (le-leb _ _ (at7 .if1 .left), ← at6 .word-at .ensures, le-leb _ _ (at5 .if2 .left), le-leb _ _ (at4 .if3 .left), ← at3 .word-at2 .ensures, ← at1 .is-width .ensures, c .or-unless .ensures, at2 .unless .ensures) (simp pass-over)
+    rw (
+      le-leb _ _ (at7 .if1 .left),
+      ← at6 .word-at .ensures,
+      le-leb _ _ (at5 .if2 .left),
+      le-leb _ _ (at4 .if3 .left),
+      ← at3 .word-at2 .ensures,
+      ← at1 .is-width .ensures,
+      c .or-unless .ensures,
+      at2 .unless .ensures,
+    ) (simp pass-over)
 
 pub section-rule-spec : {M : Type 1} → statement M
 section-rule-spec =

@@ -32,7 +32,14 @@ returns c =
     let at3 = at2 .before in
     let at4 = at3 .before in
     let at5 = at4 .before in
-    rw (c .or-unless2 .ensures, at1 .word-at3 .ensures, at2 .or-unless .ensures, at3 .word-at2 .ensures, at4 .unless .ensures, at5 .word-at .ensures) (simp first-of-part)
+    rw (
+      c .or-unless2 .ensures,
+      at1 .word-at3 .ensures,
+      at2 .or-unless .ensures,
+      at3 .word-at2 .ensures,
+      at4 .unless .ensures,
+      at5 .word-at .ensures,
+    ) (simp first-of-part)
 
 pub timebase-rule-spec : {M : Type 1} → statement M
 timebase-rule-spec =

@@ -1,5 +1,4 @@
--- The length, then the six words' fault.
-use mathlib.Core.Path.{_≡_, sym, _∙_}
+-- `rules::tlb_rule` meets its contract: the length, then the six words' fault.
 use borrow.Author.Tests.{ne-eqb, eq-eqb}
 use Rattle.theory.specs.Tests.{first}
 use Rattle.theory.proofs.TestLaws.{last}
@@ -39,7 +38,19 @@ tlb-fault-requires c κs = search needs
 
 returns-2 : tie.Need-returns-2
 unfolding tlbRule tlbOf first
-returns-2 c = rw (eq-eqb _ _ (c .before .before .before .before .before .before .before .if1 .left), ← c .before .before .before .before .before .before .word-at .ensures, ← c .before .before .before .before .before .word-at2 .ensures, ← c .before .before .before .before .word-at3 .ensures, ← c .before .before .before .word-at4 .ensures, ← c .before .before .word-at5 .ensures, ← c .before .word-at6 .ensures, ← c .tlb-fault .ensures) (last (c .tlb-fault .result))
+returns-2 c =
+    let read = c .before in
+    let half = read .before .before .before in
+    rw (
+      eq-eqb _ _ (half .before .before .before .if1 .left),
+      ← half .before .before .word-at .ensures,
+      ← half .before .word-at2 .ensures,
+      ← half .word-at3 .ensures,
+      ← read .before .before .word-at4 .ensures,
+      ← read .before .word-at5 .ensures,
+      ← read .word-at6 .ensures,
+      ← c .tlb-fault .ensures,
+    ) (last (c .tlb-fault .result))
 
 pub tlb-rule-spec : {M : Type 1} → statement M
 tlb-rule-spec =

@@ -52,7 +52,16 @@ returns-2 c =
     let at5 = at4 .before in
     let at6 = at5 .before in
     let at7 = at6 .before in
-    rw (c .or-unless .ensures, at1 .word-at .ensures, at2 .earlier2 .ensures, at3 .samples-rule .ensures, at4 .earlier .ensures, at5 .timebase-rule .ensures, at6 .bookkeeping-rule .ensures, le-leb _ _ (at7 .if1 .left)) (simp (first-of-part, pass-over))
+    rw (
+      c .or-unless .ensures,
+      at1 .word-at .ensures,
+      at2 .earlier2 .ensures,
+      at3 .samples-rule .ensures,
+      at4 .earlier .ensures,
+      at5 .timebase-rule .ensures,
+      at6 .bookkeeping-rule .ensures,
+      le-leb _ _ (at7 .if1 .left),
+    ) (simp (first-of-part, pass-over))
 
 pub trace-rule-spec : {M : Type 1} → statement M
 trace-rule-spec =

@@ -1,3 +1,4 @@
+-- `rules::trigger_rule` meets its contract: the length, then the first word.
 use borrow.Author.Tests.{eq-eqb, ne-eqb}
 use Rattle.theory.specs.Tests.{first}
 use Rattle.note.specs.Trigger.{triggerRule}
