@@ -12,7 +12,8 @@ use Rattle.note.specs.Limits.{rowWidth}
 use Rattle.note.specs.Rows.{rowNumbers, flat}
 use Rattle.rows.specs.Buffers.{stored}
 
-pub six-stores : (l : List ℕ) (i a b c d e f : ℕ) → set (set (set (set (set (set l i a) (i + 1) b) (i + 2) c) (i + 3) d) (i + 4) e) (i + 5) f ≡ sets l i (a ∷ b ∷ c ∷ d ∷ e ∷ f ∷ [])
+pub six-stores : (l : List ℕ) (i a b c d e f : ℕ)
+    → set (set (set (set (set (set l i a) (i + 1) b) (i + 2) c) (i + 3) d) (i + 4) e) (i + 5) f ≡ sets l i (a ∷ b ∷ c ∷ d ∷ e ∷ f ∷ [])
 six-stores l i a b c d e f =
     let p : i + 1 ≡ suc i = omega arith in
     let q : i + 2 ≡ suc (suc i) = omega arith in
@@ -36,7 +37,9 @@ pub stored-append : (old : List ℕ) (n : ℕ) (xs ys : List Row) → stored old
 unfolding stored
 stored-append old n xs ys =
     let e : n * rowWidth + length (flat xs) ≡ (n + length xs) * rowWidth = omega (arith, length-flat xs) in
-    ap (sets old (n * rowWidth)) (flat-append xs ys) ∙ sym (sets-append old (n * rowWidth) (flat xs) (flat ys)) ∙ ap (λ (k : ℕ). sets (sets old (n * rowWidth) (flat xs)) k (flat ys)) e
+    ap (sets old (n * rowWidth)) (flat-append xs ys)
+    ∙ sym (sets-append old (n * rowWidth) (flat xs) (flat ys))
+    ∙ ap (λ (k : ℕ). sets (sets old (n * rowWidth) (flat xs)) k (flat ys)) e
 
 pub stored-nil : (old : List ℕ) (n : ℕ) → stored old n [] ≡ old
 unfolding stored flat
@@ -49,9 +52,11 @@ length-stored old n xs = length-sets old (n * rowWidth) (flat xs)
 -- Numbers stored past a place, and one below it, in either order.
 set-sets : (l : List ℕ) (i v j : ℕ) (vs : List ℕ) → i < j → sets (set l i v) j vs ≡ set (sets l j vs) i v
 set-sets l i v j [] h = refl
-set-sets l i v j (x ∷ vs) h = ap (λ (m : List ℕ). sets m (suc j) vs) (set-comm l i j v x (λ e. omega arith)) ∙ set-sets (set l j x) i v (suc j) vs (omega arith)
+set-sets l i v j (x ∷ vs) h =
+    ap (λ (m : List ℕ). sets m (suc j) vs) (set-comm l i j v x (λ e. omega arith)) ∙ set-sets (set l j x) i v (suc j) vs (omega arith)
 
-sets-swap : (l : List ℕ) (i : ℕ) (us : List ℕ) (j : ℕ) (vs : List ℕ) → i + length us ≤ j → sets (sets l i us) j vs ≡ sets (sets l j vs) i us
+sets-swap : (l : List ℕ) (i : ℕ) (us : List ℕ) (j : ℕ) (vs : List ℕ) → i + length us ≤ j
+    → sets (sets l i us) j vs ≡ sets (sets l j vs) i us
 sets-swap l i [] j vs h = refl
 sets-swap l i (u ∷ us) j vs h =
     sets-swap (set l i u) (suc i) us j vs (omega arith) ∙ ap (λ (m : List ℕ). sets m (suc i) us) (set-sets l i u j vs (omega arith))
@@ -67,7 +72,8 @@ stored-before old n x xs =
     ∙ ap (sets old (n * rowWidth)) (sym (flat-append (x ∷ []) xs))
 
 -- From the first row on: the rows, and then the old buffer's rest.
-pub stored-first : (old : List ℕ) (xs : List Row) → length xs * rowWidth ≤ length old → stored old 0 xs ≡ flat xs ++ drop (rowWidth * length xs) old
+pub stored-first : (old : List ℕ) (xs : List Row) → length xs * rowWidth ≤ length old
+    → stored old 0 xs ≡ flat xs ++ drop (rowWidth * length xs) old
 unfolding stored
 stored-first old xs h =
     let e : 0 + length (flat xs) ≡ rowWidth * length xs = omega (arith, length-flat xs) in

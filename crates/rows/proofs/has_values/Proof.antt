@@ -1,9 +1,8 @@
--- Each way is one of the definition's cases.
+-- `rows::has_values` meets its contract: each way is one of the definition's cases.
 -- The idea: the places that were looked up are the kind's, so the code's tests are the definition's.
 use Rattle.rows.proofs.ValueLaws.{none-has, history-has, others-have, ordered}
-use mathlib.Core.Path.{_≡_, sym, _∙_}
+use mathlib.Core.Path.{sym}
 use native.Mathlib.Omega.{arith}
-use denote.Ref.{now}
 use borrow.Author.Needs.{needs}
 use Rattle.rows.proofs.has_values.Statement.{statement}
 use Rattle.rows.proofs.has_values.Tie as tie
@@ -19,16 +18,21 @@ history-rule-requires : tie.Need-history-rule-requires
 history-rule-requires c κs = search needs
 
 returns : tie.Need-returns
-returns c = let a = c .before .before .before .before .before .args in let k = rw (c .before .before .before .value-places .ensures) at (c .before .if1 .taken) in rw (c .history-rule .ensures) (sym (history-has (a .kind) (now (a .b)) k))
+returns c =
+    let looked = c .before .before .before in
+    rw (c .history-rule .ensures) (sym (history-has _ _ (looked .value-places .ensures) (c .before .if1 .taken)))
 
 returns-2 : tie.Need-returns-2
-returns-2 c = let a = c .before .before .before .before .before .before .args in let k = rw (c .before .before .before .before .value-places .ensures) at (c .if2 .taken) in sym (none-has (a .kind) (now (a .b)) k)
+returns-2 c = let looked = c .before .before .before .before in sym (none-has _ _ (looked .value-places .ensures) (c .if2 .taken))
 
 add-result : tie.Need-add-result
-add-result c = let a = c .before .before .before .before .before .before .before .args in let o = ordered (a .kind) (now (a .b)) in rw (c .before .before .before .before .before .value-places .ensures) (omega (arith, o .1))
+add-result c = omega (arith, ordered _ (c .before .before .before .before .before .value-places .ensures))
 
 returns-3 : tie.Need-returns-3
-returns-3 c = let a = c .before .before .before .before .before .before .before .args in let e = c .before .before .before .before .before .value-places .ensures in rw e (sym (others-have (a .kind) (now (a .b)) (rw e at (c .before .before .before .if1 .left)) (rw e at (c .before .if2 .left))))
+returns-3 c =
+    let test = c .before in
+    let looked = test .before .before .before .before in
+    sym (others-have _ _ (looked .value-places .ensures) (test .before .before .if1 .left) (test .if2 .left))
 
 pub has-values-spec : {M : Type 1} → statement M
 has-values-spec =

@@ -1,9 +1,9 @@
--- At each kind word the definition's kind computes.
+-- `rows::value_places` meets its contract: at each kind word the definition's kind computes.
 -- The idea: a match's arm knows its kind word; the last arm knows that it is none of the eight.
 use mathlib.Core.Path.{_≡_, sym, ap}
 use Rattle.note.specs.Kinds.{Kind}
 use Rattle.note.specs.Records.{kindOf}
-use Rattle.note.proofs.KindCases.{no-kind}
+use Rattle.rules.proofs.KindLaws.{no-arm}
 use Rattle.rows.specs.declared.Standing.{Standing}
 use Rattle.rows.specs.Values.{oneAt, twoAt, standingOf}
 use Rattle.rows.proofs.value_places.Statement.{statement}
@@ -11,7 +11,7 @@ use Rattle.rows.proofs.value_places.Tie as tie
 use Rattle.rows.proofs.value_places.Reads as reads
 use Rattle.rows.proofs.value_places.Lts as lts
 
--- a kind's row kind and places
+-- A kind's row kind and places.
 abbrev placesOf : Kind → Standing
 placesOf k = record { kind = k .row; one = oneAt (k .row); two = twoAt (k .row) }
 
@@ -49,7 +49,7 @@ returns-8 c = rw (c .match .keys8)
 
 returns-9 : tie.Need-returns-9
 unfolding standingOf
-returns-9 c = let r = c .match .rest in sym (ap placesOf (no-kind _ (r .0 .0 .0 .0 .0 .0 .0 .1) (r .0 .0 .0 .0 .0 .0 .1) (r .0 .0 .0 .0 .0 .1) (r .0 .0 .0 .0 .1) (r .0 .0 .0 .1) (r .0 .0 .1) (r .0 .1) (r .1)))
+returns-9 c = sym (ap placesOf (no-arm (c .match .rest)))
 
 pub value-places-spec : {M : Type 1} → statement M
 value-places-spec =

@@ -1,8 +1,11 @@
--- The words that the code reads are the kind's row values, and stand in the body.
+-- `rows::values_in` meets its contract: the words that the code reads are the kind's row values, and stand in the body.
 -- The idea: the places that were looked up are the kind's; what the body holds was asked for.
-use mathlib.Core.Path.{_≡_, sym, _∙_}
+use Prim.Native.Nat.{_+_, _≤_}
+use mathlib.Core.Path.{_≡_}
+use lib.ListN.{length}
 use native.Mathlib.Omega.{arith}
 use denote.Ref.{now}
+use Rattle.note.specs.History.{historyRule}
 use Rattle.rules.proofs.SectionLaws.{room, thin}
 use Rattle.rules.proofs.RoomLaws.{veto-follows, trigger-count}
 use Rattle.rows.proofs.ValueLaws.{history-follows, history-values, others-room, others-values}
@@ -18,26 +21,49 @@ use Rattle.words.proofs.word_at.Reads as word-at-reads
 value-places-requires : tie.Need-value-places-requires
 value-places-requires c κs = search needs
 
+-- Where the kind is a history: its body follows the history's rule.
+abbrev found : tie.Then1 → tie.After-value-places
+found c = c .before .before
+
+follows : (c : tie.Then1) → historyRule (now (found c .before .before .args .b)) ≡ 0
+follows c = let s = found c .before .before in history-follows _ _ (found c .value-places .ensures) (s .pre .0) (c .if1 .taken)
+
 section-end-requires : tie.Need-section-end-requires
-section-end-requires c κs = let s = c .before .before .before .before in let b = now (s .args .b) in let v = veto-follows b (history-follows (s .args .kind) b (s .pre .0) (rw (c .before .before .value-places .ensures) at (c .if1 .taken))) in (room _ 0 b v, thin _ 0 b v, s .pre .1)
+section-end-requires c κs =
+    let v = veto-follows _ (follows c) in
+    (room _ 0 _ v, thin _ 0 _ v, found c .before .before .pre .1)
 
 word-at-requires : tie.Need-word-at-requires
-word-at-requires c κs = let s = c .before .before .before .before .before in let b = now (s .args .b) in omega (arith, trigger-count b (history-follows (s .args .kind) b (s .pre .0) (rw (c .before .before .before .value-places .ensures) at (c .before .if1 .taken))))
+word-at-requires c κs = omega (arith, trigger-count _ (follows (c .before)))
 
 word-at-requires-2 : tie.Need-word-at-requires-2
-word-at-requires-2 c κs = let s = c .before .before .before .before .before .before in let b = now (s .args .b) in rw (c .before .section-end .ensures) (trigger-count b (history-follows (s .args .kind) b (s .pre .0) (rw (c .before .before .before .before .value-places .ensures) at (c .before .before .if1 .taken))))
+word-at-requires-2 c κs = rw (c .before .section-end .ensures) (trigger-count _ (follows (c .before .before)))
 
 returns : tie.Need-returns
-returns c = let s = c .before .before .before .before .before .before .before in let e = c .before .before .before .before .before .value-places .ensures in rw e (history-values (s .args .kind) (now (s .args .b)) (s .pre .0) (rw e at (c .before .before .before .if1 .taken)) _ _ _ (c .before .word-at .ensures) (c .before .before .section-end .ensures) (c .word-at2 .ensures))
+returns c =
+    let read = c .before in
+    let test = read .before .before in
+    let looked = found test in
+    history-values _ _ (looked .value-places .ensures) (looked .before .before .pre .0) (test .if1 .taken)
+    (read .word-at .ensures) (read .before .section-end .ensures) (c .word-at2 .ensures)
+
+-- Where it isn't: both words lie in the body.
+inside : (c : tie.Else1)
+    → (c .before .before .value-places .result .one + 4 ≤ length (now (c .before .before .before .before .args .b)))
+    × (c .before .before .value-places .result .two + 4 ≤ length (now (c .before .before .before .before .args .b)))
+inside c = let looked = c .before .before in others-room _ _ (looked .value-places .ensures) (looked .before .before .pre .0) (c .if1 .left)
 
 word-at-requires-3 : tie.Need-word-at-requires-3
-word-at-requires-3 c κs = let s = c .before .before .before .before in let e = c .before .before .value-places .ensures in rw e (others-room (s .args .kind) (now (s .args .b)) (s .pre .0) (rw e at (c .if1 .left)) .0)
+word-at-requires-3 c κs = inside c .0
 
 word-at-requires-4 : tie.Need-word-at-requires-4
-word-at-requires-4 c κs = let s = c .before .before .before .before .before in let e = c .before .before .before .value-places .ensures in rw e (others-room (s .args .kind) (now (s .args .b)) (s .pre .0) (rw e at (c .before .if1 .left)) .1)
+word-at-requires-4 c κs = inside (c .before) .1
 
 returns-2 : tie.Need-returns-2
-returns-2 c = let s = c .before .before .before .before .before .before in let e = c .before .before .before .before .value-places .ensures in rw e (others-values (s .args .kind) (now (s .args .b)) (s .pre .0) (rw e at (c .before .before .if1 .left)) _ _ (rw e at (c .before .word-at3 .ensures)) (rw e at (c .word-at4 .ensures)))
+returns-2 c =
+    let test = c .before .before in
+    let looked = test .before .before in
+    others-values _ _ (looked .value-places .ensures) (looked .before .before .pre .0) (test .if1 .left) (c .before .word-at3 .ensures) (c .word-at4 .ensures)
 
 pub values-in-spec : {M : Type 1} → statement M
 values-in-spec =
