@@ -32,7 +32,8 @@ module _ (bs : List ℕ) (place : ℕ) where
     pub past : length bs < place → Bad 2 place ≡ stepOf (recordFound bs place)
     past l = rw found-behind (short alone place (drop place bs) (omega (arith, length-drop place bs)))
 
-    pub inside : {r : Step} → r ≡ stepOf (readRecord alone place (take (length bs - place) (drop place bs))) → r ≡ stepOf (recordFound bs place)
+    pub inside : {r : Step} → r ≡ stepOf (readRecord alone place (take (length bs - place) (drop place bs)))
+        → r ≡ stepOf (recordFound bs place)
     inside e =
         let all : take (length bs - place) (drop place bs) ≡ drop place bs = rw (← length-drop place bs) (take-length (drop place bs)) in
         rw (found-behind, ← all) e
@@ -75,7 +76,8 @@ module _ {bs : List ℕ} {place k n : ℕ} where
     pub body-ends : place + 8 + length b ≤ fileLimit
     body-ends = rw (cut, g .size) (omega (arith, g .fits, g .within))
 
-    pub good-given : (given : Res Record → Given) {a : Given} → a ≡ given (ok (record { kind = k; body = b })) → a ≡ given (recordFound bs place)
+    pub good-given : (given : Res Record → Given) {a : Given} → a ≡ given (ok (record { kind = k; body = b }))
+        → a ≡ given (recordFound bs place)
     good-given given e = rw (g .found, ← cut) e
 
 -- A refused step is the call's refusal.

@@ -33,7 +33,18 @@ signed-at-requires-8 c κs = search needs
 
 returns : tie.Need-returns
 unfolding givenRecord chargeOf
-returns c = rw (c .signed-at8 .ensures, c .before .signed-at7 .ensures, c .before .before .signed-at6 .ensures, c .before .before .before .signed-at5 .ensures, c .before .before .before .before .signed-at4 .ensures, c .before .before .before .before .before .signed-at3 .ensures, c .before .before .before .before .before .before .signed-at2 .ensures, c .before .before .before .before .before .before .before .signed-at .ensures) (simp kept)
+returns c =
+    let fourth = c .before .before .before .before in
+    rw (
+      c .signed-at8 .ensures,
+      c .before .signed-at7 .ensures,
+      c .before .before .signed-at6 .ensures,
+      c .before .before .before .signed-at5 .ensures,
+      fourth .signed-at4 .ensures,
+      fourth .before .signed-at3 .ensures,
+      fourth .before .before .signed-at2 .ensures,
+      fourth .before .before .before .signed-at .ensures,
+    ) (simp kept)
 
 pub charge-of-spec : {M : Type 1} → statement M
 charge-of-spec =

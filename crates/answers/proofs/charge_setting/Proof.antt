@@ -34,7 +34,18 @@ signed-at-requires-7 c κs = search needs
 
 returns : tie.Need-returns
 unfolding givenSetting chargeOf chargeSetting
-returns c = rw (c .signed-at7 .ensures, c .before .signed-at6 .ensures, c .before .before .signed-at5 .ensures, c .before .before .before .signed-at4 .ensures, c .before .before .before .before .signed-at3 .ensures, c .before .before .before .before .before .hundredth-at .ensures, c .before .before .before .before .before .before .signed-at2 .ensures, c .before .before .before .before .before .before .before .signed-at .ensures) (simp kept)
+returns c =
+    let unit = c .before .before .before .before .before in
+    rw (
+      c .signed-at7 .ensures,
+      c .before .signed-at6 .ensures,
+      c .before .before .signed-at5 .ensures,
+      c .before .before .before .signed-at4 .ensures,
+      c .before .before .before .before .signed-at3 .ensures,
+      unit .hundredth-at .ensures,
+      unit .before .signed-at2 .ensures,
+      unit .before .before .signed-at .ensures,
+    ) (simp kept)
 
 pub charge-setting-spec : {M : Type 1} → statement M
 charge-setting-spec =

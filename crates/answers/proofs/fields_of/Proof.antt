@@ -1,39 +1,45 @@
--- `answers::fields_of` meets its contract. At each kind word the definition's kind computes to that kind, and the rule gives the body's length.
+-- `answers::fields_of` meets its contract. At each kind word the definition's kind computes to that kind; the rule gives the body's length.
 -- In the default no kind is named, so the rule can't have passed.
+use Prim.Native.Nat.{_≤_}
 use mathlib.Core.Path.{sym, ap, _∙_}
 use native.Mathlib.Omega.{arith}
+use lib.ListN.{length}
 use Rattle.note.specs.Kinds.{Kind}
 use Rattle.note.specs.Records.{kindOf}
-use Rattle.note.proofs.KindCases.{no-kind}
-use Rattle.rules.proofs.LengthLaws.{long-enough}
+use Rattle.rules.proofs.KindLaws.{no-arm}
+use Rattle.rules.proofs.LengthLaws.{least, long-enough}
 use Rattle.answers.proofs.fields_of.Statement.{statement}
 use Rattle.answers.proofs.fields_of.Tie as tie
 use denote.Ref.{now}
 
+-- From the start on: the body is as long as its kind asks.
+long : (c : tie.After-shared-slice-known) → least (c .before .args .kind) ≤ length (now (c .before .args .b))
+long c = long-enough _ _ (c .before .pre .0)
+
 phonon-of-requires : tie.Need-phonon-of-requires
-phonon-of-requires c κs = rw (c .match .keys1) at (long-enough _ (now (c .before .before .args .b)) (c .before .before .pre .0))
+phonon-of-requires c κs = rw (c .match .keys1) at (long (c .before))
 
 charge-of-requires : tie.Need-charge-of-requires
-charge-of-requires c κs = rw (c .match .keys2) at (long-enough _ (now (c .before .before .args .b)) (c .before .before .pre .0))
+charge-of-requires c κs = rw (c .match .keys2) at (long (c .before))
 
 administrative-of-requires : tie.Need-administrative-of-requires
-administrative-of-requires c κs = rw (c .match .keys3) at (long-enough _ (now (c .before .before .args .b)) (c .before .before .pre .0))
+administrative-of-requires c κs = rw (c .match .keys3) at (long (c .before))
 
 trace-of-requires : tie.Need-trace-of-requires
-trace-of-requires c κs = rw (c .match .keys4) at (long-enough _ (now (c .before .before .args .b)) (c .before .before .pre .0))
+trace-of-requires c κs = rw (c .match .keys4) at (long (c .before))
 
 history-of-requires : tie.Need-history-of-requires
 unfolding kindOf
 history-of-requires c κs = (rw (c .match .keys5) at (c .before .before .pre .0), c .before .before .pre .1)
 
 gps-of-requires : tie.Need-gps-of-requires
-gps-of-requires c κs = rw (c .match .keys6) at (long-enough _ (now (c .before .before .args .b)) (c .before .before .pre .0))
+gps-of-requires c κs = rw (c .match .keys6) at (long (c .before))
 
 trigger-of-requires : tie.Need-trigger-of-requires
-trigger-of-requires c κs = rw (c .match .keys7) at (long-enough _ (now (c .before .before .args .b)) (c .before .before .pre .0))
+trigger-of-requires c κs = rw (c .match .keys7) at (long (c .before))
 
 tlb-of-requires : tie.Need-tlb-of-requires
-tlb-of-requires c κs = rw (c .match .keys8) at (long-enough _ (now (c .before .before .args .b)) (c .before .before .pre .0))
+tlb-of-requires c κs = rw (c .match .keys8) at (long (c .before))
 
 returns : tie.Need-returns
 unfolding kindOf
@@ -69,9 +75,7 @@ returns-8 c = rw (c .before .match .keys8) (c .tlb-of .ensures)
 
 returns-9 : tie.Need-returns-9
 returns-9 c =
-    let r = c .match .rest in
-    let none = no-kind _ (r .0 .0 .0 .0 .0 .0 .0 .1) (r .0 .0 .0 .0 .0 .0 .1) (r .0 .0 .0 .0 .0 .1) (r .0 .0 .0 .0 .1) (r .0 .0 .0 .1) (r .0 .0 .1) (r .0 .1) (r .1) in
-    let five = sym (ap (λ (k : Kind). k .rule (now (c .before .before .args .b))) none) ∙ c .before .before .pre .0 in
+    let five = sym (ap (λ (k : Kind). k .rule (now (c .before .before .args .b))) (no-arm (c .match .rest))) ∙ c .before .before .pre .0 in
     absurd (omega arith)
 
 pub fields-of-spec : {M : Type 1} → statement M

@@ -34,7 +34,19 @@ decimal-requires-6 c κs = search needs
 
 returns : tie.Need-returns
 unfolding givenRecord gpsOf
-returns c = rw (c .decimal6 .ensures, c .before .decimal5 .ensures, c .before .before .decimal4 .ensures, c .before .before .before .decimal3 .ensures, c .before .before .before .before .decimal2 .ensures, c .before .before .before .before .before .decimal .ensures, c .before .before .before .before .before .before .word-at3 .ensures, c .before .before .before .before .before .before .before .word-at2 .ensures, c .before .before .before .before .before .before .before .before .word-at .ensures)
+returns c =
+    let read = c .before .before .before .before .before .before in
+    rw (
+      c .decimal6 .ensures,
+      c .before .decimal5 .ensures,
+      c .before .before .decimal4 .ensures,
+      c .before .before .before .decimal3 .ensures,
+      c .before .before .before .before .decimal2 .ensures,
+      c .before .before .before .before .before .decimal .ensures,
+      read .word-at3 .ensures,
+      read .before .word-at2 .ensures,
+      read .before .before .word-at .ensures,
+    )
 
 pub gps-of-spec : {M : Type 1} → statement M
 gps-of-spec =

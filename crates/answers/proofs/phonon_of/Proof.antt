@@ -42,7 +42,22 @@ signed-at-requires-11 c κs = search needs
 
 returns : tie.Need-returns
 unfolding givenRecord phononOf
-returns c = rw (c .signed-at11 .ensures, c .before .signed-at10 .ensures, c .before .before .signed-at9 .ensures, c .before .before .before .signed-at8 .ensures, c .before .before .before .before .signed-at7 .ensures, c .before .before .before .before .before .signed-at6 .ensures, c .before .before .before .before .before .before .signed-at5 .ensures, c .before .before .before .before .before .before .before .signed-at4 .ensures, c .before .before .before .before .before .before .before .before .signed-at3 .ensures, c .before .before .before .before .before .before .before .before .before .signed-at2 .ensures, c .before .before .before .before .before .before .before .before .before .before .signed-at .ensures) (simp kept)
+returns c =
+    let seventh = c .before .before .before .before in
+    let third = seventh .before .before .before .before in
+    rw (
+      c .signed-at11 .ensures,
+      c .before .signed-at10 .ensures,
+      c .before .before .signed-at9 .ensures,
+      c .before .before .before .signed-at8 .ensures,
+      seventh .signed-at7 .ensures,
+      seventh .before .signed-at6 .ensures,
+      seventh .before .before .signed-at5 .ensures,
+      seventh .before .before .before .signed-at4 .ensures,
+      third .signed-at3 .ensures,
+      third .before .signed-at2 .ensures,
+      third .before .before .signed-at .ensures,
+    ) (simp kept)
 
 pub phonon-of-spec : {M : Type 1} → statement M
 phonon-of-spec =

@@ -43,7 +43,22 @@ signed-at-requires-7 c κs = search needs
 
 returns : tie.Need-returns
 unfolding givenSetting phononOf phononSetting
-returns c = rw (c .signed-at7 .ensures, c .before .signed-at6 .ensures, c .before .before .signed-at5 .ensures, c .before .before .before .signed-at4 .ensures, c .before .before .before .before .signed-at3 .ensures, c .before .before .before .before .before .hundredth-at4 .ensures, c .before .before .before .before .before .before .hundredth-at3 .ensures, c .before .before .before .before .before .before .before .hundredth-at2 .ensures, c .before .before .before .before .before .before .before .before .hundredth-at .ensures, c .before .before .before .before .before .before .before .before .before .signed-at2 .ensures, c .before .before .before .before .before .before .before .before .before .before .signed-at .ensures) (simp kept)
+returns c =
+    let units = c .before .before .before .before .before in
+    let front = units .before .before .before .before in
+    rw (
+      c .signed-at7 .ensures,
+      c .before .signed-at6 .ensures,
+      c .before .before .signed-at5 .ensures,
+      c .before .before .before .signed-at4 .ensures,
+      c .before .before .before .before .signed-at3 .ensures,
+      units .hundredth-at4 .ensures,
+      units .before .hundredth-at3 .ensures,
+      units .before .before .hundredth-at2 .ensures,
+      units .before .before .before .hundredth-at .ensures,
+      front .signed-at2 .ensures,
+      front .before .signed-at .ensures,
+    ) (simp kept)
 
 pub phonon-setting-spec : {M : Type 1} → statement M
 phonon-setting-spec =

@@ -25,7 +25,7 @@ body-at-requires : tie.Need-body-at-requires
 body-at-requires c κs = found (c .before) .fits
 
 fields-of-requires : tie.Need-fields-of-requires
-fields-of-requires c κs = (body-follows (found (c .before .before)) (c .body-at .ensures), body-ends (found (c .before .before)) (c .body-at .ensures))
+fields-of-requires c κs = let g = found (c .before .before) in (body-follows g (c .body-at .ensures), body-ends g (c .body-at .ensures))
 
 enum-known-number : tie.Need-enum-known-number
 enum-known-number c = search needs

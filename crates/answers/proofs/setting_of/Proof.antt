@@ -1,17 +1,23 @@
--- `answers::setting_of` meets its contract. At each entry's kind word the definition's test computes, and the rule gives the body's length.
+-- `answers::setting_of` meets its contract. At each entry's kind word the definition's test computes; the rule gives the body's length.
 -- In the default both tests fail.
+use Prim.Native.Nat.{_≤_}
+use lib.ListN.{length}
 use borrow.Author.Tests.{ne-eqb}
 use Rattle.note.specs.Answers.{givenSetting}
-use Rattle.rules.proofs.LengthLaws.{long-enough}
+use Rattle.rules.proofs.LengthLaws.{least, long-enough}
 use Rattle.answers.proofs.setting_of.Statement.{statement}
 use Rattle.answers.proofs.setting_of.Tie as tie
 use denote.Ref.{now}
 
+-- From the start on: the body is as long as its kind asks.
+long : (c : tie.After-shared-slice-known) → least (c .before .args .kind) ≤ length (now (c .before .args .b))
+long c = long-enough _ _ (c .before .pre)
+
 phonon-setting-requires : tie.Need-phonon-setting-requires
-phonon-setting-requires c κs = rw (c .match .keys1) at (long-enough _ (now (c .before .before .args .b)) (c .before .before .pre))
+phonon-setting-requires c κs = rw (c .match .keys1) at (long (c .before))
 
 charge-setting-requires : tie.Need-charge-setting-requires
-charge-setting-requires c κs = rw (c .match .keys2) at (long-enough _ (now (c .before .before .args .b)) (c .before .before .pre))
+charge-setting-requires c κs = rw (c .match .keys2) at (long (c .before))
 
 returns : tie.Need-returns
 returns c = rw (c .before .match .keys1) (c .phonon-setting .ensures)

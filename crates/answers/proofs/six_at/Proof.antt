@@ -37,7 +37,16 @@ word-at-requires-6 : tie.Need-word-at-requires-6
 word-at-requires-6 c κs = search needs
 
 returns : tie.Need-returns
-returns c = rw (c .word-at6 .ensures, c .before .word-at5 .ensures, c .before .before .word-at4 .ensures, c .before .before .before .word-at3 .ensures, c .before .before .before .before .word-at2 .ensures, c .before .before .before .before .before .word-at .ensures)
+returns c =
+    let third = c .before .before .before in
+    rw (
+      c .word-at6 .ensures,
+      c .before .word-at5 .ensures,
+      c .before .before .word-at4 .ensures,
+      third .word-at3 .ensures,
+      third .before .word-at2 .ensures,
+      third .before .before .word-at .ensures,
+    )
 
 pub six-at-spec : {M : Type 1} → statement M
 six-at-spec =

@@ -26,7 +26,16 @@ word-at-requires-5 c κs = search needs
 
 returns : tie.Need-returns
 unfolding givenRecord traceOf
-returns c = rw (c .word-at5 .ensures, c .before .word-at4 .ensures, c .before .before .signed-at .ensures, c .before .before .before .word-at3 .ensures, c .before .before .before .before .word-at2 .ensures, c .before .before .before .before .before .word-at .ensures) (simp kept)
+returns c =
+    let third = c .before .before .before in
+    rw (
+      c .word-at5 .ensures,
+      c .before .word-at4 .ensures,
+      c .before .before .signed-at .ensures,
+      third .word-at3 .ensures,
+      third .before .word-at2 .ensures,
+      third .before .before .word-at .ensures,
+    ) (simp kept)
 
 pub trace-of-spec : {M : Type 1} → statement M
 trace-of-spec =

@@ -36,29 +36,24 @@ is-named-requires c κs = search needs
 or-unless-requires-3 : tie.Need-or-unless-requires-3
 or-unless-requires-3 c κs = search needs
 
+-- The steps are named by how many tests have been asked.
 returns : tie.Need-returns
 unfolding bookkeepingRule
 returns c =
-    let at1 = c .before in
-    let at2 = at1 .before in
-    let at3 = at2 .before in
-    let at4 = at3 .before in
-    let at5 = at4 .before in
-    let at6 = at5 .before in
-    let at7 = at6 .before in
-    let at8 = at7 .before in
-    let at9 = at8 .before in
+    let three = c .before .before .before in
+    let two = three .before .before .before in
+    let one = two .before .before in
     rw (
       c .or-unless3 .ensures,
-      at1 .is-named .ensures,
-      at2 .word-at4 .ensures,
-      at3 .or-unless2 .ensures,
-      at4 .is-channel .ensures,
-      at5 .word-at3 .ensures,
-      at6 .or-unless .ensures,
-      at7 .word-at2 .ensures,
-      at8 .unless .ensures,
-      at9 .word-at .ensures,
+      c .before .is-named .ensures,
+      c .before .before .word-at4 .ensures,
+      three .or-unless2 .ensures,
+      three .before .is-channel .ensures,
+      three .before .before .word-at3 .ensures,
+      two .or-unless .ensures,
+      two .before .word-at2 .ensures,
+      one .unless .ensures,
+      one .before .word-at .ensures,
     ) (simp first-of-part)
 
 pub bookkeeping-rule-spec : {M : Type 1} → statement M

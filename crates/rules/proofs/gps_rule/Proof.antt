@@ -52,33 +52,24 @@ earlier-requires c κs = search needs
 returns-2 : tie.Need-returns-2
 unfolding gpsOf
 returns-2 c =
-    let at1 = c .before in
-    let at2 = at1 .before in
-    let at3 = at2 .before in
-    let at4 = at3 .before in
-    let at5 = at4 .before in
-    let at6 = at5 .before in
-    let at7 = at6 .before in
-    let at8 = at7 .before in
-    let at9 = at8 .before in
-    let at10 = at9 .before in
-    let at11 = at10 .before in
-    let at12 = at11 .before in
+    let decoded = c .before .before in
+    let digits = decoded .before .before .before .before .before .before in
+    let read = digits .before in
     rw (
       c .earlier .ensures,
-      at1 .gps-fault .ensures,
-      at2 .decimal6 .ensures,
-      at3 .decimal5 .ensures,
-      at4 .decimal4 .ensures,
-      at5 .decimal3 .ensures,
-      at6 .decimal2 .ensures,
-      at7 .decimal .ensures,
-      at8 .gps-digits-fault .ensures,
-      at9 .word-at3 .ensures,
-      at10 .word-at2 .ensures,
-      at11 .word-at .ensures,
+      c .before .gps-fault .ensures,
+      decoded .decimal6 .ensures,
+      decoded .before .decimal5 .ensures,
+      decoded .before .before .decimal4 .ensures,
+      decoded .before .before .before .decimal3 .ensures,
+      decoded .before .before .before .before .decimal2 .ensures,
+      decoded .before .before .before .before .before .decimal .ensures,
+      digits .gps-digits-fault .ensures,
+      read .word-at3 .ensures,
+      read .before .word-at2 .ensures,
+      read .before .before .word-at .ensures,
       gps-rule-in-parts,
-      eq-eqb _ _ (at12 .if1 .left),
+      eq-eqb _ _ (read .before .before .before .if1 .left),
     ) (simp pass-over)
 
 pub gps-rule-spec : {M : Type 1} → statement M

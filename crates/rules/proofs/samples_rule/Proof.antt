@@ -30,20 +30,15 @@ or-unless-requires c κs = search needs
 returns : tie.Need-returns
 unfolding samplesRule
 returns c =
-    let at1 = c .before in
-    let at2 = at1 .before in
-    let at3 = at2 .before in
-    let at4 = at3 .before in
-    let at5 = at4 .before in
-    let at6 = at5 .before in
+    let faults = c .before .before in
     rw (
       c .or-unless .ensures,
-      at1 .word-at3 .ensures,
-      at2 .earlier .ensures,
-      at3 .count-fault .ensures,
-      at4 .unless .ensures,
-      at5 .word-at2 .ensures,
-      at6 .word-at .ensures,
+      c .before .word-at3 .ensures,
+      faults .earlier .ensures,
+      faults .before .count-fault .ensures,
+      faults .before .before .unless .ensures,
+      faults .before .before .before .word-at2 .ensures,
+      faults .before .before .before .before .word-at .ensures,
     ) (simp first-of-part)
 
 pub samples-rule-spec : {M : Type 1} → statement M

@@ -61,22 +61,17 @@ or-unless-requires c κs = search needs
 returns-4 : tie.Need-returns-4
 unfolding sectionRule widthAt widthOf
 returns-4 c =
-    let at1 = c .before in
-    let at2 = at1 .before in
-    let at3 = at2 .before in
-    let at4 = at3 .before in
-    let at5 = at4 .before in
-    let at6 = at5 .before in
-    let at7 = at6 .before in
+    let width = c .before .before .before in
+    let sized = width .before in
     rw (
-      le-leb _ _ (at7 .if1 .left),
-      ← at6 .word-at .ensures,
-      le-leb _ _ (at5 .if2 .left),
-      le-leb _ _ (at4 .if3 .left),
-      ← at3 .word-at2 .ensures,
-      ← at1 .is-width .ensures,
+      le-leb _ _ (sized .before .before .before .if1 .left),
+      ← sized .before .before .word-at .ensures,
+      le-leb _ _ (sized .before .if2 .left),
+      le-leb _ _ (sized .if3 .left),
+      ← width .word-at2 .ensures,
+      ← c .before .is-width .ensures,
       c .or-unless .ensures,
-      at2 .unless .ensures,
+      c .before .before .unless .ensures,
     ) (simp pass-over)
 
 pub section-rule-spec : {M : Type 1} → statement M

@@ -24,21 +24,19 @@ word-at-requires-3 c κs = search needs
 or-unless-requires-2 : tie.Need-or-unless-requires-2
 or-unless-requires-2 c κs = search needs
 
+-- The steps are named by how many tests have been asked.
 returns : tie.Need-returns
 unfolding timebaseRule
 returns c =
-    let at1 = c .before in
-    let at2 = at1 .before in
-    let at3 = at2 .before in
-    let at4 = at3 .before in
-    let at5 = at4 .before in
+    let two = c .before .before in
+    let one = two .before .before in
     rw (
       c .or-unless2 .ensures,
-      at1 .word-at3 .ensures,
-      at2 .or-unless .ensures,
-      at3 .word-at2 .ensures,
-      at4 .unless .ensures,
-      at5 .word-at .ensures,
+      c .before .word-at3 .ensures,
+      two .or-unless .ensures,
+      two .before .word-at2 .ensures,
+      one .unless .ensures,
+      one .before .word-at .ensures,
     ) (simp first-of-part)
 
 pub timebase-rule-spec : {M : Type 1} → statement M

@@ -45,22 +45,17 @@ or-unless-requires c κs = search needs
 returns-2 : tie.Need-returns-2
 unfolding traceRule
 returns-2 c =
-    let at1 = c .before in
-    let at2 = at1 .before in
-    let at3 = at2 .before in
-    let at4 = at3 .before in
-    let at5 = at4 .before in
-    let at6 = at5 .before in
-    let at7 = at6 .before in
+    let blocks = c .before .before in
+    let both = blocks .before .before in
     rw (
       c .or-unless .ensures,
-      at1 .word-at .ensures,
-      at2 .earlier2 .ensures,
-      at3 .samples-rule .ensures,
-      at4 .earlier .ensures,
-      at5 .timebase-rule .ensures,
-      at6 .bookkeeping-rule .ensures,
-      le-leb _ _ (at7 .if1 .left),
+      c .before .word-at .ensures,
+      blocks .earlier2 .ensures,
+      blocks .before .samples-rule .ensures,
+      both .earlier .ensures,
+      both .before .timebase-rule .ensures,
+      both .before .before .bookkeeping-rule .ensures,
+      le-leb _ _ (both .before .before .before .if1 .left),
     ) (simp (first-of-part, pass-over))
 
 pub trace-rule-spec : {M : Type 1} → statement M
