@@ -13,7 +13,8 @@ use Rattle.note.specs.Rows.{rowNumbers, flat}
 use Rattle.rows.specs.Buffers.{stored}
 
 pub six-stores : (l : List ℕ) (i a b c d e f : ℕ)
-    → set (set (set (set (set (set l i a) (i + 1) b) (i + 2) c) (i + 3) d) (i + 4) e) (i + 5) f ≡ sets l i (a ∷ b ∷ c ∷ d ∷ e ∷ f ∷ [])
+    → set (set (set (set (set (set l i a) (i + 1) b) (i + 2) c) (i + 3) d) (i + 4) e) (i + 5) f
+    ≡ sets l i (a ∷ b ∷ c ∷ d ∷ e ∷ f ∷ [])
 six-stores l i a b c d e f =
     let p : i + 1 ≡ suc i = omega arith in
     let q : i + 2 ≡ suc (suc i) = omega arith in

@@ -92,7 +92,8 @@ module _ (k : ℕ) (b : List ℕ) {at : Standing} (is : at ≡ standingOf k) whe
       unfolding valuesOf standingOf
       others-values ex ey =
           let (p, q) = kind-cases
-          (λ w z. (z .row ≡ 8 → ⊥) → (z .row ≡ 0 → ⊥) → (z .one b ≡ word (oneAt (z .row)) b) × (z .two b ≡ word (twoAt (z .row)) b)) k
+          (λ w z. (z .row ≡ 8 → ⊥) → (z .row ≡ 0 → ⊥)
+          → (z .one b ≡ word (oneAt (z .row)) b) × (z .two b ≡ word (twoAt (z .row)) b)) k
           (λ p q. (refl, refl)) (λ p q. (refl, refl)) (λ p q. (refl, refl)) (λ p q. (refl, refl))
           (λ p q. absurd (p refl))
           (λ p q. (refl, refl)) (λ p q. (refl, refl)) (λ p q. (refl, refl)) (λ p q. absurd (q refl))

@@ -113,7 +113,8 @@ module _ {bs : List ℕ} {place n : ℕ} (g : Found bs place 0x11 n) where
   unfolding samplesAt
   part-given = rw (part-found, cut-size)
 
-  pub sample-given : (m : ℕ) → 1 ≤ m → m ≤ (n - 48) / 2 → {v : ℕ} → v ≡ sampleIn cut m → accepted (counts (v ∷ [])) ≡ sampleAt bs place m
+  pub sample-given : (m : ℕ) → 1 ≤ m → m ≤ (n - 48) / 2 → {v : ℕ} → v ≡ sampleIn cut m
+      → accepted (counts (v ∷ [])) ≡ sampleAt bs place m
   unfolding sampleAt traceOf
   sample-given m l h e = rw (g .found, le-leb 1 m l, le-leb m count (omega (arith, size-of-trace, h)), e, cut-size, part-bytes)
 

@@ -1,4 +1,5 @@
--- `exports::dwj_setting` meets its contract: the answer's case is the definition's; each whole word is the same number in 64 bits, and each float goes over as it is.
+-- `exports::dwj_setting` meets its contract: the answer's case is the definition's.
+-- Each whole word is the same number in 64 bits, and each float goes over as it is.
 use mathlib.Core.Path.{refl}
 use mathlib.Core.List.{_∷_}
 use lib.ListN.{replicate}
@@ -69,16 +70,20 @@ enum-known-number c = search needs
 returns : tie.Need-returns
 unfolding numberOf placeAfter wholesIn wholesAfter floatsIn floatsAfter givenSetting
 returns c =
-    let read = c .before .before .before in
+    let held = c .before .before in
+    let read = held .before in
+    let fields = signed ∷ signed ∷ float ∷ float ∷ float ∷ float ∷ replicate 5 signed in
     rw (← read .before .before .setting .ensures, read .code .given .1)
-    (refl, (told (signed ∷ signed ∷ float ∷ float ∷ float ∷ float ∷ replicate 5 signed) (read .code .given .0) (c .before .before .known-told .given) _, (refl, refl)))
+    (refl, (told fields (read .code .given .0) (held .known-told .given) _, (refl, refl)))
 
 returns-2 : tie.Need-returns-2
 unfolding numberOf placeAfter wholesIn wholesAfter floatsIn floatsAfter givenSetting
 returns-2 c =
-    let read = c .before .before .before in
+    let held = c .before .before in
+    let read = held .before in
+    let fields = signed ∷ signed ∷ float ∷ replicate 5 signed in
     rw (← read .before .before .setting .ensures, read .code2 .given .1)
-    (refl, (told (signed ∷ signed ∷ float ∷ replicate 5 signed) (read .code2 .given .0) (c .before .before .known-told2 .given) _, (refl, refl)))
+    (refl, (told fields (read .code2 .given .0) (held .known-told2 .given) _, (refl, refl)))
 
 returns-3 : tie.Need-returns-3
 unfolding numberOf placeAfter wholesIn wholesAfter floatsIn floatsAfter givenSetting

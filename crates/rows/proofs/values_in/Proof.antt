@@ -63,7 +63,8 @@ returns-2 : tie.Need-returns-2
 returns-2 c =
     let test = c .before .before in
     let looked = test .before .before in
-    others-values _ _ (looked .value-places .ensures) (looked .before .before .pre .0) (test .if1 .left) (c .before .word-at3 .ensures) (c .word-at4 .ensures)
+    others-values _ _ (looked .value-places .ensures) (looked .before .before .pre .0) (test .if1 .left)
+    (c .before .word-at3 .ensures) (c .word-at4 .ensures)
 
 pub values-in-spec : {M : Type 1} → statement M
 values-in-spec =

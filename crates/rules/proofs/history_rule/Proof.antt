@@ -82,7 +82,8 @@ whole c = body (middle c .before .before .before)
 trigger-passed : (c : tie.Else4) → sectionRule true (middle c .section-end .result) (whole c) ≡ 0
 trigger-passed c = sym (c .before .section-rule2 .ensures) ∙ c .if4 .left
 
-end-asked : (c : tie.Else4) → historyRule (whole c) ≡ first (unless (eqb (length (whole c)) (after (middle c .section-end .result) (whole c))) 6 ∷ [])
+end-asked : (c : tie.Else4)
+    → historyRule (whole c) ≡ first (unless (eqb (length (whole c)) (after (middle c .section-end .result) (whole c))) 6 ∷ [])
 unfolding first
 end-asked c =
     let veto = middle c .before in

@@ -1,4 +1,5 @@
--- `rules::section_end` meets its contract: the places are the definition's; the product fits because the width is a signed number and the times lie in the body.
+-- `rules::section_end` meets its contract: the places are the definition's.
+-- The idea: the product fits because the width is a signed number and the times lie in the body.
 use Prim.Native.Nat.{_*_, _≤_}
 use native.Mathlib.Omega.{arith}
 use Rattle.note.specs.History.{widthAt, widthOf, after}
