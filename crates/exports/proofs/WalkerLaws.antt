@@ -1,9 +1,9 @@
 -- A walker for C goes the walker's way: its numbers carry all that a step asks, so from opening its k-th yield is the table's k-th row,
 -- then the end.
 -- The idea: a step does not ask what was yielded last, and the numbers that are 32 bits wide fit them.
-use mathlib.Core.Path.{_≡_, refl, sym, ap, _∙_}
-use mathlib.Core.Bool.{Bool, true, false, cond, _&&_, and-eq-true-iff}
-use mathlib.Core.List.{List, [], _∷_}
+use mathlib.Core.Path.{_≡_, refl, ap, _∙_}
+use mathlib.Core.Bool.{Bool, true, false, cond, and-eq-true-iff}
+use mathlib.Core.List.{List}
 use Prim.Native.Nat.{ℕ, zero, suc, _≤_, _<_}
 use native.Mathlib.Omega.{arith}
 use lib.Dec.{leb, ltb, eqb}
@@ -14,7 +14,6 @@ use Rattle.note.specs.Limits.{fileLimit}
 use Rattle.note.specs.Words.{word}
 use Rattle.note.specs.Answers.{givenYield}
 use Rattle.note.specs.Rows.{yieldAt}
-use Rattle.note.specs.declared.WalkerYield.the-variants.{End}
 use Rattle.rows.specs.Values.{hasValues}
 use Rattle.walk.specs.declared.Spot.{Spot}
 use Rattle.walk.specs.Steps.{stands, bodyIn, stayed, ended, headerStep, recordStep, containerStep, usable, stepOf, openedOf, stepsFrom}

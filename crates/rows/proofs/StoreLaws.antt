@@ -1,15 +1,15 @@
 -- Rows in the buffer: one row's six stores, rows after rows, and the buffer from its first row on.
 -- The idea: rows stored one after the other are one run of numbers, whatever was stored before them.
-use Prim.Native.Nat.{ℕ, zero, suc, _+_, _*_, _≤_, _<_}
+use Prim.Native.Nat.{ℕ, suc, _+_, _*_, _≤_, _<_}
 use native.Mathlib.Omega.{arith}
 use mathlib.Core.Path.{_≡_, refl, sym, ap, _∙_}
 use mathlib.Core.List.{List, [], _∷_, _++_, append-assoc}
-use lib.ListN.{length, set, take, drop}
+use lib.ListN.{length, set, drop}
 use lib.Seq.{sets, sets-eq, length-sets, set-comm}
 use Rattle.theory.specs.Layout.{Row}
 use Rattle.theory.proofs.StoreLaws.{sets-append}
 use Rattle.note.specs.Limits.{rowWidth}
-use Rattle.note.specs.Rows.{rowNumbers, flat}
+use Rattle.note.specs.Rows.{flat}
 use Rattle.rows.specs.Buffers.{stored}
 
 pub six-stores : (l : List ℕ) (i a b c d e f : ℕ)

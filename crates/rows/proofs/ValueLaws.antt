@@ -1,7 +1,7 @@
 -- A row's values stand where the code reads them, and a body that follows its kind's rule holds them.
 -- The idea: the choice of a kind is taken apart once (kind-cases), and for each kind both sides compute.
-use mathlib.Core.Path.{_≡_, refl, sym, ap, _∙_}
-use mathlib.Core.Bool.{Bool, true, false, cond, not, _&&_, true≢false}
+use mathlib.Core.Path.{_≡_, refl, sym, _∙_}
+use mathlib.Core.Bool.{true, false, true≢false}
 use mathlib.Core.List.{List}
 use Prim.Native.Nat.{ℕ, _+_, _≤_}
 use native.Mathlib.Omega.{arith}
@@ -9,12 +9,11 @@ use lib.Dec.{leb, eqb}
 use lib.ListN.{length}
 use borrow.Author.Tests.{le-leb, leb-true, eq-eqb, ne-eqb, eqb-true}
 use Rattle.note.specs.Words.{word}
-use Rattle.note.specs.Kinds.{Kind}
 use Rattle.note.specs.Phonon.{phononKind}
 use Rattle.note.specs.Charge.{chargeKind}
 use Rattle.note.specs.Administrative.{administrativeKind}
 use Rattle.note.specs.Trace.{traceKind}
-use Rattle.note.specs.History.{historyRule, historyKind, triggerAt}
+use Rattle.note.specs.History.{historyRule, triggerAt}
 use Rattle.note.specs.Gps.{gpsKind}
 use Rattle.note.specs.Trigger.{triggerKind}
 use Rattle.note.specs.Tlb.{tlbKind}

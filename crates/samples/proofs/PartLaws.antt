@@ -1,11 +1,11 @@
 -- Where the samples stand: a part of the file, which is empty exactly where no trace was found.
 -- The idea: what Record finds is either a refusal, or another kind, or a trace, whose body has 48 bytes before at least two samples.
-use Prim.Native.Nat.{ℕ, _+_, _-_, _*_, _≤_, _<_}
+use Prim.Native.Nat.{ℕ, _+_, _-_, _≤_, _<_}
 use mathlib.Core.Path.{_≡_, refl, sym, ap, _∙_}
-use mathlib.Core.List.{List, []}
+use mathlib.Core.List.{List}
 use native.Mathlib.Decide.{ℕ-discrete}
 use native.Mathlib.Omega.{arith}
-use lib.ListN.{length, take, drop}
+use lib.ListN.{length}
 use Rattle.theory.specs.Tests.{Res, ok, bad}
 use Rattle.note.specs.Limits.{fileLimit}
 use Rattle.note.specs.Records.{Record}

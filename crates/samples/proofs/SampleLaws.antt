@@ -7,12 +7,11 @@ use native.Mathlib.Omega.{arith}
 use lib.ListN.{length, take, drop, length-drop}
 use lib.Seq.{drop-drop, length-take-le}
 use borrow.Author.Tests.{le-leb, lt-leb, ne-eqb}
-use Rattle.theory.specs.Tests.{unless, first}
 use Rattle.theory.proofs.TestLaws.{first-at, equal-passed, most-passed}
 use Rattle.note.specs.Words.{word}
 use Rattle.note.specs.Trace.{traceTests, samplesRule, countFault, traceRule, traceOf, sampleIn}
 use Rattle.note.specs.Records.{recordRule, kindOf}
-use Rattle.note.specs.Answers.{Given, accepted, refused, counts, givenSample}
+use Rattle.note.specs.Answers.{accepted, refused, counts}
 use Rattle.note.specs.Calls.{recordFound, samplesPart, samplesAt, sampleAt}
 use Rattle.record.specs.declared.Step.{Step}
 use Rattle.record.specs.declared.Step.the-variants.{Bad}

@@ -1,7 +1,6 @@
 -- `exports::dwj_channel` meets its contract: where the number is 0 the four numbers and the names go over, and otherwise nothing is stored.
 use mathlib.Core.Path.{refl}
 use borrow.Author.Tests.{ne-eqb}
-use mathlib.Core.Bool.{cond}
 use borrow.Author.Needs.{needs}
 use Rattle.exports.proofs.dwj_channel.Statement.{statement}
 use Rattle.exports.proofs.dwj_channel.Tie as tie

@@ -1,6 +1,6 @@
 -- `rows::value_places` meets its contract: at each kind word the definition's kind computes.
 -- The idea: a match's arm knows its kind word; the last arm knows that it is none of the eight.
-use mathlib.Core.Path.{_≡_, sym, ap}
+use mathlib.Core.Path.{sym, ap}
 use Rattle.note.specs.Kinds.{Kind}
 use Rattle.note.specs.Records.{kindOf}
 use Rattle.rules.proofs.KindLaws.{no-arm}
