@@ -1,11 +1,10 @@
 -- What stands at the front of a structure's bytes, and how many structures its contents are by their length words alone.
 -- The idea: a structure's bytes are its two words and its body, whatever follows.
-use mathlib.Core.Path.{_≡_, refl, sym, ap, ap₂, _∙_, subst}
+use mathlib.Core.Path.{_≡_, refl, sym, ap, ap₂, _∙_}
 use mathlib.Core.Bool.{true, false, cond}
-use mathlib.Core.List.{List, [], _∷_, _++_, append-assoc, append-nil}
-use Prim.Native.Nat.{ℕ, zero, suc, _+_, _≤_, _<_}
+use mathlib.Core.List.{List, [], _∷_, _++_, append-assoc}
+use Prim.Native.Nat.{ℕ, zero, suc, _+_, _-_, _≤_}
 use native.Mathlib.Omega.{arith}
-use lib.Dec.{leb}
 use lib.ListN.{length, take, drop, length-append}
 use lib.Seq.{take-at, drop-at, drop-drop}
 use borrow.Author.Tests.{le-leb}
@@ -15,40 +14,49 @@ use Rattle.theory.proofs.WordLaws.{word-after-put}
 use Rattle.theory.proofs.StructureLaws.{second-word, length-two, drop-two}
 use Rattle.note.specs.Words.{order, word}
 use Rattle.note.specs.Records.{Record, Context, behind, recordBytes, recordsBytes}
-use Rattle.demands.specs.Valid.{ValidRecord, ValidRecords}
+use Rattle.demands.specs.Valid.{ValidRecords}
 use Rattle.walk.specs.Steps.{stands, countFrom, countIn}
-use Rattle.walk.proofs.StepLaws.{long-enough}
+use Rattle.walk.proofs.StepLaws.{long-enough, Found, cutBody}
 
 -- The bytes p begin with a structure's two words and its body, and go on with `rest`.
 pub record Front (p : List ℕ) (kind : ℕ) (body rest : List ℕ) : Type 0 where
-  pub kind-is : word 0 p ≡ kind
-  pub length-is : word 4 p ≡ length body
-  pub body-is : take (length body) (drop 8 p) ≡ body
+  pub found : Found p (length body)
+  pub kind-is : kind ≡ word 0 p
+  pub body-is : cutBody (length body) p ≡ body
   pub behind-is : drop (8 + length body) p ≡ rest
   pub size : length p ≡ 8 + length body + length rest
-  pub stands-here : stands p ≡ true
 
-pub front : {B : Type 0} (bodyBytes : B → List ℕ) (c : Structure B) (rest : List ℕ) → Fits 4 (c .kind) → Fits 4 (length (bodyBytes (c .body)))
-    → Front (structureBytes order bodyBytes c ++ rest) (c .kind) (bodyBytes (c .body)) rest
-front bodyBytes c rest hk hn =
-    let k : ℕ = c .kind in
-    let body : List ℕ = bodyBytes (c .body) in
-    let n : ℕ = length body in
-    let p : List ℕ = structureBytes order bodyBytes c ++ rest in
-    let shape : p ≡ put order 4 k ++ (put order 4 n ++ (body ++ rest)) =
-    append-assoc (put order 4 k) (put order 4 n ++ body) rest ∙ ap (λ (r : List ℕ). put order 4 k ++ r) (append-assoc (put order 4 n) body rest) in
-    let behind8 : drop 8 p ≡ body ++ rest = ap (drop 8) shape ∙ drop-two order k n (body ++ rest) in
-    let en : word 4 p ≡ n = ap (word 4) shape ∙ second-word order k n (body ++ rest) hn in
-    let size : length p ≡ 8 + n + length rest = omega (arith, ap length shape, length-two order k n (body ++ rest), length-append body rest) in
-    let fits : 8 + word 4 p ≤ length p = omega (arith, en, size) in
-    record {
-      kind-is = ap (word 0) shape ∙ word-after-put order 4 k (put order 4 n ++ (body ++ rest)) hk;
-      length-is = en;
-      body-is = ap (take n) behind8 ∙ take-at body rest n refl;
-      behind-is = sym (drop-drop n 8 p) ∙ ap (drop n) behind8 ∙ drop-at body rest n refl;
-      size = size;
-      stands-here = long-enough p (omega (arith, size)) ∙ le-leb (8 + word 4 p) (length p) fits;
-    }
+module _ {B : Type 0} (bodyBytes : B → List ℕ) (c : Structure B) (rest : List ℕ) where
+  abbrev bodyOf : List ℕ
+  bodyOf = bodyBytes (c .body)
+
+  abbrev bytes : List ℕ
+  bytes = structureBytes order bodyBytes c ++ rest
+
+  shape : bytes ≡ put order 4 (c .kind) ++ (put order 4 (length bodyOf) ++ (bodyOf ++ rest))
+  shape =
+      append-assoc (put order 4 (c .kind)) (put order 4 (length bodyOf) ++ bodyOf) rest
+      ∙ ap (λ (r : List ℕ). put order 4 (c .kind) ++ r) (append-assoc (put order 4 (length bodyOf)) bodyOf rest)
+
+  -- Behind a structure's two words: its body, and what follows.
+  pub contents : drop 8 bytes ≡ bodyOf ++ rest
+  contents = ap (drop 8) shape ∙ drop-two order (c .kind) (length bodyOf) (bodyOf ++ rest)
+
+  pub front : Fits 4 (c .kind) → Fits 4 (length bodyOf) → Front bytes (c .kind) bodyOf rest
+  front hk hn =
+      let n : ℕ = length bodyOf in
+      let en : word 4 bytes ≡ n = ap (word 4) shape ∙ second-word order (c .kind) n (bodyOf ++ rest) hn in
+      let size : length bytes ≡ 8 + n + length rest =
+      omega (arith, ap length shape, length-two order (c .kind) n (bodyOf ++ rest), length-append bodyOf rest) in
+      let fits : 8 + word 4 bytes ≤ length bytes = omega (arith, en, size) in
+      let same : 8 + n - 8 ≡ n = omega arith in
+      record {
+        found = record { is-here = long-enough bytes (omega (arith, size)) ∙ le-leb (8 + word 4 bytes) (length bytes) fits; length-is = sym en };
+        kind-is = sym (ap (word 0) shape ∙ word-after-put order 4 (c .kind) (put order 4 n ++ (bodyOf ++ rest)) hk);
+        body-is = ap₂ take same contents ∙ take-at bodyOf rest n refl;
+        behind-is = sym (drop-drop n 8 bytes) ∙ ap (drop n) contents ∙ drop-at bodyOf rest n refl;
+        size = size;
+      }
 
 none-counted : (f : ℕ) → countFrom f [] ≡ 0
 unfolding countFrom stands
@@ -62,10 +70,10 @@ counted-by c (r ∷ rs) v zero h =
     let w = front (λ (b : List ℕ). b) r (recordsBytes rs) (v .0 .kind-fits) (v .0 .length-fits) in
     absurd (omega (arith, w .size))
 counted-by c (r ∷ rs) v (suc f) h =
+    let p : List ℕ = recordBytes r ++ recordsBytes rs in
     let w = front (λ (b : List ℕ). b) r (recordsBytes rs) (v .0 .kind-fits) (v .0 .length-fits) in
-    let on : drop (8 + word 4 (recordBytes r ++ recordsBytes rs)) (recordBytes r ++ recordsBytes rs) ≡ recordsBytes rs =
-    ap (λ (n : ℕ). drop (8 + n) (recordBytes r ++ recordsBytes rs)) (w .length-is) ∙ w .behind-is in
-    rw (w .stands-here, on) (ap suc (counted-by (behind c (r .kind)) rs (v .1) f (omega (arith, w .size))))
+    let on : drop (8 + word 4 p) p ≡ recordsBytes rs = ap (λ (n : ℕ). drop (8 + n) p) (sym (w .found .length-is)) ∙ w .behind-is in
+    rw (w .found .is-here, on) (ap suc (counted-by (behind c (r .kind)) rs (v .1) f (omega (arith, w .size))))
 
 -- Valid records are as many structures by their length words.
 pub records-counted : (c : Context) (rs : List Record) → ValidRecords c rs → countIn (recordsBytes rs) ≡ length rs

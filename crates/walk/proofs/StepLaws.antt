@@ -22,7 +22,8 @@ use Rattle.containers.specs.Counts.{fileRows}
 use Rattle.rows.specs.Values.{hasValues, valuesOf}
 use Rattle.rows.specs.declared.Values.{Values}
 use Rattle.walk.specs.declared.Spot.{Spot}
-use Rattle.walk.specs.Steps.{stands, countFrom, countIn, containerRow, stayed, ended, refusedAt, moved, headerStep, bodyIn, recordRow, recordStep, containerStep, usable, stepOf, startOf}
+use Rattle.walk.specs.Steps.{stands, countFrom, countIn, containerRow, ended, refusedAt, moved, usable, startOf}
+use Rattle.walk.specs.Steps.{headerStep, bodyIn, recordStep, containerStep, stepOf}
 
 -- ---- what stands at the front
 
@@ -34,6 +35,9 @@ pub long-enough : (bs : List ℕ) → 8 ≤ length bs → stands bs ≡ leb (8 +
 unfolding stands
 long-enough bs h = rw (le-leb 8 (length bs) h)
 
+pub too-long : (bs : List ℕ) (n : ℕ) → n ≡ word 4 bs → 8 ≤ length bs → length bs < 8 + n → stands bs ≡ false
+too-long bs n en l h = long-enough bs l ∙ lt-leb (8 + word 4 bs) (length bs) (omega (arith, en))
+
 pub standing : (bs : List ℕ) → stands bs ≡ true → (8 ≤ length bs) × (8 + word 4 bs ≤ length bs)
 unfolding stands
 standing bs e =
@@ -41,6 +45,10 @@ standing bs e =
     (leb-true 8 (length bs) l, leb-true (8 + word 4 bs) (length bs) m)
 
 -- ---- counting
+
+-- What is left of the bytes behind the first n, as code cuts it.
+abbrev pub behind : ℕ → List ℕ → List ℕ
+behind n bs = take (length bs - n) (drop n bs)
 
 -- So many structures were counted, and the rest counts on.
 pub record Counting (bs rest : List ℕ) (count : ℕ) : Type 0 where
@@ -62,14 +70,16 @@ module _ {bs rest : List ℕ} {count : ℕ} (i : Counting bs rest count) where
       go zero q = omega (arith, q)
       go (suc f) q = let z : countFrom (suc f) rest ≡ 0 = rw e in omega (arith, q, z)
 
-  pub counts-on : (n : ℕ) → n ≡ word 4 rest → 8 ≤ length rest → 8 + n ≤ length rest → Counting bs (take (length rest - (8 + n)) (drop (8 + n) rest)) (count + 1)
+  pub counts-on : (n : ℕ) → n ≡ word 4 rest → 8 ≤ length rest → 8 + n ≤ length rest → Counting bs (behind (8 + n) rest) (count + 1)
   unfolding countFrom
   counts-on n en l h = go (i .fuel) (i .enough) (i .same)
     where
-      go : (f : ℕ) → length rest ≤ f → count + countFrom f rest ≡ countIn bs → Counting bs (take (length rest - (8 + n)) (drop (8 + n) rest)) (count + 1)
+      next : List ℕ
+      next = behind (8 + n) rest
+
+      go : (f : ℕ) → length rest ≤ f → count + countFrom f rest ≡ countIn bs → Counting bs next (count + 1)
       go zero m q = absurd (omega arith)
       go (suc f) m q =
-          let next : List ℕ = take (length rest - (8 + n)) (drop (8 + n) rest) in
           let same : next ≡ drop (8 + n) rest = sym (left (8 + n) rest) in
           let size : length next ≡ length rest - (8 + n) = ap length same ∙ length-drop (8 + n) rest in
           let here : stands rest ≡ true = long-enough rest l ∙ le-leb (8 + word 4 rest) (length rest) (omega (arith, en)) in
@@ -77,7 +87,7 @@ module _ {bs rest : List ℕ} {count : ℕ} (i : Counting bs rest count) where
           record { fuel = f; enough = omega (arith, size); same = omega (arith, q, step); low = omega (arith, size, i .low) }
 
 -- No more are counted than there are bytes.
-pub few-counted : (bs : List ℕ) → countIn bs ≤ length bs
+few-counted : (bs : List ℕ) → countIn bs ≤ length bs
 unfolding countIn countFrom
 few-counted bs = go (length bs) bs
   where
@@ -118,85 +128,120 @@ module _ (bs : List ℕ) (at : Spot) where
   unfolding containerStep
   container-none e = rw e
 
-  -- the body, as code cuts it
-  pub cut : (n : ℕ) → n ≡ word 4 bs → take (8 + n - 8) (drop 8 bs) ≡ bodyIn bs
-  cut n en = let e : 8 + n - 8 ≡ word 4 bs = omega (arith, en) in ap (λ (m : ℕ). take m (drop 8 bs)) e
+-- A structure stands at the front of the bytes, and n is its length word.
+pub record Found (bs : List ℕ) (n : ℕ) : Type 0 where
+  pub is-here : stands bs ≡ true
+  pub length-is : n ≡ word 4 bs
 
-  module _ (e : stands bs ≡ true) (k n : ℕ) (ek : k ≡ word 0 bs) (en : n ≡ word 4 bs) where
-    pub fits : 8 + n ≤ length bs
-    fits = omega (arith, en, standing bs e .1)
+-- The body of a structure whose length word is n, as code cuts it.
+abbrev pub cutBody : ℕ → List ℕ → List ℕ
+cutBody n bs = take (8 + n - 8) (drop 8 bs)
 
-    pub few-children : (c : ℕ) → c ≡ countIn (take (8 + n - 8) (drop 8 bs)) → c ≤ n
-    few-children c ec =
-        let size : length (bodyIn bs) ≡ word 4 bs = length-take-le (word 4 bs) (drop 8 bs) (omega (arith, length-drop 8 bs, standing bs e .1)) in
-        omega (arith, ec, few-counted (take (8 + n - 8) (drop 8 bs)), ap length (cut n en), size, en)
+module _ {bs : List ℕ} {n : ℕ} (f : Found bs n) where
+  pub fits : 8 + n ≤ length bs
+  fits = omega (arith, f .length-is, standing bs (f .is-here) .1)
 
-    pub record-empty : hasValues k (take (8 + n - 8) (drop 8 bs)) ≡ false → ended at ≡ recordStep bs at
+  cut-is : cutBody n bs ≡ bodyIn bs
+  cut-is = let e : 8 + n - 8 ≡ word 4 bs = omega (arith, f .length-is) in ap (λ (m : ℕ). take m (drop 8 bs)) e
+
+  -- No more children are counted than their container's length word says bytes.
+  pub few-children : (c : ℕ) → c ≡ countIn (cutBody n bs) → c ≤ n
+  few-children c ec =
+      let size : length (cutBody n bs) ≡ 8 + n - 8 = length-take-le (8 + n - 8) (drop 8 bs) (omega (arith, length-drop 8 bs, fits)) in
+      omega (arith, ec, few-counted (cutBody n bs), size)
+
+  module _ (at : Spot) (k : ℕ) (ek : k ≡ word 0 bs) where
+    pub record-empty : hasValues k (cutBody n bs) ≡ false → ended at ≡ recordStep bs at
     unfolding recordStep
-    record-empty h = let h′ : hasValues (word 0 bs) (bodyIn bs) ≡ false = rw (ek, cut n en) at h in rw (e, h′)
+    record-empty h = let h′ : hasValues (word 0 bs) (bodyIn bs) ≡ false = rw (ek, cut-is) at h in rw (f .is-here, h′)
 
-    pub record-here : hasValues k (take (8 + n - 8) (drop 8 bs)) ≡ true → (v : Values) → v ≡ valuesOf k (take (8 + n - 8) (drop 8 bs))
+    pub record-here : hasValues k (cutBody n bs) ≡ true → (v : Values) → v ≡ valuesOf k (cutBody n bs)
         → moved at (at .place + (8 + n)) (at .end) (at .parent) (Row (v .kind) (at .place) (8 + n) (at .parent) (v .one) (v .two)) ≡ recordStep bs at
     unfolding recordStep
     record-here h v ev =
-        let h′ : hasValues (word 0 bs) (bodyIn bs) ≡ true = rw (ek, cut n en) at h in
-        let v′ : v ≡ valuesOf (word 0 bs) (bodyIn bs) = rw (ek, cut n en) at ev in
-        rw (e, h′, v′, en)
+        let h′ : hasValues (word 0 bs) (bodyIn bs) ≡ true = rw (ek, cut-is) at h in
+        let v′ : v ≡ valuesOf (word 0 bs) (bodyIn bs) = rw (ek, cut-is) at ev in
+        rw (f .is-here, h′, v′, f .length-is)
 
-    pub container-here : (c : ℕ) → c ≡ countIn (take (8 + n - 8) (drop 8 bs)) → (row : WalkerYield) → row ≡ containerRow (at .place) (8 + n) k c
+    pub container-here : (c : ℕ) → c ≡ countIn (cutBody n bs) → (row : WalkerYield) → row ≡ containerRow (at .place) (8 + n) k c
         → moved at (at .place + 8) (at .place + (8 + n)) (at .rows + 1) row ≡ containerStep bs at
     unfolding containerStep
     container-here c ec row er =
-        let c′ : c ≡ countIn (bodyIn bs) = rw (cut n en) at ec in
-        rw (e, er, ek, c′, en)
+        let c′ : c ≡ countIn (bodyIn bs) = rw cut-is at ec in
+        rw (f .is-here, er, ek, c′, f .length-is)
 
 -- ---- which step it is
 
-module _ (bs : List ℕ) (at : Spot) where
-  pub step-refused : (at .number ≡ 0 → ⊥) → refusedAt at ≡ stepOf bs at
+pub step-refused : (bs : List ℕ) (at : Spot) → (at .number ≡ 0 → ⊥) → refusedAt at ≡ stepOf bs at
+unfolding stepOf
+step-refused bs at n = rw (ne-eqb (at .number) 0 n)
+
+-- Of an accepted file: each law takes the tests that the code has passed, in its order.
+module _ (bs : List ℕ) (at : Spot) (z : at .number ≡ 0) where
+  unusable : usable bs at ≡ false → ended at ≡ stepOf bs at
   unfolding stepOf
-  step-refused n = rw (ne-eqb (at .number) 0 n)
+  unusable u = rw (eq-eqb (at .number) 0 z, u)
 
-  module _ (z : at .number ≡ 0) where
-    pub step-unusable : usable bs at ≡ false → ended at ≡ stepOf bs at
-    unfolding stepOf
-    step-unusable u = rw (eq-eqb (at .number) 0 z, u)
+  pub over-limit : fileLimit < length bs → ended at ≡ stepOf bs at
+  unfolding usable
+  over-limit h = unusable (rw (lt-leb (length bs) fileLimit h))
 
-    pub over-limit : fileLimit < length bs → usable bs at ≡ false
+  module _ (l : length bs ≤ fileLimit) where
+    limit-kept : leb (length bs) fileLimit ≡ true
+    limit-kept = le-leb (length bs) fileLimit l
+
+    pub over-rows : fileLimit < at .rows → ended at ≡ stepOf bs at
     unfolding usable
-    over-limit h = rw (lt-leb (length bs) fileLimit h)
+    over-rows h = unusable (rw (limit-kept, lt-leb (at .rows) fileLimit h))
 
-    module _ (l : length bs ≤ fileLimit) where
-      pub over-rows : fileLimit < at .rows → usable bs at ≡ false
+    module _ (r : at .rows ≤ fileLimit) where
+      rows-kept : leb (at .rows) fileLimit ≡ true
+      rows-kept = le-leb (at .rows) fileLimit r
+
+      pub over-end : length bs < at .end → ended at ≡ stepOf bs at
       unfolding usable
-      over-rows h = rw (le-leb (length bs) fileLimit l, lt-leb (at .rows) fileLimit h)
+      over-end h = unusable (rw (limit-kept, rows-kept, lt-leb (at .end) (length bs) h))
 
-      module _ (r : at .rows ≤ fileLimit) where
-        pub over-end : length bs < at .end → usable bs at ≡ false
+      module _ (e : at .end ≤ length bs) where
+        end-kept : leb (at .end) (length bs) ≡ true
+        end-kept = le-leb (at .end) (length bs) e
+
+        pub over-place : length bs < at .place → ended at ≡ stepOf bs at
         unfolding usable
-        over-end h = rw (le-leb (length bs) fileLimit l, le-leb (at .rows) fileLimit r, lt-leb (at .end) (length bs) h)
+        over-place h = unusable (rw (limit-kept, rows-kept, end-kept, lt-leb (at .place) (length bs) h))
 
-        module _ (e : at .end ≤ length bs) where
-          pub over-place : length bs < at .place → usable bs at ≡ false
-          unfolding usable
-          over-place h = rw (le-leb (length bs) fileLimit l, le-leb (at .rows) fileLimit r, le-leb (at .end) (length bs) e, lt-leb (at .place) (length bs) h)
+-- The numbers of a walk over this file, where all those tests were passed.
+pub record Usable (bs : List ℕ) (at : Spot) : Type 0 where
+  pub accepted : at .number ≡ 0
+  pub limit : length bs ≤ fileLimit
+  pub rows-low : at .rows ≤ fileLimit
+  pub end-within : at .end ≤ length bs
+  pub place-within : at .place ≤ length bs
 
-          module _ (p : at .place ≤ length bs) where
-            used : usable bs at ≡ true
-            unfolding usable
-            used = rw (le-leb (length bs) fileLimit l, le-leb (at .rows) fileLimit r, le-leb (at .end) (length bs) e, le-leb (at .place) (length bs) p)
+module _ {bs : List ℕ} {at : Spot} (u : Usable bs at) where
+  used : usable bs at ≡ true
+  unfolding usable
+  used = rw (
+    le-leb (length bs) fileLimit (u .limit),
+    le-leb (at .rows) fileLimit (u .rows-low),
+    le-leb (at .end) (length bs) (u .end-within),
+    le-leb (at .place) (length bs) (u .place-within),
+  )
 
-            pub step-header : at .place ≡ 0 → headerStep bs at ≡ stepOf bs at
-            unfolding stepOf
-            step-header h = rw (eq-eqb (at .number) 0 z, used, eq-eqb (at .place) 0 h)
+  zero-is : eqb (at .number) 0 ≡ true
+  zero-is = eq-eqb (at .number) 0 (u .accepted)
 
-            module _ (h : at .place ≡ 0 → ⊥) where
-              pub step-record : at .place < at .end → recordStep (take (at .end - at .place) (drop (at .place) bs)) at ≡ stepOf bs at
-              unfolding stepOf
-              step-record m = rw (eq-eqb (at .number) 0 z, used, ne-eqb (at .place) 0 h, lt-ltb (at .place) (at .end) m)
+  pub step-header : at .place ≡ 0 → headerStep bs at ≡ stepOf bs at
+  unfolding stepOf
+  step-header h = rw (zero-is, used, eq-eqb (at .place) 0 h)
 
-              pub step-container : at .end ≤ at .place → containerStep (take (length bs - at .place) (drop (at .place) bs)) at ≡ stepOf bs at
-              unfolding stepOf
-              step-container m =
-                  let all : take (length bs - at .place) (drop (at .place) bs) ≡ drop (at .place) bs = sym (left (at .place) bs) in
-                  rw (eq-eqb (at .number) 0 z, used, ne-eqb (at .place) 0 h, le-ltb (at .place) (at .end) m, all)
+  module _ (h : at .place ≡ 0 → ⊥) where
+    pub step-record : at .place < at .end → recordStep (take (at .end - at .place) (drop (at .place) bs)) at ≡ stepOf bs at
+    unfolding stepOf
+    step-record m = rw (zero-is, used, ne-eqb (at .place) 0 h, lt-ltb (at .place) (at .end) m)
+
+    pub step-container : at .end ≤ at .place → containerStep (behind (at .place) bs) at ≡ stepOf bs at
+    unfolding stepOf
+    step-container m =
+        let all : behind (at .place) bs ≡ drop (at .place) bs = sym (left (at .place) bs) in
+        rw (zero-is, used, ne-eqb (at .place) 0 h, le-ltb (at .place) (at .end) m, all)

@@ -35,96 +35,92 @@ use Rattle.containers.proofs.FileParts.{version-is}
 use Rattle.walk.specs.declared.Spot.{Spot}
 use Rattle.walk.specs.Steps.{containerRow, stayed, refusedAt, stepOf, startOf, openedOf, stepsFrom, rowYield, Yields}
 use Rattle.walk.proofs.StepLaws.{step-refused}
+use Rattle.walk.proofs.FrontLaws.{contents}
 use Rattle.walk.proofs.TurnLaws.{here, record-turn, container-turn, header-turn, end-turn}
 
 -- Behind bytes that lie at a place.
 behind-of : (bs : List ℕ) (place n : ℕ) (xs ys : List ℕ) → drop place bs ≡ xs ++ ys → length xs ≡ n → drop (place + n) bs ≡ ys
 behind-of bs place n xs ys e l = sym (drop-drop n place bs) ∙ ap (drop n) e ∙ drop-at xs ys n l
 
--- A container's contents lie behind its eight bytes.
-contents-of : (bs : List ℕ) (place : ℕ) (c : Container) (rest : List ℕ) → drop place bs ≡ containerBytes c ++ rest → drop (place + 8) bs ≡ recordsBytes (c .body) ++ rest
-contents-of bs place c rest e =
-    let n : ℕ = length (recordsBytes (c .body)) in
-    sym (drop-drop 8 place bs)
-    ∙ ap (drop 8) (e ∙ append-assoc (put order 4 (c .kind)) (put order 4 n ++ recordsBytes (c .body)) rest
-    ∙ ap (λ (r : List ℕ). put order 4 (c .kind) ++ r) (append-assoc (put order 4 n) (recordsBytes (c .body)) rest))
-    ∙ drop-two order (c .kind) n (recordsBytes (c .body) ++ rest)
-
--- One row, and then the others.
-first : (bs : List ℕ) (at next : Spot) (r : Layout.Row) (rs : List Layout.Row) → stepOf bs at ≡ next → next .last ≡ rowYield r → Yields bs (stepOf bs next) rs
-    → Yields bs (stepOf bs at) (r ∷ rs)
-unfolding Yields
-first bs at next r rs e l on = subst (λ (x : Spot). (x .last ≡ rowYield r) × Yields bs (stepOf bs x) rs) (sym e) (l, on)
-
--- At the end of the file, the end for ever.
-ended-yields : (bs : List ℕ) → length bs ≤ fileLimit → (end parent n : ℕ) (y : WalkerYield) → 1 ≤ length bs → n ≤ length bs → end ≤ length bs
-    → Yields bs (stepOf bs (here (length bs) end parent n y)) []
-unfolding stepsFrom Yields
-ended-yields bs limit end parent n y one low behind k = ap (λ (x : Spot). stepsFrom bs k x .last) (end-turn bs limit end parent n y one low behind) ∙ go k
-  where
-    go : (k : ℕ) → stepsFrom bs k (here (length bs) end parent n End) .last ≡ End
-    go zero = refl
-    go (suc k) = ap (λ (x : Spot). stepsFrom bs k x .last) (end-turn bs limit end parent n End one low behind) ∙ go k
-
 module _ (bs : List ℕ) (limit : length bs ≤ fileLimit) where
+  -- From a spot on, the walk yields these rows, and then the end.
+  abbrev From : Spot → List Layout.Row → Type 0
+  From at rs = Yields bs (stepOf bs at) rs
+
+  -- One row, and then the others.
+  first : (at next : Spot) (r : Layout.Row) (rs : List Layout.Row) → stepOf bs at ≡ next → next .last ≡ rowYield r → From next rs → From at (r ∷ rs)
+  unfolding Yields
+  first at next r rs e l on = subst (λ (x : Spot). (x .last ≡ rowYield r) × From x rs) (sym e) (l, on)
+
+  -- At the end of the file, the end for ever.
+  ended-yields : (end parent n : ℕ) (y : WalkerYield) → 1 ≤ length bs → n ≤ length bs → end ≤ length bs → From (here (length bs) end parent n y) []
+  unfolding stepsFrom Yields
+  ended-yields end parent n y one low within k =
+      ap (λ (x : Spot). stepsFrom bs k x .last) (end-turn bs limit end parent n y one low within) ∙ go k
+    where
+      go : (k : ℕ) → stepsFrom bs k (here (length bs) end parent n End) .last ≡ End
+      go zero = refl
+      go (suc k) = ap (λ (x : Spot). stepsFrom bs k x .last) (end-turn bs limit end parent n End one low within) ∙ go k
+
   -- The children of a container, and then what lies behind it.
-  children-yield : (c : Context) (rs : List Record) → ValidRecords c rs → (place end parent n : ℕ) (y : WalkerYield) (rest : List ℕ) (later : List Layout.Row)
+  children-yield : (c : Context) (rs : List Record) → ValidRecords c rs
+      → (place end parent n : ℕ) (y : WalkerYield) (rest : List ℕ) (later : List Layout.Row)
       → drop place bs ≡ recordsBytes rs ++ rest → place + length (recordsBytes rs) ≡ end → 1 ≤ place → n ≤ place → end ≤ length bs
-      → ((z : WalkerYield) → Yields bs (stepOf bs (here end end parent (n + length rs) z)) later)
-      → Yields bs (stepOf bs (here place end parent n y)) (childRows parent place (childrenOf rs) ++ later)
+      → ((z : WalkerYield) → From (here end end parent (n + length rs) z) later)
+      → From (here place end parent n y) (childRows parent place (childrenOf rs) ++ later)
   unfolding childRows childOf
   children-yield c [] v place end parent n y rest later part ends one low within on =
       let p : end ≡ place = omega (arith, ends) in
-      subst (λ (q : ℕ). Yields bs (stepOf bs (here q end parent n y)) later) p
-      (subst (λ (m : ℕ). Yields bs (stepOf bs (here end end parent m y)) later) (add-zero n) (on y))
+      subst (λ (q : ℕ). From (here q end parent n y) later) p (subst (λ (m : ℕ). From (here end end parent m y) later) (add-zero n) (on y))
   children-yield c (r ∷ rs) v place end parent n y rest later part ends one low within on =
+      let all : List ℕ = recordsBytes (r ∷ rs) in
       let size : length (recordBytes r) ≡ recordSize r = length-structure order (λ (b : List ℕ). b) r in
-      let all : length (recordsBytes (r ∷ rs)) ≡ recordSize r + length (recordsBytes rs) = omega (arith, length-append (recordBytes r) (recordsBytes rs), size) in
-      let flat : drop place bs ≡ recordBytes r ++ (recordsBytes rs ++ rest) = part ∙ append-assoc (recordBytes r) (recordsBytes rs) rest in
-      let n-is : end - place ≡ length (recordsBytes (r ∷ rs)) = omega (arith, ends) in
-      let mine : take (end - place) (drop place bs) ≡ recordBytes r ++ recordsBytes rs =
-      ap₂ take n-is part ∙ take-at (recordsBytes (r ∷ rs)) rest (length (recordsBytes (r ∷ rs))) refl in
-      let turn = record-turn bs limit place end parent n y c r (recordsBytes rs) (v .0) mine one low (omega (arith, all, ends)) within in
-      let next : (z : WalkerYield) → Yields bs (stepOf bs (here (place + recordSize r) end parent (n + 1) z)) (childRows parent (place + recordSize r) (childrenOf rs) ++ later) =
-      λ z. children-yield (behind c (r .kind)) rs (v .1) (place + recordSize r) end parent (n + 1) z rest later
-      (behind-of bs place (recordSize r) (recordBytes r) (recordsBytes rs ++ rest) flat size) (omega (arith, all, ends)) (omega arith) (omega arith) within
-      (λ z. let e : n + length (r ∷ rs) ≡ n + 1 + length rs = omega arith in subst (λ (m : ℕ). Yields bs (stepOf bs (here end end parent m z)) later) e (on z)) in
-      first bs (here place end parent n y) (here (place + recordSize r) end parent (n + 1) (rowYield (childRow parent place (childOf r))))
-      (childRow parent place (childOf r)) (childRows parent (place + recordSize r) (childrenOf rs) ++ later) turn refl (next _)
+      let sizes : length all ≡ recordSize r + length (recordsBytes rs) = omega (arith, length-append (recordBytes r) (recordsBytes rs), size) in
+      let mine : take (end - place) (drop place bs) ≡ all = let n-is : end - place ≡ length all = omega (arith, ends) in ap₂ take n-is part ∙ take-at all rest _ refl in
+      let others : drop (place + recordSize r) bs ≡ recordsBytes rs ++ rest =
+      behind-of bs place (recordSize r) (recordBytes r) _ (part ∙ append-assoc (recordBytes r) (recordsBytes rs) rest) size in
+      let on-later : (z : WalkerYield) → From (here end end parent (n + 1 + length rs) z) later =
+      λ z. let m-is : n + length (r ∷ rs) ≡ n + 1 + length rs = omega arith in subst (λ (m : ℕ). From (here end end parent m z) later) m-is (on z) in
+      first _ _ _ _ (record-turn bs limit place end parent n y c r (recordsBytes rs) (v .0) mine one low (omega (arith, sizes, ends)) within) refl
+      (children-yield (behind c (r .kind)) rs (v .1) _ _ _ _ _ rest later others (omega (arith, sizes, ends)) (omega arith) (omega arith) within on-later)
+
+  -- A container: its row, its children's, and then those of the nodes behind it.
+  container-yields : (inner : Context) (c : Container) → Fits 4 (c .kind) → Fits 4 (length (recordsBytes (c .body))) → ValidRecords inner (c .body)
+      → (place end parent n : ℕ) (y : WalkerYield) (rest : List ℕ) (k a b : ℕ) (ns : List Layout.Node)
+      → drop place bs ≡ containerBytes c ++ rest → 8 ≤ place → n ≤ place → end ≤ place → place + containerSize c ≤ length bs
+      → containerRow place (containerSize c) (c .kind) (length (c .body)) ≡ Row k place (containerSize c) 0 a b
+      → (let behind-it = place + containerSize c in let count = n + 1 + length (c .body) in
+      (z : WalkerYield) → From (here behind-it behind-it (n + 1) count z) (rows (count + 1) behind-it ns))
+      → From (here place end parent n y) (rows (n + 1) place (box k a b (childrenOf (c .body)) ∷ ns))
+  unfolding rows
+  container-yields inner c hk hn v place end parent n y rest k a b ns part one low before within row-is on =
+      let ch : List Layout.Child = childrenOf (c .body) in
+      let next : ℕ = place + containerSize c in
+      let size-is : containerSize c ≡ 8 + total ch = omega (arith, children-total (c .body)) in
+      let number-is : n + 1 + length (c .body) + 1 ≡ n + 1 + 1 + length ch = omega (arith, length-map (c .body) childOf) in
+      let contents-lie : drop (place + 8) bs ≡ recordsBytes (c .body) ++ rest = sym (drop-drop 8 place bs) ∙ ap (drop 8) part ∙ contents recordsBytes c rest in
+      let on-later : (z : WalkerYield) → From (here next next (n + 1) (n + 1 + length (c .body)) z) (rows (n + 1 + 1 + length ch) (place + (8 + total ch)) ns) =
+      λ z. subst (From (here next next (n + 1) (n + 1 + length (c .body)) z)) (ap₂ (λ (i m : ℕ). rows i (place + m) ns) number-is size-is) (on z) in
+      first _ _ _ _ (container-turn bs limit place end parent n y inner c rest hk hn v part (omega arith) low before (omega arith))
+      (row-is ∙ ap (λ (m : ℕ). Row k place m 0 a b) size-is)
+      (children-yield inner (c .body) v _ _ _ _ _ rest _ contents-lie (omega arith) (omega arith) (omega arith) within on-later)
 
   -- Events up to the end of the file.
   events-yield : (es : List Container) → ValidEvents es → (place end parent n : ℕ) (y : WalkerYield)
       → drop place bs ≡ eventsBytes es → place + length (eventsBytes es) ≡ length bs → 9 ≤ place → n ≤ place → end ≤ place
-      → Yields bs (stepOf bs (here place end parent n y)) (rows (n + 1) place (map eventNode es))
+      → From (here place end parent n y) (rows (n + 1) place (map eventNode es))
   unfolding rows containerRow
-  events-yield [] v place end parent n y part ends one low behind =
+  events-yield [] v place end parent n y part ends one low before =
       let p : length bs ≡ place = omega (arith, ends) in
-      subst (λ (q : ℕ). Yields bs (stepOf bs (here q end parent n y)) []) p (ended-yields bs limit end parent n y (omega arith) (omega arith) (omega arith))
-  events-yield (e ∷ es) v place end parent n y part ends one low behind =
+      subst (λ (q : ℕ). From (here q end parent n y) []) p (ended-yields end parent n y (omega arith) (omega arith) (omega arith))
+  events-yield (e ∷ es) v place end parent n y part ends one low before =
       let size : length (containerBytes e) ≡ containerSize e = container-size e in
-      let all : length (eventsBytes (e ∷ es)) ≡ containerSize e + length (eventsBytes es) = omega (arith, length-append (containerBytes e) (eventsBytes es), size) in
-      let turn = container-turn bs limit place end parent n y (event none) e (eventsBytes es) (v .0 .word-fits) (v .0 .length-fits) (v .0 .records-valid) part (omega arith) low behind (omega (arith, ends)) in
-      let t : containerSize e ≡ 8 + total (childrenOf (e .body)) = omega (arith, children-total (e .body)) in
-      let mine : Layout.Row = record { kind = 5; start = place; whole = 8 + total (childrenOf (e .body)); parent = 0; one = e .kind % 65536; two = length (e .body) } in
-      let row-is : containerRow place (containerSize e) (e .kind) (length (e .body)) ≡ rowYield mine =
-      rw (ne-eqb place 8 (λ z. absurd (omega arith)), t) in
-      let inside : drop (place + 8) bs ≡ recordsBytes (e .body) ++ eventsBytes es = contents-of bs place e (eventsBytes es) part in
-      let next : Yields bs (stepOf bs (here (place + 8) (place + containerSize e) (n + 1) (n + 1) (containerRow place (containerSize e) (e .kind) (length (e .body)))))
-      (childRows (n + 1) (place + 8) (childrenOf (e .body)) ++ rows (n + 1 + 1 + length (childrenOf (e .body))) (place + (8 + total (childrenOf (e .body)))) (map eventNode es)) =
-      children-yield (event none) (e .body) (v .0 .records-valid) (place + 8) (place + containerSize e) (n + 1) (n + 1) _ (eventsBytes es) _
-      inside (omega arith) (omega arith) (omega arith) (omega (arith, ends, all))
-      (λ z. later z t (events-yield es (v .1) (place + containerSize e) (place + containerSize e) (n + 1) (n + 1 + length (e .body)) z
-      (behind-of bs place (containerSize e) (containerBytes e) (eventsBytes es) part size) (omega (arith, ends, all)) (omega arith) (omega (arith, few (e .body))) (omega arith))) in
-      first bs (here place end parent n y) (here (place + 8) (place + containerSize e) (n + 1) (n + 1) (containerRow place (containerSize e) (e .kind) (length (e .body)))) mine _ turn row-is next
-    where
-      later : (z : WalkerYield) → containerSize e ≡ 8 + total (childrenOf (e .body))
-          → Yields bs (stepOf bs (here (place + containerSize e) (place + containerSize e) (n + 1) (n + 1 + length (e .body)) z)) (rows (n + 1 + length (e .body) + 1) (place + containerSize e) (map eventNode es))
-          → Yields bs (stepOf bs (here (place + containerSize e) (place + containerSize e) (n + 1) (n + 1 + length (e .body)) z))
-          (rows (n + 1 + 1 + length (childrenOf (e .body))) (place + (8 + total (childrenOf (e .body)))) (map eventNode es))
-      later z t h =
-          let i : n + 1 + length (e .body) + 1 ≡ n + 1 + 1 + length (childrenOf (e .body)) = omega (arith, length-map (e .body) childOf) in
-          subst (λ (rs : List Layout.Row). Yields bs (stepOf bs (here (place + containerSize e) (place + containerSize e) (n + 1) (n + 1 + length (e .body)) z)) rs)
-          (ap₂ (λ (a b : ℕ). rows a (place + b) (map eventNode es)) i t) h
+      let sizes : length (eventsBytes (e ∷ es)) ≡ containerSize e + length (eventsBytes es) =
+      omega (arith, length-append (containerBytes e) (eventsBytes es), size) in
+      let others : drop (place + containerSize e) bs ≡ eventsBytes es = behind-of bs place (containerSize e) (containerBytes e) (eventsBytes es) part size in
+      container-yields (event none) e (v .0 .word-fits) (v .0 .length-fits) (v .0 .records-valid) place end parent n y (eventsBytes es) _ _ _ (map eventNode es)
+      part (omega arith) low before (omega (arith, ends, sizes)) (rw (ne-eqb place 8 (λ z. absurd (omega arith))))
+      (λ z. events-yield es (v .1) _ _ _ _ z others (omega (arith, ends, sizes)) (omega arith) (omega (arith, few (e .body))) (omega arith))
 
 -- An accepted file: the walk yields its rows, and then the end.
 pub file-yields : (bs : List ℕ) (f : File) → Bytes bs → readFile bs ≡ ok f → Yields bs (openedOf bs) (rowsOf f)
@@ -137,31 +133,19 @@ file-yields bs f h e =
     let limit : length bs ≤ fileLimit = omega (arith, length-is, v .within-limit) in
     let sized : length bs ≡ 8 + (containerSize c + length (eventsBytes es)) = length-is ∙ file-length f in
     let header : length (headerBytes (versionOf f)) ≡ 8 = sym (headerItem .sizes (versionOf f)) in
-    let behind8 : drop 8 bs ≡ containerBytes c ++ eventsBytes es = ap (drop 8) is ∙ drop-at (headerBytes (versionOf f)) (containerBytes c ++ eventsBytes es) 8 header in
-    let t : containerSize c ≡ 8 + total (childrenOf (c .body)) = omega (arith, children-total (c .body)) in
-    let ch : List Layout.Child = childrenOf (c .body) in
+    let behind8 : drop 8 bs ≡ containerBytes c ++ eventsBytes es = ap (drop 8) is ∙ drop-at (headerBytes (versionOf f)) _ 8 header in
+    let events-lie : drop (8 + containerSize c) bs ≡ eventsBytes es = behind-of bs 8 (containerSize c) (containerBytes c) (eventsBytes es) behind8 (container-size c) in
     let kind-fits : Fits 4 (c .kind) = rw (v .configuration-word) (omega arith) in
-    let head : Layout.Row = record { kind = 1; start = 0; whole = 8; parent = 0; one = versionOf f; two = 0 } in
-    let own : Layout.Row = record { kind = 2; start = 8; whole = 8 + total ch; parent = 0; one = length (c .body); two = 0 } in
-    let row-is : containerRow 8 (containerSize c) (c .kind) (length (c .body)) ≡ rowYield own = rw t in
-    let places : 8 + containerSize c ≡ 8 + (8 + total ch) = ap (λ (m : ℕ). 8 + m) t in
-    let numbers : 2 + length (c .body) + 1 ≡ 3 + length ch = omega (arith, length-map (c .body) childOf) in
-    let later : (z : WalkerYield) → Yields bs (stepOf bs (here (8 + containerSize c) (8 + containerSize c) 2 (2 + length (c .body)) z)) (rows (3 + length ch) (8 + (8 + total ch)) (map eventNode es)) =
-    λ z. subst (λ (rs : List Layout.Row). Yields bs (stepOf bs (here (8 + containerSize c) (8 + containerSize c) 2 (2 + length (c .body)) z)) rs)
-    (ap₂ (λ (a b : ℕ). rows a b (map eventNode es)) numbers places)
-    (events-yield bs limit es (v .events-valid) (8 + containerSize c) (8 + containerSize c) 2 (2 + length (c .body)) z
-    (behind-of bs 8 (containerSize c) (containerBytes c) (eventsBytes es) behind8 (container-size c)) (omega (arith, sized)) (omega arith) (omega (arith, few (c .body))) (omega arith)) in
-    let children : Yields bs (stepOf bs (here 16 (8 + containerSize c) 2 2 (containerRow 8 (containerSize c) (c .kind) (length (c .body))))) (childRows 2 16 ch ++ rows (3 + length ch) (8 + (8 + total ch)) (map eventNode es)) =
-    children-yield bs limit entry (c .body) (v .entries-valid) 16 (8 + containerSize c) 2 2 _ (eventsBytes es) _ (contents-of bs 8 c (eventsBytes es) behind8) (omega arith) (omega arith) (omega arith) (omega (arith, sized)) later in
-    let second = container-turn bs limit 8 8 0 1 (Row 1 0 8 0 (versionOf f) 0) entry c (eventsBytes es) kind-fits (v .configuration-fits) (v .entries-valid) behind8 (omega arith) (omega arith) (omega arith) (omega (arith, sized)) in
-    let start = header-turn bs limit (versionOf f) (sym (version-is bs f h e)) (omega (arith, sized)) in
-    rw e (first bs (here 0 0 0 0 End) (here 8 8 0 1 (rowYield head)) head _ start refl
-    (first bs (here 8 8 0 1 (rowYield head)) (here 16 (8 + containerSize c) 2 2 (containerRow 8 (containerSize c) (c .kind) (length (c .body)))) own _ second row-is children))
+    rw e (first bs limit _ _ _ _ (header-turn bs limit (versionOf f) (sym (version-is bs f h e)) (omega (arith, sized))) refl
+    (container-yields bs limit entry c kind-fits (v .configuration-fits) (v .entries-valid) _ _ _ _ _ (eventsBytes es) _ _ _ (map eventNode es)
+    behind8 (omega arith) (omega arith) (omega arith) (omega (arith, sized)) refl
+    (λ z. events-yield bs limit es (v .events-valid) _ _ _ _ z events-lie (omega (arith, sized)) (omega arith) (omega (arith, few (c .body))) (omega arith))))
 
 -- ---- the k-th yield
 
 -- What a walk yields after k steps, of a walk whose yields are known.
-kth : (bs : List ℕ) (rs : List Layout.Row) (at : Spot) (k : ℕ) → Yields bs at rs → stepsFrom bs k at .last ≡ cond (ltb k (length rs)) (rowYield (row rs k)) End
+kth : (bs : List ℕ) (rs : List Layout.Row) (at : Spot) (k : ℕ) → Yields bs at rs
+    → stepsFrom bs k at .last ≡ cond (ltb k (length rs)) (rowYield (row rs k)) End
 unfolding Yields stepsFrom
 kth bs [] at k h = h k ∙ rw (le-ltb k 0 (omega arith))
 kth bs (r ∷ rs) at zero h = h .0 ∙ rw (lt-ltb 0 (suc (length rs)) (omega arith))
@@ -204,7 +188,9 @@ unfolding yieldAt
 walk-yields bs k h = go (readFile bs) refl
   where
     go : (r : Res File) → readFile bs ≡ r → givenYield (stepsFrom bs k (openedOf bs) .last) ≡ yieldGiven k (readFile bs)
-    go (ok f) e = ap givenYield (kth bs (rowsOf f) (openedOf bs) k (file-yields bs f h e)) ∙ given-row (ltb k (length (rowsOf f))) (row (rowsOf f) k) ∙ ap (yieldGiven k) (sym e)
+    go (ok f) e =
+        ap givenYield (kth bs (rowsOf f) (openedOf bs) k (file-yields bs f h e))
+        ∙ given-row (ltb k (length (rowsOf f))) (row (rowsOf f) k) ∙ ap (yieldGiven k) (sym e)
     go (bad c p) e = refused-yield bs c p e k ∙ ap (yieldGiven k) (sym e)
 
 -- One more step is one step on.

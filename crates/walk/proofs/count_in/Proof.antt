@@ -1,13 +1,10 @@
 -- The loop counts turn by turn.
 -- The idea: so many were counted, and the rest counts on (Counting).
 use borrow.Author.Needs.{needs}
-use mathlib.Core.Path.{_≡_, sym, _∙_}
-use Prim.Native.Nat.{_+_}
 use native.Mathlib.Omega.{arith}
-use borrow.Author.Tests.{lt-leb}
 use denote.Ref.{now}
 use lib.ListN.{length}
-use Rattle.walk.proofs.StepLaws.{Counting, begin, counted, counts-on, too-short, long-enough}
+use Rattle.walk.proofs.StepLaws.{Counting, begin, counted, counts-on, too-short, too-long}
 use Rattle.walk.proofs.count_in.Statement.{statement}
 use Rattle.walk.proofs.count_in.Tie as tie
 use Rattle.walk.proofs.count_in.Reads as reads
@@ -33,7 +30,9 @@ add-size : tie.Need-add-size Inv-loop μ-loop
 add-size c = search needs
 
 returns : tie.Need-returns Inv-loop μ-loop
-returns c = counted (c .before .before .before .loop .inv) (long-enough (now (c .before .before .before .loop .rest)) (c .before .before .loop-test .taken) ∙ rw (← c .before .word-at .ensures) (lt-leb (8 + c .before .word-at .result) (length (now (c .before .before .before .loop .rest))) (c .if1 .taken)))
+returns c =
+    let turn = c .before .before in
+    counted (turn .before .loop .inv) (too-long _ _ (c .before .word-at .ensures) (turn .loop-test .taken) (c .if1 .taken))
 
 sub-rest : tie.Need-sub-rest Inv-loop μ-loop
 sub-rest c = search needs
@@ -51,10 +50,12 @@ loop-less : tie.Need-loop-less Inv-loop μ-loop
 loop-less c = search needs
 
 loop-again : tie.Need-loop-again Inv-loop μ-loop
-loop-again c = counts-on (c .before .before .before .before .loop .inv) (c .before .before .word-at .result) (c .before .before .word-at .ensures) (c .before .before .before .loop-test .taken) (c .before .if1 .left)
+loop-again c =
+    let read = c .before .before in
+    counts-on (read .before .before .loop .inv) _ (read .word-at .ensures) (read .before .loop-test .taken) (c .before .if1 .left)
 
 returns-2 : tie.Need-returns-2 Inv-loop μ-loop
-returns-2 c = counted (c .before .loop .inv) (too-short (now (c .before .loop .rest)) (c .loop-test .left))
+returns-2 c = counted (c .before .loop .inv) (too-short _ (c .loop-test .left))
 
 pub count-in-spec : {M : Type 1} → statement M
 count-in-spec =

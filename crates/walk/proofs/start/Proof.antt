@@ -20,10 +20,10 @@ enum-told : tie.Need-enum-told
 enum-told c = search needs
 
 returns : tie.Need-returns
-returns c = opens-refused (now (c .before .before .before .before .before .args .file)) _ _ (sym (c .before .number .given .1) ∙ c .before .before .before .check .ensures)
+returns c = opens-refused _ _ _ (sym (c .before .number .given .1) ∙ c .before .before .before .check .ensures)
 
 returns-2 : tie.Need-returns-2
-returns-2 c = opens-accepted (now (c .before .before .before .before .args .file)) _ (sym (c .enum-told .given .1) ∙ c .before .before .check .ensures)
+returns-2 c = opens-accepted _ _ (sym (c .enum-told .given .1) ∙ c .before .before .check .ensures)
 
 pub start-spec : {M : Type 1} → statement M
 start-spec = tie.close (tie.spec check-requires enum-known-number enum-told returns returns-2)
