@@ -1,7 +1,6 @@
 -- What stands at the front of a structure's bytes, and how many structures its contents are by their length words alone.
 -- The idea: a structure's bytes are its two words and its body, whatever follows.
 use mathlib.Core.Path.{_≡_, refl, sym, ap, ap₂, _∙_}
-use mathlib.Core.Bool.{true, false, cond}
 use mathlib.Core.List.{List, [], _∷_, _++_, append-assoc}
 use Prim.Native.Nat.{ℕ, zero, suc, _+_, _-_, _≤_}
 use native.Mathlib.Omega.{arith}
@@ -63,7 +62,8 @@ unfolding countFrom stands
 none-counted zero = refl
 none-counted (suc f) = refl
 
-counted-by : (c : Context) (rs : List Record) → ValidRecords c rs → (f : ℕ) → length (recordsBytes rs) ≤ f → countFrom f (recordsBytes rs) ≡ length rs
+counted-by : (c : Context) (rs : List Record) → ValidRecords c rs → (f : ℕ) → length (recordsBytes rs) ≤ f
+    → countFrom f (recordsBytes rs) ≡ length rs
 unfolding countFrom
 counted-by c [] v f h = none-counted f
 counted-by c (r ∷ rs) v zero h =

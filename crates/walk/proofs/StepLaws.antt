@@ -1,20 +1,19 @@
 -- One law for each way through a step, and the count of structures turn by turn.
 -- The idea: each premise is a test that the code has taken, so the definition computes to the answer.
-use mathlib.Core.Path.{_≡_, refl, sym, ap, _∙_}
-use mathlib.Core.Bool.{Bool, true, false, cond, _&&_, and-eq-true-iff}
+use mathlib.Core.Path.{_≡_, sym, ap, _∙_}
+use mathlib.Core.Bool.{Bool, true, false, cond, and-eq-true-iff}
 use mathlib.Core.List.{List}
 use Prim.Native.Nat.{ℕ, zero, suc, _+_, _-_, _≤_, _<_}
 use native.Mathlib.Omega.{arith}
-use lib.Dec.{leb, ltb, eqb}
+use lib.Dec.{leb, eqb}
 use lib.ListN.{length, take, drop, length-drop}
 use lib.Seq.{length-take-le}
 use borrow.Author.Tests.{le-leb, lt-leb, lt-ltb, le-ltb, eq-eqb, ne-eqb, leb-true}
-use Rattle.theory.specs.Tests.{Res, ok, bad}
 use Rattle.note.specs.Limits.{fileLimit}
 use Rattle.note.specs.Words.{word}
-use Rattle.note.specs.Files.{File, readFile}
+use Rattle.note.specs.Files.{readFile}
 use Rattle.note.specs.declared.WalkerYield.{WalkerYield}
-use Rattle.note.specs.declared.WalkerYield.the-variants.{Row, End, Refused}
+use Rattle.note.specs.declared.WalkerYield.the-variants.{Row, End}
 use Rattle.containers.proofs.RecordLoop.{left}
 use Rattle.containers.proofs.FileParts.{file-good, file-bad}
 use Rattle.containers.specs.declared.Count.the-variants.{Good, Bad}
@@ -156,7 +155,8 @@ module _ {bs : List ℕ} {n : ℕ} (f : Found bs n) where
     record-empty h = let h′ : hasValues (word 0 bs) (bodyIn bs) ≡ false = rw (ek, cut-is) at h in rw (f .is-here, h′)
 
     pub record-here : hasValues k (cutBody n bs) ≡ true → (v : Values) → v ≡ valuesOf k (cutBody n bs)
-        → moved at (at .place + (8 + n)) (at .end) (at .parent) (Row (v .kind) (at .place) (8 + n) (at .parent) (v .one) (v .two)) ≡ recordStep bs at
+        → moved at (at .place + (8 + n)) (at .end) (at .parent) (Row (v .kind) (at .place) (8 + n) (at .parent) (v .one) (v .two))
+        ≡ recordStep bs at
     unfolding recordStep
     record-here h v ev =
         let h′ : hasValues (word 0 bs) (bodyIn bs) ≡ true = rw (ek, cut-is) at h in

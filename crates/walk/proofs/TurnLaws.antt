@@ -30,7 +30,9 @@ abbrev pub here : ℕ → ℕ → ℕ → ℕ → WalkerYield → Spot
 here place end parent n y = record { number = 0; fault = 0; place = place; end = end; parent = parent; rows = n; last = y }
 
 module _ (bs : List ℕ) (limit : length bs ≤ fileLimit) where
-  ready : {place end parent n : ℕ} (y : WalkerYield) → n ≤ place → end ≤ length bs → place ≤ length bs → Usable bs (here place end parent n y)
+  -- Within the file the numbers are usable: a row has bytes of its own, so no more rows than bytes lie before a place.
+  ready : {place end parent n : ℕ} (y : WalkerYield) → n ≤ place → end ≤ length bs → place ≤ length bs
+      → Usable bs (here place end parent n y)
   ready y low within inside =
       record { accepted = refl; limit = limit; rows-low = omega arith; end-within = within; place-within = inside }
 

@@ -2,30 +2,30 @@
 -- The idea: by induction on the tree, from the place where a structure begins the walk yields its rows, and then what lies behind it.
 use mathlib.Core.Path.{_≡_, refl, sym, ap, ap₂, _∙_, subst}
 use mathlib.Core.Bool.{Bool, true, false, cond}
-use mathlib.Core.List.{List, [], _∷_, _++_, map, append-assoc, append-nil}
-use Prim.Native.Nat.{ℕ, zero, suc, _+_, _-_, _%_, _≤_, _<_}
-use native.Mathlib.Nat.{add-zero, le-of-suc-le-suc, not-suc-le-zero}
+use mathlib.Core.List.{List, [], _∷_, _++_, map, append-assoc}
+use Prim.Native.Nat.{ℕ, zero, suc, _+_, _-_, _≤_, _<_}
+use native.Mathlib.Nat.{add-zero}
 use native.Mathlib.Omega.{arith}
 use native.Mathlib.Decide.{decLt}
-use lib.Dec.{ltb, eqb}
-use lib.ListN.{length, take, drop, length-append, length-map, length-drop}
+use lib.Dec.{ltb}
+use lib.ListN.{length, take, drop, length-append, length-map}
 use lib.Seq.{take-at, drop-at, drop-drop}
-use borrow.Author.Tests.{lt-ltb, le-ltb, eq-eqb, ne-eqb}
-use Rattle.theory.specs.Words.{Bytes, Fits, put}
+use borrow.Author.Tests.{lt-ltb, le-ltb, ne-eqb}
+use Rattle.theory.specs.Words.{Bytes, Fits}
 use Rattle.theory.specs.Tests.{Res, ok, bad}
 use Rattle.theory.specs.Layout as Layout
-use Rattle.theory.specs.Layout.{total, childRow, childRows, rows, row, box, single}
-use Rattle.theory.proofs.StructureLaws.{length-structure, drop-two}
+use Rattle.theory.specs.Layout.{total, childRows, rows, row, box}
+use Rattle.theory.proofs.StructureLaws.{length-structure}
 use Rattle.note.specs.Limits.{fileLimit}
-use Rattle.note.specs.Words.{order, word}
-use Rattle.note.specs.Answers.{Given, accepted, refused, counts, givenYield}
+use Rattle.note.specs.Words.{order}
+use Rattle.note.specs.Answers.{accepted, refused, counts, givenYield}
 use Rattle.note.specs.Records.{Record, Context, entry, event, none, behind, recordSize, recordBytes, recordsBytes}
 use Rattle.note.specs.Events.{Container, containerBytes, containerSize, eventsBytes}
-use Rattle.note.specs.Files.{File, versionOf, configurationOf, eventsOf, configurationWord, headerBytes, fileBytes, readFile}
+use Rattle.note.specs.Files.{File, versionOf, configurationOf, eventsOf, headerBytes, fileBytes, readFile}
 use Rattle.note.specs.Rows.{childOf, childrenOf, eventNode, nodesOf, rowsOf, rowNumbers, yieldGiven, yieldAt}
 use Rattle.note.specs.declared.WalkerYield.{WalkerYield}
 use Rattle.note.specs.declared.WalkerYield.the-variants.{Row, End, Refused}
-use Rattle.demands.specs.Valid.{ValidRecord, ValidRecords, ValidEvent, ValidEvents, Valid}
+use Rattle.demands.specs.Valid.{ValidRecords, ValidEvents}
 use Rattle.demands.proofs.Bundles.{headerItem}
 use Rattle.demands.proofs.Follows.{file-sound}
 use Rattle.demands.proofs.RefusalLaws.{refusal-is-numbered}
@@ -33,7 +33,7 @@ use Rattle.demands.proofs.RowLaws.{children-total, container-size, file-length}
 use Rattle.containers.proofs.EventLoop.{few}
 use Rattle.containers.proofs.FileParts.{version-is}
 use Rattle.walk.specs.declared.Spot.{Spot}
-use Rattle.walk.specs.Steps.{containerRow, stayed, refusedAt, stepOf, startOf, openedOf, stepsFrom, rowYield, Yields}
+use Rattle.walk.specs.Steps.{containerRow, stayed, stepOf, startOf, openedOf, stepsFrom, rowYield, Yields}
 use Rattle.walk.proofs.StepLaws.{step-refused}
 use Rattle.walk.proofs.FrontLaws.{contents}
 use Rattle.walk.proofs.TurnLaws.{here, record-turn, container-turn, header-turn, end-turn}
@@ -48,12 +48,14 @@ module _ (bs : List ℕ) (limit : length bs ≤ fileLimit) where
   From at rs = Yields bs (stepOf bs at) rs
 
   -- One row, and then the others.
-  first : (at next : Spot) (r : Layout.Row) (rs : List Layout.Row) → stepOf bs at ≡ next → next .last ≡ rowYield r → From next rs → From at (r ∷ rs)
+  first : (at next : Spot) (r : Layout.Row) (rs : List Layout.Row)
+      → stepOf bs at ≡ next → next .last ≡ rowYield r → From next rs → From at (r ∷ rs)
   unfolding Yields
   first at next r rs e l on = subst (λ (x : Spot). (x .last ≡ rowYield r) × From x rs) (sym e) (l, on)
 
   -- At the end of the file, the end for ever.
-  ended-yields : (end parent n : ℕ) (y : WalkerYield) → 1 ≤ length bs → n ≤ length bs → end ≤ length bs → From (here (length bs) end parent n y) []
+  ended-yields : (end parent n : ℕ) (y : WalkerYield) → 1 ≤ length bs → n ≤ length bs → end ≤ length bs
+      → From (here (length bs) end parent n y) []
   unfolding stepsFrom Yields
   ended-yields end parent n y one low within k =
       ap (λ (x : Spot). stepsFrom bs k x .last) (end-turn bs limit end parent n y one low within) ∙ go k
@@ -75,35 +77,43 @@ module _ (bs : List ℕ) (limit : length bs ≤ fileLimit) where
   children-yield c (r ∷ rs) v place end parent n y rest later part ends one low within on =
       let all : List ℕ = recordsBytes (r ∷ rs) in
       let size : length (recordBytes r) ≡ recordSize r = length-structure order (λ (b : List ℕ). b) r in
-      let sizes : length all ≡ recordSize r + length (recordsBytes rs) = omega (arith, length-append (recordBytes r) (recordsBytes rs), size) in
-      let mine : take (end - place) (drop place bs) ≡ all = let n-is : end - place ≡ length all = omega (arith, ends) in ap₂ take n-is part ∙ take-at all rest _ refl in
+      let sizes : length all ≡ recordSize r + length (recordsBytes rs) =
+      omega (arith, length-append (recordBytes r) (recordsBytes rs), size) in
+      let left-is : end - place ≡ length all = omega (arith, ends) in
+      let mine : take (end - place) (drop place bs) ≡ all = ap₂ take left-is part ∙ take-at all rest _ refl in
       let others : drop (place + recordSize r) bs ≡ recordsBytes rs ++ rest =
       behind-of bs place (recordSize r) (recordBytes r) _ (part ∙ append-assoc (recordBytes r) (recordsBytes rs) rest) size in
+      let number-is : n + length (r ∷ rs) ≡ n + 1 + length rs = omega arith in
       let on-later : (z : WalkerYield) → From (here end end parent (n + 1 + length rs) z) later =
-      λ z. let m-is : n + length (r ∷ rs) ≡ n + 1 + length rs = omega arith in subst (λ (m : ℕ). From (here end end parent m z) later) m-is (on z) in
+      λ z. subst (λ (m : ℕ). From (here end end parent m z) later) number-is (on z) in
       first _ _ _ _ (record-turn bs limit place end parent n y c r (recordsBytes rs) (v .0) mine one low (omega (arith, sizes, ends)) within) refl
-      (children-yield (behind c (r .kind)) rs (v .1) _ _ _ _ _ rest later others (omega (arith, sizes, ends)) (omega arith) (omega arith) within on-later)
+      (children-yield (behind c (r .kind)) rs (v .1) _ _ _ _ _ rest later
+      others (omega (arith, sizes, ends)) (omega arith) (omega arith) within on-later)
 
   -- A container: its row, its children's, and then those of the nodes behind it.
-  container-yields : (inner : Context) (c : Container) → Fits 4 (c .kind) → Fits 4 (length (recordsBytes (c .body))) → ValidRecords inner (c .body)
+  container-yields : (inner : Context) (c : Container)
+      → Fits 4 (c .kind) → Fits 4 (length (recordsBytes (c .body))) → ValidRecords inner (c .body)
       → (place end parent n : ℕ) (y : WalkerYield) (rest : List ℕ) (k a b : ℕ) (ns : List Layout.Node)
       → drop place bs ≡ containerBytes c ++ rest → 8 ≤ place → n ≤ place → end ≤ place → place + containerSize c ≤ length bs
       → containerRow place (containerSize c) (c .kind) (length (c .body)) ≡ Row k place (containerSize c) 0 a b
-      → (let behind-it = place + containerSize c in let count = n + 1 + length (c .body) in
-      (z : WalkerYield) → From (here behind-it behind-it (n + 1) count z) (rows (count + 1) behind-it ns))
+      → (let next = place + containerSize c in let count = n + 1 + length (c .body) in
+      (z : WalkerYield) → From (here next next (n + 1) count z) (rows (count + 1) next ns))
       → From (here place end parent n y) (rows (n + 1) place (box k a b (childrenOf (c .body)) ∷ ns))
   unfolding rows
   container-yields inner c hk hn v place end parent n y rest k a b ns part one low before within row-is on =
       let ch : List Layout.Child = childrenOf (c .body) in
       let next : ℕ = place + containerSize c in
+      let count : ℕ = n + 1 + length (c .body) in
       let size-is : containerSize c ≡ 8 + total ch = omega (arith, children-total (c .body)) in
-      let number-is : n + 1 + length (c .body) + 1 ≡ n + 1 + 1 + length ch = omega (arith, length-map (c .body) childOf) in
-      let contents-lie : drop (place + 8) bs ≡ recordsBytes (c .body) ++ rest = sym (drop-drop 8 place bs) ∙ ap (drop 8) part ∙ contents recordsBytes c rest in
-      let on-later : (z : WalkerYield) → From (here next next (n + 1) (n + 1 + length (c .body)) z) (rows (n + 1 + 1 + length ch) (place + (8 + total ch)) ns) =
-      λ z. subst (From (here next next (n + 1) (n + 1 + length (c .body)) z)) (ap₂ (λ (i m : ℕ). rows i (place + m) ns) number-is size-is) (on z) in
+      let number-is : count + 1 ≡ n + 1 + 1 + length ch = omega (arith, length-map (c .body) childOf) in
+      let inside : drop (place + 8) bs ≡ recordsBytes (c .body) ++ rest =
+      sym (drop-drop 8 place bs) ∙ ap (drop 8) part ∙ contents recordsBytes c rest in
+      let later-is : rows (count + 1) next ns ≡ rows (n + 1 + 1 + length ch) (place + (8 + total ch)) ns =
+      ap₂ (λ (i m : ℕ). rows i (place + m) ns) number-is size-is in
       first _ _ _ _ (container-turn bs limit place end parent n y inner c rest hk hn v part (omega arith) low before (omega arith))
       (row-is ∙ ap (λ (m : ℕ). Row k place m 0 a b) size-is)
-      (children-yield inner (c .body) v _ _ _ _ _ rest _ contents-lie (omega arith) (omega arith) (omega arith) within on-later)
+      (children-yield inner (c .body) v _ _ _ _ _ rest _ inside (omega arith) (omega arith) (omega arith) within
+      (λ z. subst (From (here next next (n + 1) count z)) later-is (on z)))
 
   -- Events up to the end of the file.
   events-yield : (es : List Container) → ValidEvents es → (place end parent n : ℕ) (y : WalkerYield)
@@ -117,8 +127,10 @@ module _ (bs : List ℕ) (limit : length bs ≤ fileLimit) where
       let size : length (containerBytes e) ≡ containerSize e = container-size e in
       let sizes : length (eventsBytes (e ∷ es)) ≡ containerSize e + length (eventsBytes es) =
       omega (arith, length-append (containerBytes e) (eventsBytes es), size) in
-      let others : drop (place + containerSize e) bs ≡ eventsBytes es = behind-of bs place (containerSize e) (containerBytes e) (eventsBytes es) part size in
-      container-yields (event none) e (v .0 .word-fits) (v .0 .length-fits) (v .0 .records-valid) place end parent n y (eventsBytes es) _ _ _ (map eventNode es)
+      let others : drop (place + containerSize e) bs ≡ eventsBytes es =
+      behind-of bs place (containerSize e) (containerBytes e) (eventsBytes es) part size in
+      container-yields (event none) e (v .0 .word-fits) (v .0 .length-fits) (v .0 .records-valid)
+      place end parent n y (eventsBytes es) _ _ _ (map eventNode es)
       part (omega arith) low before (omega (arith, ends, sizes)) (rw (ne-eqb place 8 (λ z. absurd (omega arith))))
       (λ z. events-yield es (v .1) _ _ _ _ z others (omega (arith, ends, sizes)) (omega arith) (omega (arith, few (e .body))) (omega arith))
 
@@ -134,12 +146,14 @@ file-yields bs f h e =
     let sized : length bs ≡ 8 + (containerSize c + length (eventsBytes es)) = length-is ∙ file-length f in
     let header : length (headerBytes (versionOf f)) ≡ 8 = sym (headerItem .sizes (versionOf f)) in
     let behind8 : drop 8 bs ≡ containerBytes c ++ eventsBytes es = ap (drop 8) is ∙ drop-at (headerBytes (versionOf f)) _ 8 header in
-    let events-lie : drop (8 + containerSize c) bs ≡ eventsBytes es = behind-of bs 8 (containerSize c) (containerBytes c) (eventsBytes es) behind8 (container-size c) in
+    let others : drop (8 + containerSize c) bs ≡ eventsBytes es =
+    behind-of bs 8 (containerSize c) (containerBytes c) (eventsBytes es) behind8 (container-size c) in
     let kind-fits : Fits 4 (c .kind) = rw (v .configuration-word) (omega arith) in
     rw e (first bs limit _ _ _ _ (header-turn bs limit (versionOf f) (sym (version-is bs f h e)) (omega (arith, sized))) refl
     (container-yields bs limit entry c kind-fits (v .configuration-fits) (v .entries-valid) _ _ _ _ _ (eventsBytes es) _ _ _ (map eventNode es)
     behind8 (omega arith) (omega arith) (omega arith) (omega (arith, sized)) refl
-    (λ z. events-yield bs limit es (v .events-valid) _ _ _ _ z events-lie (omega (arith, sized)) (omega arith) (omega (arith, few (c .body))) (omega arith))))
+    (λ z. events-yield bs limit es (v .events-valid) _ _ _ _ z
+    others (omega (arith, sized)) (omega arith) (omega (arith, few (c .body))) (omega arith))))
 
 -- ---- the k-th yield
 
@@ -173,9 +187,11 @@ refused-turn bs c p y z = sym (step-refused bs (over c p y) (λ e. absurd (omega
 refused-stays : (bs : List ℕ) (c p : ℕ) → 0 < c → (k : ℕ) → stepsFrom bs k (over c p (Refused c p)) .last ≡ Refused c p
 unfolding stepsFrom
 refused-stays bs c p z zero = refl
-refused-stays bs c p z (suc k) = ap (λ (x : Spot). stepsFrom bs k x .last) (refused-turn bs c p (Refused c p) z) ∙ refused-stays bs c p z k
+refused-stays bs c p z (suc k) =
+    ap (λ (x : Spot). stepsFrom bs k x .last) (refused-turn bs c p (Refused c p) z) ∙ refused-stays bs c p z k
 
-refused-yield : (bs : List ℕ) (c p : ℕ) → readFile bs ≡ bad c p → (k : ℕ) → givenYield (stepsFrom bs k (openedOf bs) .last) ≡ refused c p
+refused-yield : (bs : List ℕ) (c p : ℕ) → readFile bs ≡ bad c p → (k : ℕ)
+    → givenYield (stepsFrom bs k (openedOf bs) .last) ≡ refused c p
 unfolding givenYield openedOf startOf
 refused-yield bs c p e k =
     let z : 0 < c = refusal-is-numbered bs c p e in

@@ -1,6 +1,5 @@
 -- The test of the place is the definition's.
 -- The idea: at byte 8 the row is the configuration's, elsewhere an event's.
-use native.Mathlib.Omega.{arith}
 use borrow.Author.Tests.{eq-eqb, ne-eqb}
 use Rattle.walk.specs.Steps.{containerRow}
 use borrow.Author.Needs.{needs}

@@ -1,7 +1,6 @@
 -- The header's row, or the end where there is no room for it.
 -- The idea: one law for each way.
 use mathlib.Core.Path.{_∙_}
-use denote.Ref.{now}
 use Rattle.walk.proofs.StepLaws.{header-none, header-here}
 use borrow.Author.Needs.{needs}
 use Rattle.walk.proofs.header_step.Statement.{statement}

@@ -34,7 +34,8 @@ found c = record { is-here = here (c .before .before); length-is = c .word-at2 .
 abbrev read : tie.Else2 → tie.After-word-at2
 read c = c .before .before .before
 
-filled : (c : tie.Else2) → hasValues (read c .before .word-at .result) (cutBody (read c .word-at2 .result) (now (start (read c) .args .part))) ≡ true
+filled : (c : tie.Else2)
+    → hasValues (read c .before .word-at .result) (cutBody (read c .word-at2 .result) (now (start (read c) .args .part))) ≡ true
 filled c = sym (c .before .has-values .ensures) ∙ not-false _ (c .if2 .left)
 
 stands-requires : tie.Need-stands-requires

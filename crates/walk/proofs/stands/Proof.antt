@@ -1,7 +1,6 @@
 -- The two tests are the definition's, in its order.
 -- The idea: the sum of eight and the length word can't overflow, so it's compared as it stands.
 use mathlib.Core.Path.{sym}
-use denote.Ref.{now}
 use Rattle.walk.proofs.StepLaws.{too-short, long-enough}
 use borrow.Author.Needs.{needs}
 use Rattle.walk.proofs.stands.Statement.{statement}

@@ -1,7 +1,6 @@
 -- The file's answer is the start's.
 -- The idea: check says whether the file is read.
 use mathlib.Core.Path.{sym, _∙_}
-use denote.Ref.{now}
 use Rattle.walk.proofs.StepLaws.{opens-refused, opens-accepted}
 use borrow.Author.Needs.{needs}
 use Rattle.walk.proofs.start.Statement.{statement}

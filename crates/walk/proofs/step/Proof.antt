@@ -22,7 +22,13 @@ passed : (c : tie.Else5) → Usable (now (start c .args .file)) (start c .args .
 passed c =
     let rows = c .before .before in
     let limit = rows .before .before in
-    record { accepted = limit .before .if1 .left; limit = limit .if2 .left; rows-low = rows .if3 .left; end-within = c .before .if4 .left; place-within = c .if5 .left }
+    record {
+      accepted = limit .before .if1 .left;
+      limit = limit .if2 .left;
+      rows-low = rows .if3 .left;
+      end-within = c .before .if4 .left;
+      place-within = c .if5 .left;
+    }
 
 stayed-requires : tie.Need-stayed-requires
 stayed-requires c κs = search needs
@@ -85,7 +91,9 @@ record-step-requires : tie.Need-record-step-requires
 record-step-requires c κs = search needs
 
 returns-7 : tie.Need-returns-7
-returns-7 c = let test = c .before .before in c .record-step .ensures ∙ step-record (passed (test .before .before)) (test .before .if6 .left) (test .if7 .taken)
+returns-7 c =
+    let test = c .before .before in
+    c .record-step .ensures ∙ step-record (passed (test .before .before)) (test .before .if6 .left) (test .if7 .taken)
 
 sub-container-step : tie.Need-sub-container-step
 sub-container-step c = search needs
