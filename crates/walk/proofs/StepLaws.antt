@@ -1,7 +1,7 @@
 -- One law for each way through a step, and the count of structures turn by turn.
 -- The idea: each premise is a test that the code has taken, so the definition computes to the answer.
-use mathlib.Core.Path.{_≡_, sym, ap, _∙_}
-use mathlib.Core.Bool.{Bool, true, false, cond, and-eq-true-iff}
+use mathlib.Core.Path.{_≡_, refl, sym, ap, _∙_}
+use mathlib.Core.Bool.{Bool, true, false, cond, _&&_, and-eq-true-iff}
 use mathlib.Core.List.{List}
 use Prim.Native.Nat.{ℕ, zero, suc, _+_, _-_, _≤_, _<_}
 use native.Mathlib.Omega.{arith}
@@ -176,7 +176,11 @@ pub step-refused : (bs : List ℕ) (at : Spot) → (at .number ≡ 0 → ⊥) �
 unfolding stepOf
 step-refused bs at n = rw (ne-eqb (at .number) 0 n)
 
--- Of an accepted file: each law takes the tests that the code has passed, in its order.
+and-false : (b : Bool) → b && false ≡ false
+and-false true = refl
+and-false false = refl
+
+-- Of an accepted file: a number that fails its test ends the walk, whatever the others are.
 module _ (bs : List ℕ) (at : Spot) (z : at .number ≡ 0) where
   unusable : usable bs at ≡ false → ended at ≡ stepOf bs at
   unfolding stepOf
@@ -186,31 +190,19 @@ module _ (bs : List ℕ) (at : Spot) (z : at .number ≡ 0) where
   unfolding usable
   over-limit h = unusable (rw (lt-leb (length bs) fileLimit h))
 
-  module _ (l : length bs ≤ fileLimit) where
-    limit-kept : leb (length bs) fileLimit ≡ true
-    limit-kept = le-leb (length bs) fileLimit l
+  pub over-rows : fileLimit < at .rows → ended at ≡ stepOf bs at
+  unfolding usable
+  over-rows h = unusable (rw (lt-leb (at .rows) fileLimit h) (simp and-false))
 
-    pub over-rows : fileLimit < at .rows → ended at ≡ stepOf bs at
-    unfolding usable
-    over-rows h = unusable (rw (limit-kept, lt-leb (at .rows) fileLimit h))
+  pub over-end : length bs < at .end → ended at ≡ stepOf bs at
+  unfolding usable
+  over-end h = unusable (rw (lt-leb (at .end) (length bs) h) (simp and-false))
 
-    module _ (r : at .rows ≤ fileLimit) where
-      rows-kept : leb (at .rows) fileLimit ≡ true
-      rows-kept = le-leb (at .rows) fileLimit r
+  pub over-place : length bs < at .place → ended at ≡ stepOf bs at
+  unfolding usable
+  over-place h = unusable (rw (lt-leb (at .place) (length bs) h) (simp and-false))
 
-      pub over-end : length bs < at .end → ended at ≡ stepOf bs at
-      unfolding usable
-      over-end h = unusable (rw (limit-kept, rows-kept, lt-leb (at .end) (length bs) h))
-
-      module _ (e : at .end ≤ length bs) where
-        end-kept : leb (at .end) (length bs) ≡ true
-        end-kept = le-leb (at .end) (length bs) e
-
-        pub over-place : length bs < at .place → ended at ≡ stepOf bs at
-        unfolding usable
-        over-place h = unusable (rw (limit-kept, rows-kept, end-kept, lt-leb (at .place) (length bs) h))
-
--- The numbers of a walk over this file, where all those tests were passed.
+-- The numbers of a walk over an accepted file, where all those tests were passed.
 pub record Usable (bs : List ℕ) (at : Spot) : Type 0 where
   pub accepted : at .number ≡ 0
   pub limit : length bs ≤ fileLimit

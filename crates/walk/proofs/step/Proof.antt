@@ -49,28 +49,19 @@ stayed-requires-3 : tie.Need-stayed-requires-3
 stayed-requires-3 c κs = search needs
 
 returns-3 : tie.Need-returns-3
-returns-3 c =
-    let limit = c .before .before .before in
-    c .stayed3 .ensures ∙ over-rows _ _ (limit .before .if1 .left) (limit .if2 .left) (c .before .if3 .taken)
+returns-3 c = c .stayed3 .ensures ∙ over-rows _ _ (c .before .before .before .before .if1 .left) (c .before .if3 .taken)
 
 stayed-requires-4 : tie.Need-stayed-requires-4
 stayed-requires-4 c κs = search needs
 
 returns-4 : tie.Need-returns-4
-returns-4 c =
-    let rows = c .before .before in
-    let limit = rows .before .before in
-    c .stayed4 .ensures ∙ over-end _ _ (limit .before .if1 .left) (limit .if2 .left) (rows .if3 .left) (c .before .if4 .taken)
+returns-4 c = c .stayed4 .ensures ∙ over-end _ _ (c .before .before .before .before .before .if1 .left) (c .before .if4 .taken)
 
 stayed-requires-5 : tie.Need-stayed-requires-5
 stayed-requires-5 c κs = search needs
 
 returns-5 : tie.Need-returns-5
-returns-5 c =
-    let end = c .before .before in
-    let rows = end .before in
-    let limit = rows .before .before in
-    c .stayed5 .ensures ∙ over-place _ _ (limit .before .if1 .left) (limit .if2 .left) (rows .if3 .left) (end .if4 .left) (c .before .if5 .taken)
+returns-5 c = c .stayed5 .ensures ∙ over-place _ _ (c .before .before .before .before .before .before .if1 .left) (c .before .if5 .taken)
 
 header-step-requires : tie.Need-header-step-requires
 header-step-requires c κs = search needs
