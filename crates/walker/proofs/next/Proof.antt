@@ -24,7 +24,7 @@ use denote.RattleType.{RattleType, owns}
 use denote.Laws.{Is, shows}
 use denote.Builtin.{u8}
 use denote.Ref.{now}
-use denote.Signature.{namedLft}
+use denote.Signature.{Slot, namedLft}
 use denote.Slice.{sliceVal, ShrSlice}
 use denote.Steps.{only, peeks, heard, nothing}
 use denote.Struct.Declared.{Declared}
@@ -37,14 +37,15 @@ use denote.Triple.Spec.{Meets, tripleOf}
 use denote.Triple.Table.{entered, cited}
 use denote.Triple.Walked.{says, Stays, stay-none, walkOf, goes-none, Walks, ends-at, walked, walk-meets}
 use denote.Exit.{yes}
-use denote.Triple.Clauses.{ensured, lasts}
+use denote.Triple.Clauses.{Clauses, ensured, lasts}
 use Rattle.walk.specs.Steps.{stepOf}
 use Rattle.walker.specs.declared.Walker.{Walker}
 use Rattle.walk.specs.declared.Spot.{Spot}
 use Rattle.walk.proofs.Spot as P
 use Rattle.walk.proofs.Spot.Laws as P′
-use Rattle.walker.proofs.Walker as T
 use Rattle.walker.proofs.Walker.Laws as T′
+use Rattle.walker.proofs.PartLaws.{B, D, L, spotVal, val-is, is-val, walkerVal, Own, fields, fieldVals, Token, apart, answered}
+use Rattle.walker.proofs.PartLaws.{taking, stays, Entry, entered-with, Post, taking-meets}
 use Rattle.walk.proofs.step as callee
 use Rattle.walk.proofs.step.Symbol as callee-def
 use Rattle.walk.proofs.step.Symbol.{name as #callee}
@@ -54,121 +55,97 @@ use Rattle.walker.proofs.next as fun
 use Rattle.walker.proofs.next.Statement as stated
 use Rattle.walker.proofs.next.Code as code
 
--- the struct's type, its description and its laws, over the signature's lifetimes
-abbrev B : Lfts 1 → RattleType
-B κs = T.the-row (namedLft 1 0 tt κs)
-
-abbrev D : Lfts 1 → Declared
-D κs = T.the-type (namedLft 1 0 tt κs)
-
-abbrev L : (κs : Lfts 1) → LL.Laws (D κs)
-L κs = T′.the-laws (namedLft 1 0 tt κs)
-
-abbrev stayed : Stays (fun.ended .signature .params) (fun.ended .kept)
-stayed = (stay-none B yes, tt)
-
-module _ {M : Type 1} (𝓤 : URA M) (H : Heap 𝓤) (A : Atoms 𝓤) (mem : Memory → SProp 𝓤) (run : Routine → Fun 𝓤) where
-  -- the contract that the proof cites
+module _ {M : Type 1} (𝓤 : URA M) (H : Heap 𝓤) (A : Atoms 𝓤) (W : Given 𝓤 H A) (mem : Memory → SProp 𝓤) (run : Routine → Fun 𝓤) where
+  -- the contract that the proof cites, and the function's own clauses
   abbrev Callee : Contract 𝓤
   Callee = tripleOf 𝓤 H A callee.signature (callee.spec 𝓤 H A mem run)
 
-module _ {M : Type 1} (𝓤 : URA M) (H : Heap 𝓤) (A : Atoms 𝓤) (W : Given 𝓤 H A) (mem : Memory → SProp 𝓤) (run : Routine → Fun 𝓤) (κ : Lft) (q : Share) (d : Walker) where
-  abbrev κs : Lfts 1
-  κs = (κ, tt)
+  abbrev result : Slot 1
+  result = fun.signature .result
 
-  -- the machine value of a spot
-  abbrev pv : Spot → Val
-  pv r = LL.val P.the-type P′.the-laws r
+  abbrev clauses : Clauses 𝓤 (taking result)
+  clauses = fun.clauses 𝓤 H A mem run
 
-  abbrev mach : Val
-  mach = LL.val (D κs) (L κs) d
+  module _ (κ : Lft) (q : Share) (d : Walker) where
+    abbrev κs : Lfts 1
+    κs = (κ, tt)
 
-  abbrev found : Spot
-  found = stepOf (now (d .file)) (d .at)
+    abbrev found : Spot
+    found = stepOf (now (d .file)) (d .at)
 
-  abbrev Post : Val → SProp 𝓤
-  Post = walkOf 𝓤 H A fun.ended stayed (fun.clauses 𝓤 H A mem run) .post ((κs, (q, tt), tt, (d, tt), (mach ∷ [], tt)), tt)
+    -- what the callee is passed: the two fields
+    abbrev to : Callee .Ghost
+    to = ((κs, (q, tt), tt, fields κ d, fieldVals κ d), tt)
 
-  abbrev Own : Fml
-  Own = B κs .own d (mach ∷ [])
+    -- the callee's `ensures`: it has no `&mut`, so what is said of last values is dropped
+    abbrev Said : Spot → SProp 𝓤
+    Said r = ensured 𝓤 H A callee.ended (callee.clauses 𝓤 H A mem run) κs (fields κ d) tt r
 
-  -- what the callee is passed
-  abbrev passed : Vals callee.signature κs
-  passed = (sliceVal (d .file .ptr) (length (d .file .now)) ∷ [], (pv (d .at) ∷ [], tt))
+    said : (r : Spot) → ent 𝓤 (Said r) (fact 𝓤 (r ≡ found))
+    said r = exE 𝓤 _ (λ ws. snd∗ 𝓤 (sem 𝓤 H A (lasts callee.ended κs (fields κ d) ws)) (fact 𝓤 (r ≡ found)))
 
-  abbrev to : Callee 𝓤 H A mem run .Ghost
-  to = ((κs, (q, tt), tt, (d .file, (d .at, tt)), passed), tt)
+    -- the walker with the new spot
+    abbrev stepped : Walker
+    stepped = record { file = d .file; at = found }
 
-  asked : ent 𝓤 (onEntry 𝓤 H A callee.signature κs (q, tt) (d .file, (d .at, tt)) passed) (Callee 𝓤 H A mem run .pre to)
-  asked = qed W ((‵ (flft κ q) ⊛ ‵ ftrue) ∷ ‵ (owns (ShrSlice (named 0) κ u8 ∷ P.the-row ∷ []) (d .file, (d .at, tt)) passed) ∷ []) ∵ join ! $ frame ! $ done !
+    exits : ent 𝓤 (⋆ 𝓤 H A (‵ (P.the-row .own found (spotVal found ∷ [])) ∷ Token 𝓤 κ q ∷ ‵ (Own κ d) ∷ [])) (Post 𝓤 H A W result clauses κ q d tt (walkerVal κ stepped))
+    exits =
+        qed W (‵ (P.the-row .own found (spotVal found ∷ [])) ∷ Token 𝓤 κ q ∷ ‵ (Own κ d) ∷ []) ∵
+        suffices ! _ (ends-at 𝓤 H A (taking result) (stays result) clauses W (entered-with 𝓤 H A W result clauses κ q d tt) (walkerVal κ stepped) stepped (tt, tt) (tt, tt)) $
+        says ! (refl, refl) $ move ! (1 ∷ []) $ frame ! $ move ! (1 ∷ 0 ∷ []) $
+        use1 W (‵ (Own κ d) ⊛ ‵ (Own κ d)) (LL.copy (D κs) (T′.the-copy (namedLft 1 0 tt κs)) 𝓤 H A W .twice d (walkerVal κ d ∷ [])) $ split ! $
+        nothing ! $ move ! (1 ∷ 0 ∷ []) $ fjoin ! $ frame ! $
+        -- [what the walker owns; what the new spot owns]
+        by ! (own-put 𝓤 H A W (D κs) (L κs) 1 (fields κ d) found (walkerVal κ d))
 
-  -- what the struct owns gives what the callee asks, and is kept
-  apart : ent 𝓤 (onEntry 𝓤 H A fun.signature κs (q, tt) (d, tt) (mach ∷ [], tt)) (sep 𝓤 (Callee 𝓤 H A mem run .pre to) (sem 𝓤 H A Own))
-  apart =
-      qed W ((‵ (flft κ q) ⊛ ‵ ftrue) ∷ ‵ (owns (B κs ∷ []) (d, tt) (mach ∷ [], tt)) ∷ []) ∵
-      move ! (1 ∷ []) $ fsplit ! $ move ! (1 ∷ []) $ drop ! $ use1 W (‵ Own ⊛ ‵ Own) (LL.copy (D κs) (T′.the-copy (namedLft 1 0 tt κs)) 𝓤 H A W .twice d (mach ∷ [])) $ split ! $
-      use1 W (given (mach ∷ [] ≡ mach ∷ []) (‵ (all-own (D κs .parts) (L κs) (d .file, (d .at, tt))))) (own-open 𝓤 H A W (D κs) (L κs) (d .file, (d .at, tt)) mach) $ learn ! (λ _.
-      -- [what the fields own together; what the struct owns; the tokens]
-      move ! (2 ∷ 0 ∷ []) $ use2 W (raw (Callee 𝓤 H A mem run .pre to)) asked $ frame ! $ done !)
+    module _ (C : Calls 𝓤 H) (Λ : Loops 𝓤 H) (fm : FmC 𝓤 H (W .laws) C) (known : Triple 𝓤 (C #callee) Callee) where
+      walk : Is (B κs) d (walkerVal κ d ∷ [])
+          → ent 𝓤 (Entry 𝓤 H A W result clauses κ q d) (WpFn 𝓤 H C Λ code.function (walkerVal κ d ∷ []) (Post 𝓤 H A W result clauses κ q d tt))
+      walk is-d =
+          let wt = LL.lawful (D κs) (L κs) 𝓤 H A W .typed d _ is-d .0 in
+          let owed = LL.owed (D κs) (L κs) d _ is-d in
+          let at-wt = P′.the-field-laws .lawful 𝓤 H A W .typed (P.the-field .into (d .at)) (spotVal (d .at) ∷ []) (owed .1 .0) .0 in
+          qed W (raw (Entry 𝓤 H A W result clauses κ q d) ∷ []) ∵ enter ! C Λ code.function (walkerVal κ d ∷ []) _ $
+          alloc1 ! (λ l₀. alloc1 ! (λ l₁. alloc1 ! (λ l₂. alloc1 ! (λ l₃. alloc1 ! (λ l₄. alloc1 ! (λ l₅. alloc0 ! $
+          params1 ! $ pass1 ! (init ! 8 refl wt) $ pass0 ! $
+          -- _2 = w.file; _4 = w.file; _5 = w.at
+          assigns ! (of-opd ! (load ! (from ! (fld ! refl (stop !))) (look-in ! 8 (sub ! 0 refl (whole !)))))
+          (from ! (stop !)) (init ! 6 refl (tt, wt .1 .0)) $
+          assigns ! (of-opd ! (load ! (from ! (fld ! refl (stop !))) (look-in ! 8 (sub ! 0 refl (whole !)))))
+          (from ! (stop !)) (init ! 2 refl (tt, wt .1 .0)) $
+          assigns ! (of-opd ! (load ! (from ! (fld ! refl (stop !))) (look-in ! 8 (sub ! 1 refl (whole !)))))
+          (from ! (stop !)) (init ! 0 refl at-wt) $
+          -- _3 = step(_4, _5)
+          move ! (12 ∷ []) $ use1 W (raw (Callee .pre to) ⊛ ‵ (Own κ d)) (apart 𝓤 H A W κ q d) $ split ! $
+          calls-at ! fm Callee known to
+          (and-then ! (load ! (from ! (stop !)) (look ! 4 refl)) (and-then ! (load ! (from ! (stop !)) (look ! 2 refl)) (no-more !))) (λ u.
+          use1 W (later (‵ (P.the-row .own found (u ∷ [])) ⊛ Token 𝓤 κ q)) (answered 𝓤 H A W κ q P.the-row found Said said u) $ await ! tt $ split ! $
+          -- [the result; the token; what the walker owns; _5; …; _4; …; _3; …; _2; …; _1; …; room for _0; …]
+          peeks ! P.the-row (Is P.the-row) (shows 𝓤 H A P.the-row) found (u ∷ []) (λ is.
+          rewrite ! 0 (λ (x : Val). ‵ (P.the-row .own found (x ∷ []))) (val-is found u is) refl $
+          land ! (from ! (stop !)) (init ! 7 refl (LL.lawful P.the-type P′.the-laws 𝓤 H A W .typed found _ is .0)) $
+          rewrite ! 7 (λ (x : Val). ‵ (fat fullShare P′.mir l₃ 0 x)) (val-is found u is) refl $
+          -- _0 = Walker { file: _2, at: _3 }
+          assigns ! (agg ! (and-then ! (load ! (from ! (stop !)) (look ! 9 refl)) (and-then ! (load ! (from ! (stop !)) (look ! 7 refl)) (no-more !))))
+          (from ! (stop !))
+          (init ! 13 refl (LL.lawful (D κs) (L κs) 𝓤 H A W .typed stepped _ (LL.owes (D κs) (L κs) stepped (owed .0, (is-val found u is, tt))) .0)) $
+          returns ! (look ! 13 refl) $
+          forget ! 3 refl $ forget ! 5 refl $ forget ! 7 refl $ forget ! 9 refl $ forget ! 11 refl $ forget ! 13 refl $
+          move ! (13 ∷ 14 ∷ []) $ free1 ! $ move ! (11 ∷ 12 ∷ []) $ free1 ! $ move ! (9 ∷ 10 ∷ []) $ free1 ! $
+          move ! (7 ∷ 8 ∷ []) $ free1 ! $ move ! (5 ∷ 6 ∷ []) $ free1 ! $ move ! (3 ∷ 4 ∷ []) $ free1 ! $ free0 ! $ by ! exits))))))))
 
-  -- of the callee's `ensured`, the clause alone: it has no `&mut`, so what is said of last values is dropped
-  said : (r : Spot) → ent 𝓤 (ensured 𝓤 H A callee.ended (callee.clauses 𝓤 H A mem run) κs (d .file, (d .at, tt)) tt r) (fact 𝓤 (r ≡ found))
-  said r = exE 𝓤 _ (λ ws. snd∗ 𝓤 (sem 𝓤 H A (lasts callee.ended κs (d .file, (d .at, tt)) ws)) (fact 𝓤 (r ≡ found)))
-
-  -- the struct with the new spot
-  abbrev d′ : Spot → Walker
-  d′ r = record { file = d .file; at = r }
-
-  exits : (r : Spot) → r ≡ found → ent 𝓤 (⋆ 𝓤 H A (‵ (P.the-row .own r (pv r ∷ [])) ∷ (‵ (flft κ q) ⊛ ‵ ftrue) ∷ ‵ Own ∷ [])) (Post (LL.val (D κs) (L κs) (d′ r)))
-  exits r e =
-      qed W (‵ (P.the-row .own r (pv r ∷ [])) ∷ (‵ (flft κ q) ⊛ ‵ ftrue) ∷ ‵ Own ∷ []) ∵
-      suffices ! _ (ends-at 𝓤 H A fun.ended stayed (fun.clauses 𝓤 H A mem run) W ((κs, (q, tt), tt, (d, tt), (mach ∷ [], tt)), tt) (LL.val (D κs) (L κs) (d′ r)) (d′ r) (tt, tt) (tt, tt)) $ says ! (refl, e) $
-      move ! (1 ∷ []) $ frame ! $ move ! (1 ∷ 0 ∷ []) $ use1 W (‵ Own ⊛ ‵ Own) (LL.copy (D κs) (T′.the-copy (namedLft 1 0 tt κs)) 𝓤 H A W .twice d (mach ∷ [])) $ split ! $
-      nothing ! $ move ! (1 ∷ 0 ∷ []) $ fjoin ! $ frame ! $
-      -- [what the struct owns; what the new spot owns]
-      by ! (own-put 𝓤 H A W (D κs) (L κs) 1 (d .file, (d .at, tt)) r mach)
-
-  module _ (C : Calls 𝓤 H) (Λ : Loops 𝓤 H) (fm : FmC 𝓤 H (W .laws) C) (known : Triple 𝓤 (C #callee) (Callee 𝓤 H A mem run)) where
-    walk : Is (B κs) d (mach ∷ []) → ent 𝓤 (onEntry 𝓤 H A fun.signature κs (q, tt) (d, tt) (mach ∷ [], tt)) (WpFn 𝓤 H C Λ code.function (mach ∷ []) Post)
-    walk is-d =
-        let wt = LL.lawful (D κs) (L κs) 𝓤 H A W .typed d _ is-d .0 in
-        let at-wt = P′.the-field-laws .lawful 𝓤 H A W .typed (P.the-field .into (d .at)) (LL.val P.the-type P′.the-laws (d .at) ∷ []) (LL.owed (D κs) (L κs) d _ is-d .1 .0) .0 in
-        qed W (raw (onEntry 𝓤 H A fun.signature κs (q, tt) (d, tt) (mach ∷ [], tt)) ∷ []) ∵ enter ! C Λ code.function (mach ∷ []) _ $
-        alloc1 ! (λ l₀. alloc1 ! (λ l₁. alloc1 ! (λ l₂. alloc1 ! (λ l₃. alloc1 ! (λ l₄. alloc1 ! (λ l₅. alloc0 ! $ params1 ! $ pass1 ! (init ! 8 refl wt) $ pass0 ! $
-        -- _2 = w.file; _4 = w.file; _5 = w.at
-        assigns ! (of-opd ! (load ! (from ! (fld ! refl (stop !))) (look-in ! 8 (sub ! 0 refl (whole !))))) (from ! (stop !)) (init ! 6 refl (tt, wt .1 .0)) $
-        assigns ! (of-opd ! (load ! (from ! (fld ! refl (stop !))) (look-in ! 8 (sub ! 0 refl (whole !))))) (from ! (stop !)) (init ! 2 refl (tt, wt .1 .0)) $
-        assigns ! (of-opd ! (load ! (from ! (fld ! refl (stop !))) (look-in ! 8 (sub ! 1 refl (whole !))))) (from ! (stop !)) (init ! 0 refl at-wt) $
-        move ! (12 ∷ []) $ use1 W (raw (Callee 𝓤 H A mem run .pre to) ⊛ ‵ Own) apart $ split ! $
-        calls-at ! fm (Callee 𝓤 H A mem run) known to (and-then ! (load ! (from ! (stop !)) (look ! 4 refl)) (and-then ! (load ! (from ! (stop !)) (look ! 2 refl)) (no-more !))) (λ u.
-        use1 W (later (some (λ (r : Spot). ((‵ (flft κ q) ⊛ ‵ ftrue) ⊛ ‵ (P.the-row .own r (u ∷ []))) ⊛ raw (ensured 𝓤 H A callee.ended (callee.clauses 𝓤 H A mem run) κs (d .file, (d .at, tt)) tt r)))) (id⊢ 𝓤 _) $ await ! tt $ pick ! (λ r.
-        split ! $ move ! (1 ∷ []) $ use1 W (raw (fact 𝓤 (r ≡ found))) (said r) $ heard ! (r ≡ found) (λ e. split ! $ move ! (1 ∷ []) $
-        -- [the result; the token; what the struct owns; _5; …; _4; …; _3; …; _2; …; _1; …; room for _0; …]
-        peeks ! P.the-row (Is P.the-row) (shows 𝓤 H A P.the-row) r (u ∷ []) (λ is.
-        rewrite ! 0 (λ (x : Val). ‵ (P.the-row .own r (x ∷ []))) (ap only (LL.tells P.the-type P′.the-laws r (u ∷ []) is)) refl $
-        peeks ! P.the-row (Is P.the-row) (shows 𝓤 H A P.the-row) r (pv r ∷ []) (λ is′.
-        land ! (from ! (stop !)) (init ! 7 refl (LL.lawful P.the-type P′.the-laws 𝓤 H A W .typed r _ is .0)) $
-        rewrite ! 7 (λ (x : Val). ‵ (fat fullShare P′.mir l₃ 0 x)) (ap only (LL.tells P.the-type P′.the-laws r (u ∷ []) is)) refl $
-        assigns ! (agg ! (and-then ! (load ! (from ! (stop !)) (look ! 9 refl)) (and-then ! (load ! (from ! (stop !)) (look ! 7 refl)) (no-more !)))) (from ! (stop !)) (init ! 13 refl (LL.lawful (D κs) (L κs) 𝓤 H A W .typed (d′ r) _ (LL.owes (D κs) (L κs) (d′ r) (LL.owed (D κs) (L κs) d _ is-d .0, (is′, tt))) .0)) $
-        returns ! (look ! 13 refl) $ forget ! 3 refl $ forget ! 5 refl $ forget ! 7 refl $ forget ! 9 refl $ forget ! 11 refl $ forget ! 13 refl $
-        move ! (13 ∷ 14 ∷ []) $ free1 ! $ move ! (11 ∷ 12 ∷ []) $ free1 ! $ move ! (9 ∷ 10 ∷ []) $ free1 ! $ move ! (7 ∷ 8 ∷ []) $ free1 ! $ move ! (5 ∷ 6 ∷ []) $ free1 ! $ move ! (3 ∷ 4 ∷ []) $ free1 ! $ free0 ! $ by ! (exits r e))))))))))))
-
-module _ {M : Type 1} (𝓤 : URA M) (H : Heap 𝓤) (A : Atoms 𝓤) (W : Given 𝓤 H A) (mem : Memory → SProp 𝓤) (run : Routine → Fun 𝓤) where
-  walks : (C : Calls 𝓤 H) (Λ : Loops 𝓤 H) → FmC 𝓤 H (W .laws) C → Triple 𝓤 (C #callee) (Callee 𝓤 H A mem run)
-      → Walks 𝓤 H A fun.ended stayed (WpFn 𝓤 H C Λ code.function) (fun.clauses 𝓤 H A mem run)
-  walks C Λ fm known = walked 𝓤 H A fun.ended stayed (fun.clauses 𝓤 H A mem run) (WpFn 𝓤 H C Λ code.function) (λ κs. (LL.vals (D κs) (L κs), tt)) (λ κs. (LL.tells (D κs) (L κs), tt))
-      (λ κs qs bounds a g are. via 𝓤 _ (fst∗ 𝓤 _ (emp 𝓤)) (walk 𝓤 H A W mem run (κs .0) (qs .0) (a .0) C Λ fm known (are .0)))
-
-meets : {M : Type 1} (𝓤 : URA M) (H : Heap 𝓤) (A : Atoms 𝓤) (W : Given 𝓤 H A) (mem : Memory → SProp 𝓤) (run : Routine → Fun 𝓤) (𝓣 : Tables 𝓤 H)
-    → Triple 𝓤 (𝓣 .C #callee) (Callee 𝓤 H A mem run)
-    → Meets 𝓤 H A fun.signature (WpFn 𝓤 H (𝓣 .C) (𝓣 .Λ) code.function) (fun.spec 𝓤 H A mem run)
-meets 𝓤 H A W mem run 𝓣 known = walk-meets 𝓤 H A fun.ended stayed W (goes-none 𝓤 H A W 1 B yes (λ κs x f. refl), tt) (fun.clauses 𝓤 H A mem run) (WpFn 𝓤 H (𝓣 .C) (𝓣 .Λ) code.function) (WpFn-mono 𝓤 H (W .laws) 𝓣 code.function)
-    (walks 𝓤 H A W mem run (𝓣 .C) (𝓣 .Λ) (fmOf 𝓤 H (W .laws) 𝓣) known)
+  meets : (𝓣 : Tables 𝓤 H) → Triple 𝓤 (𝓣 .C #callee) Callee
+      → Meets 𝓤 H A fun.signature (WpFn 𝓤 H (𝓣 .C) (𝓣 .Λ) code.function) (fun.spec 𝓤 H A mem run)
+  meets 𝓣 known =
+      taking-meets 𝓤 H A W result clauses 𝓣 code.function (λ κ q d _. walk κ q d (𝓣 .C) (𝓣 .Λ) (fmOf 𝓤 H (W .laws) 𝓣) known)
 
 pub next-spec : {M : Type 1} → stated.statement M
 unfolding code.routine tablesOf
 next-spec 𝓤 H 𝓜 𝓖 𝓡 =
+    let W = givenOf 𝓤 H 𝓜 𝓖 in
+    let table = tables 𝓤 H 𝓜 𝓡 code.env in
     entered 𝓤 H (tripleOf 𝓤 H (𝓖 .A) fun.signature (fun.spec 𝓤 H (𝓖 .A) (𝓜 .mem) (𝓡 .run)))
-    (tables 𝓤 H 𝓜 𝓡 code.env .C) (tables 𝓤 H 𝓜 𝓡 code.env .Λ) #self code.function (code.unfolded 𝓤 H 𝓜 𝓡)
-    (meets 𝓤 H (𝓖 .A) (givenOf 𝓤 H 𝓜 𝓖) (𝓜 .mem) (𝓡 .run) (tablesOf 𝓤 H 𝓜 (tables 𝓤 H 𝓜 𝓡 code.env))
-    (cited 𝓤 H (Callee 𝓤 H (𝓖 .A) (𝓜 .mem) (𝓡 .run)) 𝓜 𝓡 code.env #callee callee-def.routine code.calls-walk·step (callee-thm.met 𝓤 H 𝓜 𝓖 𝓡)))
+    (table .C) (table .Λ) #self code.function (code.unfolded 𝓤 H 𝓜 𝓡)
+    (meets 𝓤 H (𝓖 .A) W (𝓜 .mem) (𝓡 .run) (tablesOf 𝓤 H 𝓜 table)
+    (cited 𝓤 H (Callee 𝓤 H (𝓖 .A) W (𝓜 .mem) (𝓡 .run)) 𝓜 𝓡 code.env #callee callee-def.routine
+    code.calls-walk·step (callee-thm.met 𝓤 H 𝓜 𝓖 𝓡)))

@@ -23,7 +23,7 @@ use denote.RattleType.{RattleType, owns}
 use denote.Laws.{Is, shows}
 use denote.Builtin.{u8}
 use denote.Ref.{now}
-use denote.Signature.{namedLft}
+use denote.Signature.{Slot}
 use denote.Slice.{sliceVal, ShrSlice}
 use denote.Steps.{peeks, heard, nothing}
 use denote.Enum.Laws as EL
@@ -43,6 +43,7 @@ use Rattle.note.specs.declared.WalkerYield.{WalkerYield}
 use Rattle.walk.proofs.Spot as P
 use Rattle.walk.proofs.Spot.Laws as P′
 use Rattle.walker.proofs.PartLaws.{B, D, L, spotVal, walkerVal, Own, fields, fieldVals, Token, apart, answered}
+use Rattle.walker.proofs.PartLaws.{taking, stays, Entry, entered-with, Post, taking-meets}
 use Rattle.note.proofs.WalkerYield as S
 use Rattle.note.proofs.WalkerYield.Laws as S′
 use Rattle.walker.proofs.last as callee
@@ -54,15 +55,15 @@ use Rattle.walker.proofs.yielded as fun
 use Rattle.walker.proofs.yielded.Statement as stated
 use Rattle.walker.proofs.yielded.Code as code
 
-abbrev stayed : Stays (fun.ended .signature .params) (fun.ended .kept)
-stayed = (stay-none B yes, tt)
-
 module _ {M : Type 1} (𝓤 : URA M) (H : Heap 𝓤) (A : Atoms 𝓤) (W : Given 𝓤 H A) (mem : Memory → SProp 𝓤) (run : Routine → Fun 𝓤) where
   -- the contract that the proof cites, and the function's own clauses
   abbrev Callee : Contract 𝓤
   Callee = tripleOf 𝓤 H A callee.signature (callee.spec 𝓤 H A mem run)
 
-  abbrev clauses : Clauses 𝓤 fun.ended
+  abbrev result : Slot 1
+  result = fun.signature .result
+
+  abbrev clauses : Clauses 𝓤 (taking result)
   clauses = fun.clauses 𝓤 H A mem run
 
   module _ (κ : Lft) (q : Share) (d : Walker) where
@@ -71,15 +72,6 @@ module _ {M : Type 1} (𝓤 : URA M) (H : Heap 𝓤) (A : Atoms 𝓤) (W : Given
 
     abbrev found : WalkerYield
     found = d .at .last
-
-    abbrev Entry : SProp 𝓤
-    Entry = onEntry 𝓤 H A fun.signature κs (q, tt) (d, tt) (walkerVal κ d ∷ [], tt)
-
-    abbrev passed : walkOf 𝓤 H A fun.ended stayed clauses .Ghost
-    passed = ((κs, (q, tt), tt, (d, tt), (walkerVal κ d ∷ [], tt)), tt)
-
-    abbrev Post : Val → SProp 𝓤
-    Post = walkOf 𝓤 H A fun.ended stayed clauses .post passed
 
     -- what the callee is passed: the two fields
     abbrev to : Callee .Ghost
@@ -92,19 +84,20 @@ module _ {M : Type 1} (𝓤 : URA M) (H : Heap 𝓤) (A : Atoms 𝓤) (W : Given
     said : (r : WalkerYield) → ent 𝓤 (Said r) (fact 𝓤 (r ≡ found))
     said r = exE 𝓤 _ (λ ws. snd∗ 𝓤 (sem 𝓤 H A (lasts callee.ended κs (fields κ d) ws)) (fact 𝓤 (r ≡ found)))
 
-    exits : (u : Val) → ent 𝓤 (⋆ 𝓤 H A (‵ (S.the-row .own found (u ∷ [])) ∷ Token 𝓤 κ q ∷ ‵ (Own κ d) ∷ [])) (Post u)
+    exits : (u : Val) → ent 𝓤 (⋆ 𝓤 H A (‵ (S.the-row .own found (u ∷ [])) ∷ Token 𝓤 κ q ∷ ‵ (Own κ d) ∷ [])) (Post 𝓤 H A W result clauses κ q d tt u)
     exits u =
         qed W (‵ (S.the-row .own found (u ∷ [])) ∷ Token 𝓤 κ q ∷ ‵ (Own κ d) ∷ []) ∵
-        suffices ! _ (ends-at 𝓤 H A fun.ended stayed clauses W passed u found (tt, tt) (tt, tt)) $ says ! refl $
+        suffices ! _ (ends-at 𝓤 H A (taking result) (stays result) clauses W (entered-with 𝓤 H A W result clauses κ q d tt) u found (tt, tt) (tt, tt)) $ says ! refl $
         move ! (1 ∷ []) $ frame ! $ nothing ! $ move ! (2 ∷ 0 ∷ []) $ fjoin ! $ frame ! $ done !
 
     module _ (C : Calls 𝓤 H) (Λ : Loops 𝓤 H) (fm : FmC 𝓤 H (W .laws) C) (known : Triple 𝓤 (C #callee) Callee) where
-      walk : Is (B κs) d (walkerVal κ d ∷ []) → ent 𝓤 Entry (WpFn 𝓤 H C Λ code.function (walkerVal κ d ∷ []) Post)
+      walk : Is (B κs) d (walkerVal κ d ∷ [])
+          → ent 𝓤 (Entry 𝓤 H A W result clauses κ q d) (WpFn 𝓤 H C Λ code.function (walkerVal κ d ∷ []) (Post 𝓤 H A W result clauses κ q d tt))
       walk is-d =
           let wt = LL.lawful (D κs) (L κs) 𝓤 H A W .typed d _ is-d .0 in
           let owed = LL.owed (D κs) (L κs) d _ is-d in
           let at-wt = P′.the-field-laws .lawful 𝓤 H A W .typed (P.the-field .into (d .at)) (spotVal (d .at) ∷ []) (owed .1 .0) .0 in
-          qed W (raw Entry ∷ []) ∵ enter ! C Λ code.function (walkerVal κ d ∷ []) _ $
+          qed W (raw (Entry 𝓤 H A W result clauses κ q d) ∷ []) ∵ enter ! C Λ code.function (walkerVal κ d ∷ []) _ $
           alloc1 ! (λ l₀. alloc1 ! (λ l₁. alloc1 ! (λ l₂. alloc1 ! (λ l₃. alloc0 ! $ params1 ! $ pass1 ! (init ! 4 refl wt) $ pass0 ! $
           -- _2 = w.file; _3 = w.at
           assigns ! (of-opd ! (load ! (from ! (fld ! refl (stop !))) (look-in ! 4 (sub ! 0 refl (whole !)))))
@@ -123,19 +116,10 @@ module _ {M : Type 1} (𝓤 : URA M) (H : Heap 𝓤) (A : Atoms 𝓤) (W : Given
           move ! (9 ∷ 10 ∷ []) $ free1 ! $ move ! (7 ∷ 8 ∷ []) $ free1 ! $ move ! (5 ∷ 6 ∷ []) $ free1 ! $ move ! (3 ∷ 4 ∷ []) $ free1 ! $ free0 ! $
           by ! (exits u)))))))
 
-  walks : (C : Calls 𝓤 H) (Λ : Loops 𝓤 H) → FmC 𝓤 H (W .laws) C → Triple 𝓤 (C #callee) Callee
-      → Walks 𝓤 H A fun.ended stayed (WpFn 𝓤 H C Λ code.function) clauses
-  walks C Λ fm known =
-      walked 𝓤 H A fun.ended stayed clauses (WpFn 𝓤 H C Λ code.function)
-      (λ κs. (LL.vals (D κs) (L κs), tt)) (λ κs. (LL.tells (D κs) (L κs), tt))
-      (λ κs qs bounds a g are. via 𝓤 _ (fst∗ 𝓤 _ (emp 𝓤)) (walk (κs .0) (qs .0) (a .0) C Λ fm known (are .0)))
-
   meets : (𝓣 : Tables 𝓤 H) → Triple 𝓤 (𝓣 .C #callee) Callee
       → Meets 𝓤 H A fun.signature (WpFn 𝓤 H (𝓣 .C) (𝓣 .Λ) code.function) (fun.spec 𝓤 H A mem run)
   meets 𝓣 known =
-      walk-meets 𝓤 H A fun.ended stayed W (goes-none 𝓤 H A W 1 B yes (λ κs x f. refl), tt) clauses
-      (WpFn 𝓤 H (𝓣 .C) (𝓣 .Λ) code.function) (WpFn-mono 𝓤 H (W .laws) 𝓣 code.function)
-      (walks (𝓣 .C) (𝓣 .Λ) (fmOf 𝓤 H (W .laws) 𝓣) known)
+      taking-meets 𝓤 H A W result clauses 𝓣 code.function (λ κ q d _. walk κ q d (𝓣 .C) (𝓣 .Λ) (fmOf 𝓤 H (W .laws) 𝓣) known)
 
 pub yielded-spec : {M : Type 1} → stated.statement M
 unfolding code.routine tablesOf
