@@ -3,19 +3,18 @@
 use mathlib.Core.Logic.{_≢_}
 use mathlib.Core.Path.{_≡_, refl, sym, ap, ap₂, _∙_, subst}
 use mathlib.Core.List.{List, [], _∷_, _++_, append-nil, append-assoc}
-use Prim.Native.Nat.{ℕ, zero, suc, _+_, _-_, _*_, _/_, _≤_, _<_}
+use Prim.Native.Nat.{ℕ, zero, suc, _+_, _-_, _/_, _≤_, _<_}
 use native.Mathlib.Omega.{arith}
 use lib.ListN.{length, take, drop, length-append, take-append-drop}
-use lib.Seq.{drop-drop, length-take-le, take-length, take-at}
+use lib.Seq.{drop-drop, take-at}
 use Rattle.theory.specs.Words.{Bytes}
 use Rattle.theory.specs.Tests.{Res, ok, bad}
 use Rattle.theory.specs.Layout.{Row, noRow}
 use Rattle.note.specs.Limits.{rowWidth}
 use Rattle.note.specs.Files.{File, readFile}
-use Rattle.note.specs.Rows.{rowsOf, flat, piece, visitGiven, visitAnswer, visitFilled, visitBuffer}
+use Rattle.note.specs.Rows.{rowsOf, piece, visitGiven, visitAnswer, visitFilled, visitBuffer}
 use Rattle.note.specs.declared.WalkerYield.{WalkerYield}
 use Rattle.note.specs.declared.WalkerYield.the-variants as Yield
-use Rattle.rows.specs.declared.Row as Code
 use Rattle.rows.specs.Buffers.{rowOf, stored}
 use Rattle.rows.proofs.StoreLaws.{stored-append, stored-nil, length-stored, stored-first}
 use Rattle.walk.specs.declared.Spot.{Spot}
@@ -42,12 +41,12 @@ isEnd Yield.End = Unit {0}
 isEnd (Yield.Refused c p) = ⊥
 
 -- Of a walk that stands before rows: it yields a row where there is one.
-pub record Next (bs : List ℕ) (at : Spot) (xs : List Row) : Type 0 where
-  pub one : Row
-  pub others : List Row
-  pub splits : xs ≡ one ∷ others
-  pub here : at .last ≡ rowYield one
-  pub on : Yields bs (stepOf bs at) others
+record Next (bs : List ℕ) (at : Spot) (xs : List Row) : Type 0 where
+  one : Row
+  others : List Row
+  splits : xs ≡ one ∷ others
+  here : at .last ≡ rowYield one
+  on : Yields bs (stepOf bs at) others
 
 coming : (bs : List ℕ) (at : Spot) (xs : List Row) → Yields bs at xs → isRow (at .last) → Next bs at xs
 unfolding Yields stepsFrom
@@ -64,26 +63,19 @@ unfolding Yields stepsFrom
 never-refused bs at [] h c p e = subst isEnd (sym (h 0) ∙ e) tt
 never-refused bs at (x ∷ xs) h c p e = subst isRow (sym (h .0) ∙ e) tt
 
+-- ---- pieces of lists
+
 behind-one : (rs : List Row) (n : ℕ) (r : Row) (xs : List Row) → drop n rs ≡ r ∷ xs → drop (n + 1) rs ≡ xs
 behind-one rs n r xs e = sym (drop-drop 1 n rs) ∙ ap (drop 1) e
 
--- ---- passing over rows and storing them
-
--- k rows were passed over and n stored, and the walk stands before the others.
-pub record Running (bs : List ℕ) (rs : List Row) (first : ℕ) (old new : List ℕ) (at : Spot) (k n : ℕ) : Type 0 where
-  pub ahead : Yields bs (stepOf bs at) (drop (k + n) rs)
-  pub held : new ≡ stored old 0 (take n (drop first rs))
-  pub some : length (take n (drop first rs)) ≡ n
-  pub low : k ≤ first
-  pub idle : k < first → n ≡ 0
-
-pub begin : (bs : List ℕ) (rs : List Row) (first : ℕ) (old : List ℕ) (at : Spot) → Yields bs (stepOf bs at) rs → Running bs rs first old old at 0 0
-begin bs rs first old at h = record { ahead = h; held = sym (stored-nil old 0); some = refl; low = omega arith; idle = λ l. refl }
-
-take-one : (xs : List Row) (n : ℕ) (r : Row) (ys : List Row) → drop n xs ≡ r ∷ ys → length (take n xs) ≡ n → take (n + 1) xs ≡ take n xs ++ (r ∷ [])
+take-one : (xs : List Row) (n : ℕ) (r : Row) (ys : List Row) → drop n xs ≡ r ∷ ys → length (take n xs) ≡ n
+    → take (n + 1) xs ≡ take n xs ++ (r ∷ [])
 take-one xs n r ys e l =
-    let whole : xs ≡ (take n xs ++ (r ∷ [])) ++ ys = sym (take-append-drop n xs) ∙ ap (λ (y : List Row). take n xs ++ y) e ∙ sym (append-assoc (take n xs) (r ∷ []) ys) in
-    ap (take (n + 1)) whole ∙ take-at (take n xs ++ (r ∷ [])) ys (n + 1) (length-append (take n xs) (r ∷ []) ∙ ap (λ (m : ℕ). m + 1) l)
+    let front : List Row = take n xs ++ (r ∷ []) in
+    let whole : xs ≡ front ++ ys =
+    sym (take-append-drop n xs) ∙ ap (λ (y : List Row). take n xs ++ y) e ∙ sym (append-assoc (take n xs) (r ∷ []) ys) in
+    let size : length front ≡ n + 1 = length-append (take n xs) (r ∷ []) ∙ ap (λ (m : ℕ). m + 1) l in
+    ap (take (n + 1)) whole ∙ take-at front ys (n + 1) size
 
 take-all : (m : ℕ) (ys : List Row) → length ys ≤ m → take m ys ≡ ys
 take-all zero [] h = refl
@@ -95,67 +87,129 @@ drop-none : (m : ℕ) → _≡_ {A = List Row} (drop m []) []
 drop-none zero = refl
 drop-none (suc m) = refl
 
+-- ---- passing over rows and storing them
+
+-- k rows were passed over and n stored, and the walk stands before the others.
+record Running (bs : List ℕ) (rs : List Row) (first : ℕ) (old new : List ℕ) (at : Spot) (k n : ℕ) : Type 0 where
+  ahead : Yields bs (stepOf bs at) (drop (k + n) rs)
+  held : new ≡ stored old 0 (take n (drop first rs))
+  some : length (take n (drop first rs)) ≡ n
+  low : k ≤ first
+  idle : k < first → n ≡ 0
+
+-- The walk took one step, to `next`, and yields y there.
+pub record Stepped (bs : List ℕ) (at next : Spot) (y : WalkerYield) : Type 0 where
+  pub next-is : next ≡ stepOf bs at
+  pub yield-is : y ≡ next .last
+
 module _ {bs : List ℕ} {rs : List Row} {first : ℕ} {old new : List ℕ} {at : Spot} {k n : ℕ} (i : Running bs rs first old new at k n)
-    (next : Spot) (en : next ≡ stepOf bs at) where
+    {next : Spot} {y : WalkerYield} (s : Stepped bs at next y) where
   yields : Yields bs next (drop (k + n) rs)
-  yields = subst (λ (x : Spot). Yields bs x (drop (k + n) rs)) (sym en) (i .ahead)
+  yields = subst (λ (x : Spot). Yields bs x (drop (k + n) rs)) (sym (s .next-is)) (i .ahead)
 
-  on-from : (a : ℕ) → a ≡ k + n + 1 → isRow (next .last) → Yields bs (stepOf bs next) (drop a rs)
+  coming-row : isRow y → Next bs next (drop (k + n) rs)
+  coming-row r = coming bs next (drop (k + n) rs) yields (subst isRow (s .yield-is) r)
+
+  on-from : (a : ℕ) → a ≡ k + n + 1 → isRow y → Yields bs (stepOf bs next) (drop a rs)
   on-from a ea r =
-      let x : Next bs next (drop (k + n) rs) = coming bs next (drop (k + n) rs) yields r in
-      subst (Yields bs (stepOf bs next)) (sym (behind-one rs (k + n) (x .one) (x .others) (x .splits)) ∙ ap (λ (m : ℕ). drop m rs) (sym ea)) (x .on)
+      let x = coming-row r in
+      let others-are : x .others ≡ drop a rs = sym (behind-one rs (k + n) (x .one) (x .others) (x .splits)) ∙ ap (λ (m : ℕ). drop m rs) (sym ea) in
+      subst (Yields bs (stepOf bs next)) others-are (x .on)
 
-  pub passed : {a b c d e f : ℕ} → next .last ≡ Yield.Row a b c d e f → k < first → Running bs rs first old new next (k + 1) n
+  passed : isRow y → k < first → Running bs rs first old new next (k + 1) n
   passed r l = record {
-    ahead = on-from (k + 1 + n) (omega arith) (subst isRow (sym r) tt);
+    ahead = on-from (k + 1 + n) (omega arith) r;
     held = i .held;
     some = i .some;
     low = omega arith;
     idle = λ m. i .idle l;
   }
 
-  pub kept : {a b c d e f : ℕ} → next .last ≡ Yield.Row a b c d e f → first ≤ k
-      → (new′ : List ℕ) → new′ ≡ stored new n (rowOf (record { kind = a; start = b; whole = c; parent = d; one = e; two = f }) ∷ [])
-      → Running bs rs first old new′ next k (n + 1)
-  unfolding rowOf
-  kept {a} {b} {c} {d} {e} {f} r l new′ ew =
-      let is : isRow (next .last) = subst isRow (sym r) tt in
-      let x : Next bs next (drop (k + n) rs) = coming bs next (drop (k + n) rs) yields is in
-      let same : _≡_ {A = Row} (record { kind = a; start = b; whole = c; parent = d; one = e; two = f }) (x .one) = ap rowOfYield (sym r ∙ x .here) in
+  kept : isRow y → first ≤ k → (new′ : List ℕ) → new′ ≡ stored new n (rowOfYield y ∷ []) → Running bs rs first old new′ next k (n + 1)
+  kept r l new′ ew =
+      let x = coming-row r in
+      let xs : List Row = drop first rs in
+      let same : rowOfYield y ≡ x .one = ap rowOfYield (s .yield-is ∙ x .here) in
       let m : first + n ≡ k + n = omega (arith, i .low, l) in
-      let here : drop n (drop first rs) ≡ x .one ∷ x .others = drop-drop n first rs ∙ ap (λ (q : ℕ). drop q rs) m ∙ x .splits in
-      let place : n ≡ 0 + length (take n (drop first rs)) = omega (arith, i .some) in
-      let all : take (n + 1) (drop first rs) ≡ take n (drop first rs) ++ (x .one ∷ []) = take-one (drop first rs) n (x .one) (x .others) here (i .some) in
+      let here : drop n xs ≡ x .one ∷ x .others = drop-drop n first rs ∙ ap (λ (q : ℕ). drop q rs) m ∙ x .splits in
+      let place : n ≡ 0 + length (take n xs) = omega (arith, i .some) in
+      let all : take (n + 1) xs ≡ take n xs ++ (x .one ∷ []) = take-one xs n (x .one) (x .others) here (i .some) in
       record {
-        ahead = on-from (k + (n + 1)) (omega arith) is;
-        held = ew ∙ ap (λ (y : Row). stored new n (y ∷ [])) same
-            ∙ ap₂ (λ (y : List ℕ) (q : ℕ). stored y q (x .one ∷ [])) (i .held) place
-            ∙ sym (stored-append old 0 (take n (drop first rs)) (x .one ∷ [])) ∙ ap (stored old 0) (sym all);
-        some = ap length all ∙ length-append (take n (drop first rs)) (x .one ∷ []) ∙ ap (λ (q : ℕ). q + 1) (i .some);
+        ahead = on-from (k + (n + 1)) (omega arith) r;
+        held = ew ∙ ap (λ (z : Row). stored new n (z ∷ [])) same
+            ∙ ap₂ (λ (z : List ℕ) (q : ℕ). stored z q (x .one ∷ [])) (i .held) place
+            ∙ sym (stored-append old 0 (take n xs) (x .one ∷ [])) ∙ ap (stored old 0) (sym all);
+        some = ap length all ∙ length-append (take n xs) (x .one ∷ []) ∙ ap (λ (q : ℕ). q + 1) (i .some);
         low = i .low;
         idle = λ q. absurd (omega arith);
       }
 
-  pub finished : (room : ℕ) → n ≤ room → next .last ≡ Yield.End
-      → (new ≡ stored old 0 (take room (drop first rs))) × (n ≡ length (take room (drop first rs)))
+  finished : (room : ℕ) → n ≤ room → isEnd y → (new ≡ stored old 0 (take room (drop first rs))) × (n ≡ length (take room (drop first rs)))
   finished room l e =
       let xs : List Row = drop first rs in
-      let z : drop (k + n) rs ≡ [] = none-left bs next (drop (k + n) rs) yields (subst isEnd (sym e) tt) in
+      let z : drop (k + n) rs ≡ [] = none-left bs next (drop (k + n) rs) yields (subst isEnd (s .yield-is) e) in
       let m : k + n + (first - k) ≡ first + n = omega (arith, i .low) in
-      let gone : drop n xs ≡ [] = drop-drop n first rs ∙ ap (λ (q : ℕ). drop q rs) (sym m) ∙ sym (drop-drop (first - k) (k + n) rs) ∙ ap (drop (first - k)) z ∙ drop-none (first - k) in
-      let whole : take n xs ≡ xs = sym (append-nil (take n xs)) ∙ ap (λ (y : List Row). take n xs ++ y) (sym gone) ∙ take-append-drop n xs in
+      let gone : drop n xs ≡ [] =
+      drop-drop n first rs ∙ ap (λ (q : ℕ). drop q rs) (sym m) ∙ sym (drop-drop (first - k) (k + n) rs)
+      ∙ ap (drop (first - k)) z ∙ drop-none (first - k) in
+      let whole : take n xs ≡ xs = sym (append-nil (take n xs)) ∙ ap (λ (t : List Row). take n xs ++ t) (sym gone) ∙ take-append-drop n xs in
       let size : length xs ≡ n = ap length (sym whole) ∙ i .some in
       let all : take room xs ≡ take n xs = take-all room xs (omega (arith, size)) ∙ sym whole in
       (i .held ∙ ap (stored old 0) (sym all), sym (i .some) ∙ ap length (sym all))
 
-  pub not-refused : (c p : ℕ) → next .last ≡ Yield.Refused c p → ⊥
-  not-refused c p e = never-refused bs next (drop (k + n) rs) yields c p e
+-- ---- the loop that stores
 
-pub filled : {bs : List ℕ} {rs : List Row} {first : ℕ} {old new : List ℕ} {at : Spot} {k n : ℕ} → Running bs rs first old new at k n
-    → (room : ℕ) → n ≤ room → room ≤ n → (new ≡ stored old 0 (take room (drop first rs))) × (n ≡ length (take room (drop first rs)))
-filled {bs} {rs} {first} {old} {new} {at} {k} {n} i room l m =
-    let e : n ≡ room = omega arith in
-    (i .held ∙ ap (λ (q : ℕ). stored old 0 (take q (drop first rs))) e, sym (i .some) ∙ ap (λ (q : ℕ). length (take q (drop first rs))) e)
+-- What the loop holds on to: its numbers' bounds, the buffer's length, and whatever rows the walk yields from its beginning on, that
+-- so many were passed over and so many stored.
+pub record Storing (bs : List ℕ) (from : Spot) (first room : ℕ) (old new : List ℕ) (at : Spot) (k n : ℕ) : Type 0 where
+  pub low : k ≤ first
+  pub fits : n ≤ room
+  pub size : length new ≡ length old
+  runs : (rs : List Row) → Yields bs (stepOf bs from) rs → Running bs rs first old new at k n
+
+pub begin : (bs : List ℕ) (from : Spot) (first room : ℕ) (old : List ℕ) → Storing bs from first room old old from 0 0
+begin bs from first room old = record {
+  low = omega arith;
+  fits = omega arith;
+  size = refl;
+  runs = λ rs h. record { ahead = h; held = sym (stored-nil old 0); some = refl; low = omega arith; idle = λ l. refl };
+}
+
+module _ {bs : List ℕ} {from : Spot} {first room : ℕ} {old new : List ℕ} {at : Spot} {k n : ℕ} (i : Storing bs from first room old new at k n)
+    {next : Spot} {y : WalkerYield} (s : Stepped bs at next y) {a b c d e f : ℕ} (r : y ≡ Yield.Row a b c d e f) where
+  is-row : isRow y
+  is-row = subst isRow (sym r) tt
+
+  -- A turn that passes over a row, and one that stores it.
+  pub passes : k < first → Storing bs from first room old new next (k + 1) n
+  passes l = record { low = omega arith; fits = i .fits; size = i .size; runs = λ rs h. passed (i .runs rs h) s is-row l }
+
+  pub keeps : first ≤ k → n < room
+      → (new′ : List ℕ) → new′ ≡ stored new n (rowOf (record { kind = a; start = b; whole = c; parent = d; one = e; two = f }) ∷ [])
+      → Storing bs from first room old new′ next k (n + 1)
+  unfolding rowOf
+  keeps l m new′ ew = record {
+    low = i .low;
+    fits = omega arith;
+    size = ap length ew ∙ length-stored new n _ ∙ i .size;
+    runs = λ rs h. kept (i .runs rs h) s is-row l new′ (ew ∙ ap (λ (z : WalkerYield). stored new n (rowOfYield z ∷ [])) (sym r));
+  }
+
+-- At the end, or where the buffer is full, what is stored is what was asked; a refusal doesn't come.
+module _ {bs : List ℕ} {from : Spot} {first : ℕ} {old new : List ℕ} {at : Spot} {k n : ℕ}
+    (i : Storing bs from first (length old / rowWidth) old new at k n) where
+  pub full : length old / rowWidth ≤ n → Stored bs from first old new n
+  full l rs h =
+      let t = i .runs rs h in
+      let e : n ≡ length old / rowWidth = omega (arith, i .fits) in
+      (t .held ∙ ap (λ (q : ℕ). stored old 0 (take q (drop first rs))) e, sym (t .some) ∙ ap (λ (q : ℕ). length (take q (drop first rs))) e)
+
+  module _ {next : Spot} {y : WalkerYield} (s : Stepped bs at next y) where
+    pub ends : y ≡ Yield.End → Stored bs from first old new n
+    ends e rs h = finished (i .runs rs h) s (length old / rowWidth) (i .fits) (subst isEnd (sym e) tt)
+
+    pub not-refused : {c p : ℕ} → y ≡ Yield.Refused c p → Stored bs from first old new n
+    not-refused {c} {p} e rs h = absurd (never-refused bs next (drop (k + n) rs) (yields (i .runs rs h) s) c p (sym (s .yield-is) ∙ e))
 
 -- ---- the visitor
 
