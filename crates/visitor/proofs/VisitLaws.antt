@@ -113,7 +113,8 @@ module _ {bs : List ℕ} {rs : List Row} {first : ℕ} {old new : List ℕ} {at 
   on-from : (a : ℕ) → a ≡ k + n + 1 → isRow y → Yields bs (stepOf bs next) (drop a rs)
   on-from a ea r =
       let x = coming-row r in
-      let others-are : x .others ≡ drop a rs = sym (behind-one rs (k + n) (x .one) (x .others) (x .splits)) ∙ ap (λ (m : ℕ). drop m rs) (sym ea) in
+      let others-are : x .others ≡ drop a rs =
+      sym (behind-one rs (k + n) (x .one) (x .others) (x .splits)) ∙ ap (λ (m : ℕ). drop m rs) (sym ea) in
       subst (Yields bs (stepOf bs next)) others-are (x .on)
 
   passed : isRow y → k < first → Running bs rs first old new next (k + 1) n
@@ -125,7 +126,8 @@ module _ {bs : List ℕ} {rs : List Row} {first : ℕ} {old new : List ℕ} {at 
     idle = λ m. i .idle l;
   }
 
-  kept : isRow y → first ≤ k → (new′ : List ℕ) → new′ ≡ stored new n (rowOfYield y ∷ []) → Running bs rs first old new′ next k (n + 1)
+  kept : isRow y → first ≤ k → (new′ : List ℕ) → new′ ≡ stored new n (rowOfYield y ∷ [])
+      → Running bs rs first old new′ next k (n + 1)
   kept r l new′ ew =
       let x = coming-row r in
       let xs : List Row = drop first rs in
@@ -144,7 +146,8 @@ module _ {bs : List ℕ} {rs : List Row} {first : ℕ} {old new : List ℕ} {at 
         idle = λ q. absurd (omega arith);
       }
 
-  finished : (room : ℕ) → n ≤ room → isEnd y → (new ≡ stored old 0 (take room (drop first rs))) × (n ≡ length (take room (drop first rs)))
+  finished : (room : ℕ) → n ≤ room → isEnd y
+      → (new ≡ stored old 0 (take room (drop first rs))) × (n ≡ length (take room (drop first rs)))
   finished room l e =
       let xs : List Row = drop first rs in
       let z : drop (k + n) rs ≡ [] = none-left bs next (drop (k + n) rs) yields (subst isEnd (s .yield-is) e) in
@@ -224,12 +227,14 @@ length-piece (suc m) (x ∷ xs) = omega (arith, length-piece m xs)
 
 module _ (bs old : List ℕ) (k : ℕ) where
   pub visit-refused : startOf bs .number ≢ 0
-      → (record { number = startOf bs .number; count = 0; place = startOf bs .fault } ≡ visitAnswer bs k (length old)) × (old ≡ visitBuffer bs k old)
+      → (record { number = startOf bs .number; count = 0; place = startOf bs .fault } ≡ visitAnswer bs k (length old))
+      × (old ≡ visitBuffer bs k old)
   unfolding visitAnswer visitBuffer startOf
   visit-refused n = go (readFile bs) refl
     where
       go : (r : Res File) → readFile bs ≡ r
-          → (record { number = startGiven (readFile bs) .number; count = 0; place = startGiven (readFile bs) .fault } ≡ visitGiven bs k (length old) (readFile bs))
+          → (record { number = startGiven (readFile bs) .number; count = 0; place = startGiven (readFile bs) .fault }
+          ≡ visitGiven bs k (length old) (readFile bs))
           × (old ≡ visitFilled k old (readFile bs))
       go (ok f) e = absurd (n (ap (λ (x : Res File). startGiven x .number) e))
       go (bad c p) e = (rw e, rw e)
@@ -240,7 +245,8 @@ module _ (bs old : List ℕ) (k : ℕ) where
   visit-accepted h z new n t = go (readFile bs) refl
     where
       go : (r : Res File) → readFile bs ≡ r
-          → (record { number = 0; count = n; place = length bs } ≡ visitGiven bs k (length old) (readFile bs)) × (new ≡ visitFilled k old (readFile bs))
+          → (record { number = 0; count = n; place = length bs } ≡ visitGiven bs k (length old) (readFile bs))
+          × (new ≡ visitFilled k old (readFile bs))
       go (ok f) e =
           let (held, some) = t (rowsOf f) (file-yields bs f h e) in
           let xs : List Row = piece k (length old) (rowsOf f) in

@@ -1,5 +1,5 @@
 -- A turn passes over one row or stores one; at the end, or where the buffer is full, the rows stored are those that it holds.
--- The idea: what is known of the walk's yields is handed on turn by turn (Running).
+-- The idea: what is known of the walk's yields is handed on turn by turn (Storing).
 use Prim.Native.Nat.{_+_, _-_}
 use native.Mathlib.Omega.{arith}
 use denote.Ref.{now}
