@@ -95,7 +95,6 @@ record Running (bs : List ℕ) (rs : List Row) (first : ℕ) (old new : List ℕ
   held : new ≡ stored old 0 (take n (drop first rs))
   some : length (take n (drop first rs)) ≡ n
   low : k ≤ first
-  idle : k < first → n ≡ 0
 
 -- The walk took one step, to `next`, and yields y there.
 pub record Stepped (bs : List ℕ) (at next : Spot) (y : WalkerYield) : Type 0 where
@@ -123,7 +122,6 @@ module _ {bs : List ℕ} {rs : List Row} {first : ℕ} {old new : List ℕ} {at 
     held = i .held;
     some = i .some;
     low = omega arith;
-    idle = λ m. i .idle l;
   }
 
   kept : isRow y → first ≤ k → (new′ : List ℕ) → new′ ≡ stored new n (rowOfYield y ∷ [])
@@ -143,7 +141,6 @@ module _ {bs : List ℕ} {rs : List Row} {first : ℕ} {old new : List ℕ} {at 
             ∙ sym (stored-append old 0 (take n xs) (x .one ∷ [])) ∙ ap (stored old 0) (sym all);
         some = ap length all ∙ length-append (take n xs) (x .one ∷ []) ∙ ap (λ (q : ℕ). q + 1) (i .some);
         low = i .low;
-        idle = λ q. absurd (omega arith);
       }
 
   finished : (room : ℕ) → n ≤ room → isEnd y
@@ -162,20 +159,18 @@ module _ {bs : List ℕ} {rs : List Row} {first : ℕ} {old new : List ℕ} {at 
 
 -- ---- the loop that stores
 
--- What the loop holds on to: its numbers' bounds, the buffer's length, and whatever rows the walk yields from its beginning on, that
--- so many were passed over and so many stored.
+-- What the loop holds on to: there is room for what was stored, the buffer keeps its length, and whatever rows the walk yields from its
+-- beginning on, so many were passed over and so many stored.
 pub record Storing (bs : List ℕ) (from : Spot) (first room : ℕ) (old new : List ℕ) (at : Spot) (k n : ℕ) : Type 0 where
-  pub low : k ≤ first
   pub fits : n ≤ room
   pub size : length new ≡ length old
   runs : (rs : List Row) → Yields bs (stepOf bs from) rs → Running bs rs first old new at k n
 
 pub begin : (bs : List ℕ) (from : Spot) (first room : ℕ) (old : List ℕ) → Storing bs from first room old old from 0 0
 begin bs from first room old = record {
-  low = omega arith;
   fits = omega arith;
   size = refl;
-  runs = λ rs h. record { ahead = h; held = sym (stored-nil old 0); some = refl; low = omega arith; idle = λ l. refl };
+  runs = λ rs h. record { ahead = h; held = sym (stored-nil old 0); some = refl; low = omega arith };
 }
 
 module _ {bs : List ℕ} {from : Spot} {first room : ℕ} {old new : List ℕ} {at : Spot} {k n : ℕ} (i : Storing bs from first room old new at k n)
@@ -185,14 +180,13 @@ module _ {bs : List ℕ} {from : Spot} {first room : ℕ} {old new : List ℕ} {
 
   -- A turn that passes over a row, and one that stores it.
   pub passes : k < first → Storing bs from first room old new next (k + 1) n
-  passes l = record { low = omega arith; fits = i .fits; size = i .size; runs = λ rs h. passed (i .runs rs h) s is-row l }
+  passes l = record { fits = i .fits; size = i .size; runs = λ rs h. passed (i .runs rs h) s is-row l }
 
   pub keeps : first ≤ k → n < room
       → (new′ : List ℕ) → new′ ≡ stored new n (rowOf (record { kind = a; start = b; whole = c; parent = d; one = e; two = f }) ∷ [])
       → Storing bs from first room old new′ next k (n + 1)
   unfolding rowOf
   keeps l m new′ ew = record {
-    low = i .low;
     fits = omega arith;
     size = ap length ew ∙ length-stored new n _ ∙ i .size;
     runs = λ rs h. kept (i .runs rs h) s is-row l new′ (ew ∙ ap (λ (z : WalkerYield). stored new n (rowOfYield z ∷ [])) (sym r));
