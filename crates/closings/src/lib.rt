@@ -107,7 +107,8 @@ fn close(
     context: Context,
 ) -> WriterAnswer
     ensures answer { λ r. ⌜ givenWriter r ≡ writerGiven (closed (now (out .entry)) place end fault least (contextOf context)) ⌝ }
-    ensures output { λ _. ⌜ now (out .exit) ≡ written (closed (now (out .entry)) place end fault least (contextOf context)) (now (out .entry)) place (closingBytes word place end) ⌝ }
+    ensures output { λ _. ⌜ now (out .exit) ≡ written (closed (now (out .entry)) place end fault least (contextOf context))
+        (now (out .entry)) place (closingBytes word place end) ⌝ }
 {
     match bounded(out.len(), place, end, fault, least) {
         WriterAnswer::Refused { number, place } => WriterAnswer::Refused { number, place },

@@ -2,10 +2,13 @@
 -- there. Document 01, 'How far each contract goes': an answer by numbers, and every lent buffer, for refused inputs too.
 use Prim.Native.Nat.{ℕ}
 use mathlib.Core.Bool.{Bool, true, false, cond}
+use mathlib.Core.Path.{_≡_}
 use mathlib.Core.List.{List, [], _∷_, _++_}
+use lib.Dec.{eqb}
 use lib.IntN.{ℤ, pos}
 use lib.Ieee.{Float, binary64, ofBits}
 use lib.ListN.{take, replicate}
+use Rattle.note.specs.declared.ChannelAnswer.{ChannelAnswer}
 use Rattle.note.specs.Answers.{Value, whole, float, Given, accepted, refused}
 
 -- The number that a call returns.
@@ -41,6 +44,17 @@ wholesAfter n old (refused number place) = old
 unfoldable pub floatsAfter : ℕ → List Float → Given → List Float
 floatsAfter n old (accepted vs) = take n (floatsIn vs ++ replicate n plusZero)
 floatsAfter n old (refused number place) = old
+
+-- One lent number after the call: the value; on a refusal what stood there.
+abbrev pub NumberAfter : ℕ → Given → ℕ → Type 0
+NumberAfter old given new = pos new ∷ [] ≡ wholesAfter 1 (pos old ∷ []) given
+
+-- Channel's four numbers, and what it lends after the call: under another number than 0 what stood there.
+abbrev pub channelNumbers : ChannelAnswer → List ℕ
+channelNumbers answer = answer .kind ∷ answer .detector ∷ answer .analysis .length ∷ answer .cold .length ∷ []
+
+abbrev pub channelAfter : List ℕ → ChannelAnswer → List ℕ → List ℕ
+channelAfter old answer new = cond (eqb (answer .number) 0) new old
 
 -- 1 for true.
 abbrev pub bit : Bool → ℕ

@@ -8,10 +8,6 @@ use note::SettingAnswer;
 use note::WalkerYield;
 use walk::Spot;
 ghost use mathlib.Core.Path.{_≡_};
-ghost use mathlib.Core.Bool.{cond};
-ghost use mathlib.Core.List.{[], _∷_};
-ghost use lib.Dec.{eqb};
-ghost use lib.IntN.{pos};
 ghost use lib.ListN.{length};
 ghost use Rattle.note.specs.Answers.{givenYield};
 ghost use Rattle.note.specs.Calls.{recordAt, settingAt, samplesPart, sampleAt, findAt};
@@ -19,7 +15,7 @@ ghost use Rattle.note.specs.Channels.{channelAnswer, codeAnswer};
 ghost use Rattle.note.specs.Rows.{tableAnswer, tableBuffer};
 ghost use Rattle.note.specs.Tlb.{zipSet};
 ghost use Rattle.walk.specs.Steps.{openedOf, stepOf};
-ghost use Rattle.exports.specs.Lent.{numberOf, placeAfter, wholesAfter, floatsAfter, bit};
+ghost use Rattle.exports.specs.Lent.{numberOf, placeAfter, wholesAfter, floatsAfter, NumberAfter, channelNumbers, channelAfter, bit};
 ghost use Rattle.exports.specs.Walkers.{spotOf, numbersOf, rowAfter};
 
 /// Table: the number; the rows, their count and the place lent.
@@ -354,7 +350,7 @@ pub extern "C" fn dwj_sample(
     refusal: &mut u64,
 ) -> u32
     ensures number { λ r. ⌜ r ≡ numberOf (sampleAt (now (file .entry)) place number) ⌝ }
-    ensures value { λ _. ⌜ pos (now (value .exit)) ∷ [] ≡ wholesAfter 1 (pos (now (value .entry)) ∷ []) (sampleAt (now (file .entry)) place number) ⌝ }
+    ensures value { λ _. ⌜ NumberAfter (now (value .entry)) (sampleAt (now (file .entry)) place number) (now (value .exit)) ⌝ }
     ensures refusal { λ _. ⌜ now (refusal .exit) ≡ placeAfter (now (refusal .entry)) (sampleAt (now (file .entry)) place number) ⌝ }
 {
     match dwejrasq::sample(file, place, number) {
@@ -382,7 +378,7 @@ pub extern "C" fn dwj_find(
     refusal: &mut u64,
 ) -> u32
     ensures number { λ r. ⌜ r ≡ numberOf (findAt (now (file .entry)) number code) ⌝ }
-    ensures place { λ _. ⌜ pos (now (place .exit)) ∷ [] ≡ wholesAfter 1 (pos (now (place .entry)) ∷ []) (findAt (now (file .entry)) number code) ⌝ }
+    ensures place { λ _. ⌜ NumberAfter (now (place .entry)) (findAt (now (file .entry)) number code) (now (place .exit)) ⌝ }
     ensures refusal { λ _. ⌜ now (refusal .exit) ≡ placeAfter (now (refusal .entry)) (findAt (now (file .entry)) number code) ⌝ }
 {
     match dwejrasq::find(file, number, code) {
@@ -469,7 +465,8 @@ pub extern "C" fn dwj_next(
     ensures number { λ r. ⌜ r ≡ numberOf (givenYield (stepOf (now (file .entry)) (spotOf (now (walker .entry))) .last)) ⌝ }
     ensures walker { λ _. ⌜ now (walker .exit) ≡ numbersOf (stepOf (now (file .entry)) (spotOf (now (walker .entry)))) ⌝ }
     ensures row { λ _. ⌜ now (row .exit) ≡ rowAfter (now (row .entry)) (stepOf (now (file .entry)) (spotOf (now (walker .entry))) .last) ⌝ }
-    ensures refusal { λ _. ⌜ now (refusal .exit) ≡ placeAfter (now (refusal .entry)) (givenYield (stepOf (now (file .entry)) (spotOf (now (walker .entry))) .last)) ⌝ }
+    ensures refusal { λ _. ⌜ now (refusal .exit) ≡ placeAfter (now (refusal .entry))
+        (givenYield (stepOf (now (file .entry)) (spotOf (now (walker .entry))) .last)) ⌝ }
 {
     let from = Spot {
         number: (walker[0] % 4294967296) as u32,
@@ -501,9 +498,9 @@ pub extern "C" fn dwj_channel(
     cold: &mut [u8; 4],
 ) -> u32
     ensures number { λ r. ⌜ r ≡ channelAnswer code .number ⌝ }
-    ensures numbers { λ _. ⌜ now (numbers .exit) ≡ cond (eqb (channelAnswer code .number) 0) (channelAnswer code .kind ∷ channelAnswer code .detector ∷ channelAnswer code .analysis .length ∷ channelAnswer code .cold .length ∷ []) (now (numbers .entry)) ⌝ }
-    ensures analysis { λ _. ⌜ now (analysis .exit) ≡ cond (eqb (channelAnswer code .number) 0) (channelAnswer code .analysis .bytes) (now (analysis .entry)) ⌝ }
-    ensures cold { λ _. ⌜ now (cold .exit) ≡ cond (eqb (channelAnswer code .number) 0) (channelAnswer code .cold .bytes) (now (cold .entry)) ⌝ }
+    ensures numbers { λ _. ⌜ now (numbers .exit) ≡ channelAfter (now (numbers .entry)) (channelAnswer code) (channelNumbers (channelAnswer code)) ⌝ }
+    ensures analysis { λ _. ⌜ now (analysis .exit) ≡ channelAfter (now (analysis .entry)) (channelAnswer code) (channelAnswer code .analysis .bytes) ⌝ }
+    ensures cold { λ _. ⌜ now (cold .exit) ≡ channelAfter (now (cold .entry)) (channelAnswer code) (channelAnswer code .cold .bytes) ⌝ }
 {
     let answer = dwejrasq::channel(code);
     if answer.number == 0 {
@@ -525,7 +522,7 @@ pub extern "C" fn dwj_channel(
 #[no_mangle]
 pub extern "C" fn dwj_code(kind: u32, detector: u32, name: &[u8], code: &mut u32) -> u32
     ensures number { λ r. ⌜ r ≡ numberOf (codeAnswer kind detector (now (name .entry))) ⌝ }
-    ensures code { λ _. ⌜ pos (now (code .exit)) ∷ [] ≡ wholesAfter 1 (pos (now (code .entry)) ∷ []) (codeAnswer kind detector (now (name .entry))) ⌝ }
+    ensures code { λ _. ⌜ NumberAfter (now (code .entry)) (codeAnswer kind detector (now (name .entry))) (now (code .exit)) ⌝ }
 {
     match dwejrasq::code(kind, detector, name) {
         CodeAnswer::Code { code: found } => {

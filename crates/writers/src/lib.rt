@@ -273,7 +273,9 @@ fn put_history(
     trigger_width: u32,
     trigger_masks: &[u8],
 )
-    requires { ⌜ (24 + ((length (now «veto_times») + length (now «veto_masks»)) + (length (now «trigger_times») + length (now «trigger_masks»))) ≤ length (now part)) × (length (now part) ≤ 0xFFFFFFFF) ⌝ }
+    requires { ⌜ (24 + ((length (now «veto_times») + length (now «veto_masks»))
+        + (length (now «trigger_times») + length (now «trigger_masks»))) ≤ length (now part))
+        × (length (now part) ≤ 0xFFFFFFFF) ⌝ }
     ensures { λ _. ⌜ now (part .exit) ≡ sets (now (part .entry)) 0 (historyWritten (record {
       veto = record {
         count = «veto_count»;

@@ -293,7 +293,8 @@ pub extern "C" fn dwj_close_event(
     next: &mut u64,
     refusal: &mut u64,
 ) -> u32
-    ensures { λ r. ⌜ Told (eventClosed (now (out .entry)) place end class category kind) (eventOutput (now (out .entry)) place end class category kind)
+    ensures { λ r. ⌜ Told (eventClosed (now (out .entry)) place end class category kind)
+        (eventOutput (now (out .entry)) place end class category kind)
         (record { next = now (next .entry); refusal = now (refusal .entry) })
         (record { number = r; next = now (next .exit); refusal = now (refusal .exit) }) (now (out .exit)) ⌝ }
 {
