@@ -499,7 +499,8 @@ pub extern "C" fn dwj_channel(
 ) -> u32
     ensures number { λ r. ⌜ r ≡ channelAnswer code .number ⌝ }
     ensures numbers { λ _. ⌜ now (numbers .exit) ≡ channelAfter (now (numbers .entry)) (channelAnswer code) (channelNumbers (channelAnswer code)) ⌝ }
-    ensures analysis { λ _. ⌜ now (analysis .exit) ≡ channelAfter (now (analysis .entry)) (channelAnswer code) (channelAnswer code .analysis .bytes) ⌝ }
+    ensures analysis { λ _. ⌜ now (analysis .exit) ≡ channelAfter (now (analysis .entry)) (channelAnswer code)
+        (channelAnswer code .analysis .bytes) ⌝ }
     ensures cold { λ _. ⌜ now (cold .exit) ≡ channelAfter (now (cold .entry)) (channelAnswer code) (channelAnswer code .cold .bytes) ⌝ }
 {
     let answer = dwejrasq::channel(code);

@@ -37,10 +37,12 @@ pub record FillableFile (bs : List ℕ) (room : ℕ) : Type 0 where
 -- The buffer `new` is `old` with the rows of the part's records from the index `first` on, and `next` is the index after them.
 abbrev pub Filled : ℕ → List ℕ → List ℕ → ℕ → ℕ → List ℕ → ℕ → Type 0
 Filled from bs old first parent new next =
-    (c : Context) (rs : List Record) → readRecords c from bs ≡ ok rs → (new ≡ stored old first (childRows parent from (childrenOf rs))) × (next ≡ first + length rs)
+    (c : Context) (rs : List Record) → readRecords c from bs ≡ ok rs
+    → (new ≡ stored old first (childRows parent from (childrenOf rs))) × (next ≡ first + length rs)
 
 abbrev pub FilledEvents : ℕ → List ℕ → List ℕ → ℕ → List ℕ → Type 0
-FilledEvents from bs old first new = (es : List Container) → readEvents tt from bs ≡ ok es → new ≡ stored old first (rows (first + 1) from (map eventNode es))
+FilledEvents from bs old first new =
+    (es : List Container) → readEvents tt from bs ≡ ok es → new ≡ stored old first (rows (first + 1) from (map eventNode es))
 
 abbrev pub FilledFile : List ℕ → List ℕ → List ℕ → Type 0
 FilledFile bs old new = (f : File) → readFile bs ≡ ok f → new ≡ stored old 0 (rowsOf f)

@@ -44,7 +44,15 @@ refusedAt at = stayed at (Refused (at .number) (at .fault))
 
 -- It moves on, one row further, and yields that row.
 abbrev pub moved : Spot → ℕ → ℕ → ℕ → WalkerYield → Spot
-moved at place end parent row = record { number = at .number; fault = at .fault; place = place; end = end; parent = parent; rows = at .rows + 1; last = row }
+moved at place end parent row = record {
+  number = at .number;
+  fault = at .fault;
+  place = place;
+  end = end;
+  parent = parent;
+  rows = at .rows + 1;
+  last = row;
+}
 
 -- The header's row; a record's, at the front of what is left of its container; a container's, of what is left of the file.
 unfoldable pub headerStep : List ℕ → Spot → Spot
@@ -67,7 +75,8 @@ recordStep bs at =
 unfoldable pub containerStep : List ℕ → Spot → Spot
 containerStep bs at =
     cond (stands bs)
-    (moved at (at .place + 8) (at .place + (8 + word 4 bs)) (at .rows + 1) (containerRow (at .place) (8 + word 4 bs) (word 0 bs) (countIn (bodyIn bs))))
+    (moved at (at .place + 8) (at .place + (8 + word 4 bs)) (at .rows + 1)
+    (containerRow (at .place) (8 + word 4 bs) (word 0 bs) (countIn (bodyIn bs))))
     (ended at)
 
 -- Numbers that a walk over this file can have.
