@@ -84,10 +84,12 @@ module _ (o : Order) {S E : Type 0}
   pub free-valid : (e : E) (p : Spot) (r : Leaf) (i v : ℕ) → Free e p r i v → Oks Bx e (plug p r) → Oks Bx e (plug p (edited r i v))
   free-valid e p r i v f valid =
       let d : Leaf = edited r i v in
-      let boxes : Oks Bx e (p .before) × Oks Bx (stateBox e p) (boxAt p r ∷ p .after) = Oks-append Bx e (p .before) (boxAt p r ∷ p .after) .0 valid in
+      let boxes : Oks Bx e (p .before) × Oks Bx (stateBox e p) (boxAt p r ∷ p .after) =
+      Oks-append Bx e (p .before) (boxAt p r ∷ p .after) .0 valid in
       let here : Bx .Ok (stateBox e p) (boxAt p r) = boxes .1 .0 in
       let s0 : S = init (stateBox e p, p .word) in
-      let recs : Oks R s0 (p .left) × Oks R (stateLeaf e p) (r ∷ p .right) = Oks-append R s0 (p .left) (r ∷ p .right) .0 (here .body-ok) in
+      let recs : Oks R s0 (p .left) × Oks R (stateLeaf e p) (r ∷ p .right) =
+      Oks-append R s0 (p .left) (r ∷ p .right) .0 (here .body-ok) in
       let one : R .Ok (stateLeaf e p) r = recs .1 .0 in
       let same : length (set (r .body) i v) ≡ length (r .body) = length-set (r .body) i v in
       let one′ : R .Ok (stateLeaf e p) d = record {

@@ -66,15 +66,21 @@ module _ {S A : Type 0} (F : Item S A) where
   abbrev pub seqs : ℕ → S → ℕ → List ℕ → Res (List A)
   seqs = readSequence (F .step) (F .size) (F .read)
 
+  -- What is read behind the item a; and one turn, where bytes are left.
+  abbrev others : ℕ → S → ℕ → List ℕ → A → Res (List A)
+  others f s at bs a = seqs f (F .step s a) (at + F .size a) (drop (F .size a) bs)
+
+  abbrev pub turn : ℕ → S → ℕ → List ℕ → A → Res (List A)
+  turn f s at bs a = bind (others f s at bs a) (λ ys. ok (a ∷ ys))
+
   pub seq-sound : (f : ℕ) (s : S) (at : ℕ) (bs : List ℕ) (xs : List A) → length bs ≤ f → Bytes bs → seqs f s at bs ≡ ok xs
       → (bs ≡ encs xs) × Oks s xs
   seq-sound zero s at [] xs l h e = subst (λ (ys : List A). ([] ≡ encs ys) × Oks s ys) (ok-inj e) (refl, tt)
   seq-sound zero s at (b ∷ bs) xs l h e = absurd (not-suc-le-zero l)
   seq-sound (suc f) s at [] xs l h e = subst (λ (ys : List A). ([] ≡ encs ys) × Oks s ys) (ok-inj e) (refl, tt)
   seq-sound (suc f) s at (b ∷ bs) xs l h e =
-      let more : A → Res (List A) = λ a. bind (seqs f (F .step s a) (at + F .size a) (drop (F .size a) (b ∷ bs))) (λ ys. ok (a ∷ ys)) in
-      let (a, ea, e1) = bind-ok (F .read s at (b ∷ bs)) more e in
-      let (ys, ey, e2) = bind-ok (seqs f (F .step s a) (at + F .size a) (drop (F .size a) (b ∷ bs))) (λ ys. ok (a ∷ ys)) e1 in
+      let (a, ea, e1) = bind-ok (F .read s at (b ∷ bs)) (turn f s at (b ∷ bs)) e in
+      let (ys, ey, e2) = bind-ok (others f s at (b ∷ bs) a) (λ ys. ok (a ∷ ys)) e1 in
       let one = F .sound s at (b ∷ bs) a h ea in
       let pos : 0 < F .size a = F .some s a (one .1) in
       let rest = seq-sound f (F .step s a) (at + F .size a) (drop (F .size a) (b ∷ bs)) ys
@@ -82,16 +88,13 @@ module _ {S A : Type 0} (F : Item S A) where
       subst (λ (zs : List A). (b ∷ bs ≡ encs zs) × Oks s zs) (ok-inj e2)
       (one .0 ∙ ap (λ (r : List ℕ). F .enc a ++ r) (rest .0), (one .1, rest .1))
 
-  -- one turn, where bytes are left
-  abbrev pub turn : ℕ → S → ℕ → List ℕ → A → Res (List A)
-  turn f s at bs a = bind (seqs f (F .step s a) (at + F .size a) (drop (F .size a) bs)) (λ ys. ok (a ∷ ys))
-
   pub seq-open : (f : ℕ) (s : S) (at : ℕ) (bs : List ℕ) → 0 < length bs → seqs (suc f) s at bs ≡ bind (F .read s at bs) (turn f s at bs)
   seq-open f s at [] h = absurd (not-suc-le-zero h)
   seq-open f s at (b ∷ bs) h = refl
 
   -- fuel beyond the length makes no difference
-  pub seq-fuel : (f g : ℕ) (s : S) (at : ℕ) (bs : List ℕ) → length bs ≤ f → length bs ≤ g → Bytes bs → seqs f s at bs ≡ seqs g s at bs
+  pub seq-fuel : (f g : ℕ) (s : S) (at : ℕ) (bs : List ℕ) → length bs ≤ f → length bs ≤ g → Bytes bs
+      → seqs f s at bs ≡ seqs g s at bs
   seq-fuel zero zero s at bs l m h = refl
   seq-fuel zero (suc g) s at [] l m h = refl
   seq-fuel zero (suc g) s at (b ∷ bs) l m h = absurd (not-suc-le-zero l)
@@ -106,7 +109,8 @@ module _ {S A : Type 0} (F : Item S A) where
       (simp length-drop (omega arith)) (simp length-drop (omega arith)) (Bytes-drop (F .size a) (b ∷ bs) h)))
 
   -- what valid items are followed by is read as it would be alone, in the state and at the place that they lead to
-  pub seq-append : (f g : ℕ) (s : S) (at : ℕ) (xs : List A) (rest : List ℕ) → length (encs xs ++ rest) ≤ f → length rest ≤ g → Bytes rest → Oks s xs
+  pub seq-append : (f g : ℕ) (s : S) (at : ℕ) (xs : List A) (rest : List ℕ)
+      → length (encs xs ++ rest) ≤ f → length rest ≤ g → Bytes rest → Oks s xs
       → seqs f s at (encs xs ++ rest) ≡ bind (seqs g (steps s xs) (at + length (encs xs)) rest) (λ ys. ok (xs ++ ys))
   seq-append f g s at [] rest l m h o = rw add-zero (seq-fuel f g s at rest l m h ∙ sym (bind-id (seqs g s at rest)))
   seq-append zero g s at (a ∷ xs) rest l m h o =
@@ -160,7 +164,8 @@ module _ {S A : Type 0} (F : Item S A) where
     λ p. (p .0 .0, Oks-append (F .step s x) xs ys .1 (p .0 .1, p .1)),
   )
 
-  pub Oks-change : (s : S) (xs : List A) (a b : A) (ys : List A) → Oks s (xs ++ a ∷ ys) → F .Ok (steps s xs) b → F .step (steps s xs) b ≡ F .step (steps s xs) a
+  pub Oks-change : (s : S) (xs : List A) (a b : A) (ys : List A) → Oks s (xs ++ a ∷ ys)
+      → F .Ok (steps s xs) b → F .step (steps s xs) b ≡ F .step (steps s xs) a
       → Oks s (xs ++ b ∷ ys)
   Oks-change s xs a b ys o k e =
       let p = Oks-append s xs (a ∷ ys) .0 o in
@@ -176,26 +181,28 @@ module _ {S A : Type 0} (F : Item S A) where
       ∙ sym (encs-append xs (b ∷ ys))
 
   -- a refusal is the first item's at fault: what stands before it is valid items
-  pub seq-refused : (f : ℕ) (s : S) (at : ℕ) (bs : List ℕ) (c p : ℕ) → length bs ≤ f → Bytes bs → seqs f s at bs ≡ bad c p
-      → (xs : List A) × (rest : List ℕ) × (bs ≡ encs xs ++ rest) × Oks s xs × (F .read (steps s xs) (at + length (encs xs)) rest ≡ bad c p)
+  abbrev SeqFault : S → ℕ → List ℕ → ℕ → ℕ → Type 0
+  SeqFault s at bs c p = (xs : List A) × (rest : List ℕ) × (bs ≡ encs xs ++ rest) × Oks s xs
+      × (F .read (steps s xs) (at + length (encs xs)) rest ≡ bad c p)
+
+  -- the law of it, for one number of steps
+  abbrev Refused : ℕ → Type 0
+  Refused f = (s : S) (at : ℕ) (bs : List ℕ) (c p : ℕ) → length bs ≤ f → Bytes bs → seqs f s at bs ≡ bad c p → SeqFault s at bs c p
+
+  pub seq-refused : (f : ℕ) → Refused f
   seq-refused zero s at bs c p l h e = absurd (ok-bad e)
   seq-refused (suc f) s at [] c p l h e = absurd (ok-bad e)
   seq-refused (suc f) s at (b ∷ bs) c p l h e = go (F .read s at (b ∷ bs)) refl e (seq-refused f)
     where
-      Out : Type 0
-      Out = (xs : List A) × (rest : List ℕ) × (b ∷ bs ≡ encs xs ++ rest) × Oks s xs × (F .read (steps s xs) (at + length (encs xs)) rest ≡ bad c p)
-
-      next : (a : A) → F .read s at (b ∷ bs) ≡ ok a → (r : Res (List A)) → seqs f (F .step s a) (at + F .size a) (drop (F .size a) (b ∷ bs)) ≡ r
-          → bind r (λ ys. ok (a ∷ ys)) ≡ bad c p
-          → ((t : S) (q : ℕ) (ds : List ℕ) (c p : ℕ) → length ds ≤ f → Bytes ds → seqs f t q ds ≡ bad c p
-          → (xs : List A) × (rest : List ℕ) × (ds ≡ encs xs ++ rest) × Oks t xs × (F .read (steps t xs) (q + length (encs xs)) rest ≡ bad c p))
-          → Out
+      next : (a : A) → F .read s at (b ∷ bs) ≡ ok a → (r : Res (List A)) → others f s at (b ∷ bs) a ≡ r
+          → bind r (λ ys. ok (a ∷ ys)) ≡ bad c p → Refused f → SeqFault s at (b ∷ bs) c p
       next a ea (ok ys) er e ih = absurd (ok-bad e)
       next a ea (bad c′ p′) er e ih =
           let one = F .sound s at (b ∷ bs) a h ea in
           let pos : 0 < F .size a = F .some s a (one .1) in
           let sz : F .size a ≡ length (F .enc a) = F .sizes a in
-          let (xs, rest, es, os, eb) = ih (F .step s a) (at + F .size a) (drop (F .size a) (b ∷ bs)) c p (simp length-drop (omega arith)) (Bytes-drop (F .size a) (b ∷ bs) h) (er ∙ e) in (
+          let (xs, rest, es, os, eb) = ih (F .step s a) (at + F .size a) (drop (F .size a) (b ∷ bs)) c p
+          (simp length-drop (omega arith)) (Bytes-drop (F .size a) (b ∷ bs) h) (er ∙ e) in (
             a ∷ xs,
             rest,
             one .0 ∙ ap (λ (r : List ℕ). F .enc a ++ r) es ∙ sym (append-assoc (F .enc a) (encs xs) rest),
@@ -203,11 +210,9 @@ module _ {S A : Type 0} (F : Item S A) where
             ap (λ (q : ℕ). F .read (steps (F .step s a) xs) q rest) (simp length-append (omega arith)) ∙ eb,
           )
 
-      go : (r : Res A) → F .read s at (b ∷ bs) ≡ r → bind r (turn f s at (b ∷ bs)) ≡ bad c p
-          → ((t : S) (q : ℕ) (ds : List ℕ) (c p : ℕ) → length ds ≤ f → Bytes ds → seqs f t q ds ≡ bad c p
-          → (xs : List A) × (rest : List ℕ) × (ds ≡ encs xs ++ rest) × Oks t xs × (F .read (steps t xs) (q + length (encs xs)) rest ≡ bad c p))
-          → Out
-      go (ok a) er e ih = next a er (seqs f (F .step s a) (at + F .size a) (drop (F .size a) (b ∷ bs))) refl e ih
+      go : (r : Res A) → F .read s at (b ∷ bs) ≡ r → bind r (turn f s at (b ∷ bs)) ≡ bad c p → Refused f
+          → SeqFault s at (b ∷ bs) c p
+      go (ok a) er e ih = next a er (others f s at (b ∷ bs) a) refl e ih
       go (bad c′ p′) er e ih =
           let same : _≡_ {A = Res A} (bad c′ p′) (bad c p) = cc in
           ([], b ∷ bs, refl, tt, ap (λ (q : ℕ). F .read s q (b ∷ bs)) (add-zero at) ∙ er ∙ same)

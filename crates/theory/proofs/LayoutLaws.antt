@@ -11,7 +11,12 @@ use native.Mathlib.Omega.{arith}
 use native.Mathlib.Decide.{decLt}
 use lib.ListN.{length, getD, length-append}
 use lib.Seq.{getD-at}
-use Rattle.theory.specs.Layout.{Row, Child, Node, single, box, total, extent, extents, childRow, childRows, rows, rowCount, noRow, row, own, Tiles, Owns, Placed}
+use Rattle.theory.specs.Layout.{Row, Child, Node, single, box, total, extent, extents, childRow, childRows}
+use Rattle.theory.specs.Layout.{rows, rowCount, noRow, row, own, Tiles, Owns, Placed}
+
+-- the row of a box at the place `at`, by itself
+abbrev boxRow : ℕ → ℕ → ℕ → ℕ → List Child → Row
+boxRow at k a b cs = record { kind = k; start = at; whole = 8 + total cs; parent = 0; one = a; two = b }
 
 -- the rows of what comes first, then of the rest: for a loop that fills a table
 pub rows-append : (i at : ℕ) (xs ys : List Node) → rows i at (xs ++ ys) ≡ rows i at xs ++ rows (i + rowCount xs) (at + extents xs) ys
@@ -20,15 +25,19 @@ rows-append i at [] ys = rw (add-zero i, add-zero at)
 rows-append i at (single c ∷ xs) ys =
     let e : i + 1 + rowCount xs ≡ i + suc (rowCount xs) = omega arith in
     let d : at + c .size + extents xs ≡ at + (c .size + extents xs) = omega arith in
-    ap (λ (r : List Row). childRow 0 at c ∷ r) (rows-append (i + 1) (at + c .size) xs ys ∙ ap₂ (λ (j p : ℕ). rows (i + 1) (at + c .size) xs ++ rows j p ys) e d)
+    let here : List Row = rows (i + 1) (at + c .size) xs in
+    ap (λ (r : List Row). childRow 0 at c ∷ r)
+    (rows-append (i + 1) (at + c .size) xs ys ∙ ap₂ (λ (j p : ℕ). here ++ rows j p ys) e d)
 rows-append i at (box k a b cs ∷ xs) ys =
-    let r : Row = record { kind = k; start = at; whole = 8 + total cs; parent = 0; one = a; two = b } in
+    let r : Row = boxRow at k a b cs in
     let e : i + 1 + length cs + rowCount xs ≡ i + suc (length cs + rowCount xs) = omega arith in
     let d : at + (8 + total cs) + extents xs ≡ at + (8 + total cs + extents xs) = omega arith in
     let mine : List Row = childRows i (at + 8) cs in
     let here : List Row = rows (i + 1 + length cs) (at + (8 + total cs)) xs in
-    ap (λ (z : List Row). r ∷ (mine ++ z)) (rows-append (i + 1 + length cs) (at + (8 + total cs)) xs ys ∙ ap₂ (λ (j p : ℕ). here ++ rows j p ys) e d)
-    ∙ ap (λ (z : List Row). r ∷ z) (sym (append-assoc mine here (rows (i + suc (length cs + rowCount xs)) (at + (8 + total cs + extents xs)) ys)))
+    let behind : List Row = rows (i + suc (length cs + rowCount xs)) (at + (8 + total cs + extents xs)) ys in
+    ap (λ (z : List Row). r ∷ (mine ++ z))
+    (rows-append (i + 1 + length cs) (at + (8 + total cs)) xs ys ∙ ap₂ (λ (j p : ℕ). here ++ rows j p ys) e d)
+    ∙ ap (λ (z : List Row). r ∷ z) (sym (append-assoc mine here behind))
 
 -- ---- tiling
 
@@ -53,35 +62,41 @@ module _ (isBox : ℕ → Bool) where
   unfolding rows childRows
   child-tiles p at [] g = omega arith
   child-tiles p at (c ∷ cs) g =
-      let e : own isBox (childRow p at c) ≡ c .size = rw (g .0 .0) in (
+      let e : own isBox (childRow p at c) ≡ c .size = rw (g .0 .0) in
+      let next : ℕ = at + c .size in
+      let rest : List Row = childRows p next cs in (
         refl,
         rw e (g .0 .1),
-        subst (λ (w : ℕ). Tiles isBox (at + w) (childRows p (at + c .size) cs) (at + (c .size + total cs))) (sym e)
-            (subst (λ (z : ℕ). Tiles isBox (at + c .size) (childRows p (at + c .size) cs) z) (omega arith) (child-tiles p (at + c .size) cs (g .1))),
+        subst (λ (w : ℕ). Tiles isBox (at + w) rest (at + (c .size + total cs))) (sym e)
+            (subst (λ (z : ℕ). Tiles isBox next rest z) (omega arith) (child-tiles p next cs (g .1))),
       )
 
   pub row-tiles : (i at : ℕ) (ns : List Node) → Good ns → Tiles isBox at (rows i at ns) (at + extents ns)
   unfolding rows childRows
   row-tiles i at [] g = omega arith
   row-tiles i at (single c ∷ ns) g =
-      let e : own isBox (childRow 0 at c) ≡ c .size = rw (g .0 .0) in (
+      let e : own isBox (childRow 0 at c) ≡ c .size = rw (g .0 .0) in
+      let next : ℕ = at + c .size in
+      let rest : List Row = rows (i + 1) next ns in (
         refl,
         rw e (g .0 .1),
-        subst (λ (w : ℕ). Tiles isBox (at + w) (rows (i + 1) (at + c .size) ns) (at + (c .size + extents ns))) (sym e)
-            (subst (λ (z : ℕ). Tiles isBox (at + c .size) (rows (i + 1) (at + c .size) ns) z) (omega arith) (row-tiles (i + 1) (at + c .size) ns (g .1))),
+        subst (λ (w : ℕ). Tiles isBox (at + w) rest (at + (c .size + extents ns))) (sym e)
+            (subst (λ (z : ℕ). Tiles isBox next rest z) (omega arith) (row-tiles (i + 1) next ns (g .1))),
       )
   row-tiles i at (box k a b cs ∷ ns) g =
-      let r : Row = record { kind = k; start = at; whole = 8 + total cs; parent = 0; one = a; two = b } in
-      let e : own isBox r ≡ 8 = rw (g .0) in
-      let rest : List Row = rows (i + 1 + length cs) (at + (8 + total cs)) ns in (
+      let e : own isBox (boxRow at k a b cs) ≡ 8 = rw (g .0) in
+      let next : ℕ = at + (8 + total cs) in
+      let end : ℕ = at + (8 + total cs + extents ns) in
+      let mine : List Row = childRows i (at + 8) cs in
+      let rest : List Row = rows (i + 1 + length cs) next ns in (
         refl,
         rw e (omega arith),
-        subst (λ (w : ℕ). Tiles isBox (at + w) (childRows i (at + 8) cs ++ rest) (at + (8 + total cs + extents ns))) (sym e)
-            (tiles-append (at + 8) (at + 8 + total cs) (at + (8 + total cs + extents ns)) (childRows i (at + 8) cs) rest
+        subst (λ (w : ℕ). Tiles isBox (at + w) (mine ++ rest) end) (sym e)
+            (tiles-append (at + 8) (at + 8 + total cs) end mine rest
             (child-tiles i (at + 8) cs (g .1))
-            (subst (λ (z : ℕ). Tiles isBox z rest (at + (8 + total cs + extents ns))) (omega arith)
-            (subst (λ (z : ℕ). Tiles isBox (at + (8 + total cs)) rest z) (omega arith)
-            (row-tiles (i + 1 + length cs) (at + (8 + total cs)) ns (g .2))))),
+            (subst (λ (z : ℕ). Tiles isBox z rest end) (omega arith)
+            (subst (λ (z : ℕ). Tiles isBox next rest z) (omega arith)
+            (row-tiles (i + 1 + length cs) next ns (g .2))))),
       )
 
   -- no more rows than an eighth of the length
@@ -90,7 +105,8 @@ module _ (isBox : ℕ → Bool) where
   few-rows at end [] t = omega arith
   few-rows at end (r ∷ rs) t = omega (arith, few-rows (at + own isBox r) end rs (t .2), t .1)
 
-  pub owner : (at end : ℕ) (rs : List Row) (i : ℕ) → Tiles isBox at rs end → at ≤ i → i < end → (j : ℕ) × (j < length rs) × Owns isBox (row rs j) i
+  pub owner : (at end : ℕ) (rs : List Row) (i : ℕ) → Tiles isBox at rs end → at ≤ i → i < end
+      → (j : ℕ) × (j < length rs) × Owns isBox (row rs j) i
   owner at end [] i t l h = absurd (omega arith)
   owner at end (r ∷ rs) i t l h =
       elim (decLt i (at + own isBox r)) [
@@ -113,7 +129,8 @@ module _ (isBox : ℕ → Bool) where
       ap suc (owner-one (at + own isBox r) end rs i (t .2) j k (le-of-suc-le-suc hj) (le-of-suc-le-suc hk) oj ok)
 
   -- The starts of rows go up.
-  pub starts-up : (at end : ℕ) (rs : List Row) → Tiles isBox at rs end → (j k : ℕ) → j ≤ k → k < length rs → row rs j .start ≤ row rs k .start
+  pub starts-up : (at end : ℕ) (rs : List Row) → Tiles isBox at rs end → (j k : ℕ) → j ≤ k → k < length rs
+      → row rs j .start ≤ row rs k .start
   starts-up at end [] t j k l h = absurd (not-suc-le-zero h)
   starts-up at end (r ∷ rs) t zero zero l h = omega arith
   starts-up at end (r ∷ rs) t zero (suc k) l h = omega (arith, starts (at + own isBox r) end rs (t .2) k (le-of-suc-le-suc h))
@@ -121,7 +138,8 @@ module _ (isBox : ℕ → Bool) where
   starts-up at end (r ∷ rs) t (suc j) (suc k) l h = starts-up (at + own isBox r) end rs (t .2) j k (le-of-suc-le-suc l) (le-of-suc-le-suc h)
 
   -- A parent stands before its child.
-  pub parent-before : (end : ℕ) (rs : List Row) → Tiles isBox 0 rs end → (j : ℕ) → j < length rs → Placed rs (row rs j) → row rs j .parent ≤ j
+  pub parent-before : (end : ℕ) (rs : List Row) → Tiles isBox 0 rs end → (j : ℕ) → j < length rs → Placed rs (row rs j)
+      → row rs j .parent ≤ j
   parent-before end rs t j h (inl e) = omega arith
   parent-before end rs t j h (inr (p, e, l, a, b)) =
       elim (decLt p j) [
@@ -152,7 +170,8 @@ unfolding rows childRows
 length-childRows p at [] = refl
 length-childRows p at (c ∷ cs) = ap suc (length-childRows p (at + c .size) cs)
 
-inside-from : (all pre : List Row) (i at : ℕ) (ns : List Node) → i ≡ suc (length pre) → all ≡ pre ++ rows i at ns → All (Placed all) (rows i at ns)
+inside-from : (all pre : List Row) (i at : ℕ) (ns : List Node) → i ≡ suc (length pre) → all ≡ pre ++ rows i at ns
+    → All (Placed all) (rows i at ns)
 unfolding rows childRows
 inside-from all pre i at [] ei e = tt
 inside-from all pre i at (single c ∷ ns) ei e =
@@ -162,10 +181,11 @@ inside-from all pre i at (single c ∷ ns) ei e =
           (e ∙ sym (append-assoc pre (r ∷ []) (rows (i + 1) (at + c .size) ns))),
     )
 inside-from all pre i at (box k a b cs ∷ ns) ei e =
-    let r : Row = record { kind = k; start = at; whole = 8 + total cs; parent = 0; one = a; two = b } in
+    let r : Row = boxRow at k a b cs in
     let mine : List Row = childRows i (at + 8) cs in
     let rest : List Row = rows (i + 1 + length cs) (at + (8 + total cs)) ns in
-    let here : getD all (length pre) noRow ≡ r = ap (λ (l : List Row). getD l (length pre) noRow) e ∙ getD-at pre r (mine ++ rest) noRow (length pre) refl in
+    let here : getD all (length pre) noRow ≡ r =
+    ap (λ (l : List Row). getD l (length pre) noRow) e ∙ getD-at pre r (mine ++ rest) noRow (length pre) refl in
     let inb : length pre < length all = rw e (simp length-append (omega arith)) in (
       inl refl,
       All-append (Placed all) mine rest
@@ -192,7 +212,8 @@ abbrev pub AllFrom : (ℕ → Row → Type 0) → ℕ → List Row → Type 0
 AllFrom P n [] = Unit {0}
 AllFrom P n (r ∷ rs) = P n r × AllFrom P (suc n) rs
 
-pub AllFrom-append : (P : ℕ → Row → Type 0) (n : ℕ) (xs ys : List Row) → AllFrom P n xs → AllFrom P (n + length xs) ys → AllFrom P n (xs ++ ys)
+pub AllFrom-append : (P : ℕ → Row → Type 0) (n : ℕ) (xs ys : List Row) → AllFrom P n xs → AllFrom P (n + length xs) ys
+    → AllFrom P n (xs ++ ys)
 AllFrom-append P n [] ys a b = let e : n + 0 ≡ n = omega arith in subst (λ (m : ℕ). AllFrom P m ys) e b
 AllFrom-append P n (x ∷ xs) ys a b =
     let e : n + suc (length xs) ≡ suc n + length xs = omega arith in

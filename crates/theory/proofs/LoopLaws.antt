@@ -55,16 +55,20 @@ module _ {S A : Type 0} (F : Item S A) where
     pub ended : length rest ≡ 0 → ok xs ≡ whole s₀ from bs
     ended e = go (i .k) rest e (i .same)
       where
-        go : (k : ℕ) (rest : List ℕ) → length rest ≡ 0 → behind xs (seqs F k s at rest) ≡ whole s₀ from bs → ok xs ≡ whole s₀ from bs
+        go : (k : ℕ) (rest : List ℕ) → length rest ≡ 0 → behind xs (seqs F k s at rest) ≡ whole s₀ from bs
+            → ok xs ≡ whole s₀ from bs
         go zero [] e q = sym (behind-nil xs) ∙ q
         go (suc k) [] e q = sym (behind-nil xs) ∙ q
         go k (b ∷ bs) e q = absurd (omega arith)
 
-    turned : 0 < length rest → (k : ℕ) × (length rest ≤ suc k) × (behind xs (bind (F .read s at rest) (turn F k s at rest)) ≡ whole s₀ from bs)
+    -- the reading so far, opened by one turn
+    abbrev Turned : Type 0
+    Turned = (k : ℕ) × (length rest ≤ suc k) × (behind xs (bind (F .read s at rest) (turn F k s at rest)) ≡ whole s₀ from bs)
+
+    turned : 0 < length rest → Turned
     turned l = go (i .k) (i .fuel) (i .same)
       where
-        go : (k : ℕ) → length rest ≤ k → behind xs (seqs F k s at rest) ≡ whole s₀ from bs
-            → (k : ℕ) × (length rest ≤ suc k) × (behind xs (bind (F .read s at rest) (turn F k s at rest)) ≡ whole s₀ from bs)
+        go : (k : ℕ) → length rest ≤ k → behind xs (seqs F k s at rest) ≡ whole s₀ from bs → Turned
         go zero f q = absurd (omega arith)
         go (suc k) f q = (k, f, ap (behind xs) (sym (seq-open F k s at rest l)) ∙ q)
 
@@ -92,16 +96,14 @@ module _ {S A : Type 0} (F : Item S A) where
     unfolding behind
     reads l ys w = let (k, f, q) = turned l in go (F .read s at rest) refl k (q ∙ w)
       where
-        go : (r : Res A) → F .read s at rest ≡ r → (k : ℕ) → behind xs (bind r (turn F k s at rest)) ≡ ok ys → (a : A) × (F .read s at rest ≡ ok a)
+        go : (r : Res A) → F .read s at rest ≡ r → (k : ℕ) → behind xs (bind r (turn F k s at rest)) ≡ ok ys
+            → (a : A) × (F .read s at rest ≡ ok a)
         go (ok a) e k q = (a, e)
         go (bad c p) e k q = absurd (bad-ok q)
 
     -- what was read is the beginning of the whole
     pub prefix : (ys : List A) → whole s₀ from bs ≡ ok ys → (zs : List A) × (ys ≡ xs ++ zs)
-    prefix ys e = go (seqs F (i .k) s at rest) (i .same ∙ e)
-      where
-        go : (r : Res (List A)) → behind xs r ≡ ok ys → (zs : List A) × (ys ≡ xs ++ zs)
-        go r q = behind-ok xs r ys q
+    prefix ys e = behind-ok xs (seqs F (i .k) s at rest) ys (i .same ∙ e)
 
   -- A list that is known to be read as items: its first item was read, and what lies behind it is read as the others.
   pub record Ahead (s : S) (at : ℕ) (bs : List ℕ) (ys : List A) : Type 0 where

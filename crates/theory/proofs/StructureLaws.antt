@@ -15,7 +15,8 @@ use Rattle.theory.specs.declared.Order.{Order}
 use Rattle.theory.specs.Words.{Bytes, wordAt, put, Fits}
 use Rattle.theory.specs.Tests.{Res, ok, bad, need, bind, unless}
 use Rattle.theory.specs.Structures.{Structure, structureBytes, readStructure, readPair, readWords, wordsBytes}
-use Rattle.theory.proofs.WordLaws.{Bytes-drop, Bytes-take, length-put, word-after-put, put-after-word, word-past, word-of-drop, word-fits, set-append-add}
+use Rattle.theory.proofs.WordLaws.{Bytes-drop, Bytes-part, set-append-add}
+use Rattle.theory.proofs.WordLaws.{length-put, word-after-put, put-after-word, word-past, word-of-drop, word-fits}
 use Rattle.theory.proofs.TestLaws.{need-ok, need-pass, bind-ok, unless-zero, ok-inj, ok-bad, bad-ok}
 use Rattle.theory.proofs.Items.{Item, Whole}
 
@@ -45,6 +46,13 @@ drop-two o k n rest =
     ∙ ap (drop 4) (drop-at (put o 4 k) (put o 4 n ++ rest) 4 (length-put o 4 k))
     ∙ drop-at (put o 4 n) rest 4 (length-put o 4 n)
 
+-- Two words before a part and what follows it.
+two-append : (o : Order) (k n : ℕ) (part rest : List ℕ)
+    → (put o 4 k ++ (put o 4 n ++ part)) ++ rest ≡ put o 4 k ++ (put o 4 n ++ (part ++ rest))
+two-append o k n part rest =
+    append-assoc (put o 4 k) (put o 4 n ++ part) rest
+    ∙ ap (λ (r : List ℕ). put o 4 k ++ r) (append-assoc (put o 4 n) part rest)
+
 pub length-structure : {B : Type 0} (o : Order) (bodyBytes : B → List ℕ) (c : Structure B)
     → length (structureBytes o bodyBytes c) ≡ 8 + length (bodyBytes (c .body))
 length-structure o bodyBytes c = length-two o (c .kind) (length (bodyBytes (c .body))) (bodyBytes (c .body))
@@ -67,8 +75,7 @@ module _ (o : Order) {S B : Type 0} (head : S → ℕ → ℕ) (late : S → ℕ
       let body : List ℕ = W .enc (c .body) in
       let n : ℕ = length body in
       let bs : List ℕ = put o 4 k ++ (put o 4 n ++ (body ++ rest)) in
-      let shape : structureBytes o (W .enc) c ++ rest ≡ bs =
-      append-assoc (put o 4 k) (put o 4 n ++ body) rest ∙ ap (λ (r : List ℕ). put o 4 k ++ r) (append-assoc (put o 4 n) body rest) in
+      let shape : structureBytes o (W .enc) c ++ rest ≡ bs = two-append o k n body rest in
       let ek : wordAt o 4 0 bs ≡ k = word-after-put o 4 k (put o 4 n ++ (body ++ rest)) (v .kind-word) in
       let en : wordAt o 4 4 bs ≡ n = second-word o k n (body ++ rest) (v .length-word) in
       let size : length bs ≡ 8 + length (body ++ rest) = length-two o k n (body ++ rest) in
@@ -77,85 +84,102 @@ module _ (o : Order) {S B : Type 0} (head : S → ℕ → ℕ) (late : S → ℕ
       let cut : take n (drop 8 bs) ≡ body = ap (take n) (drop-two o k n (body ++ rest)) ∙ take-at body rest n refl in
       rw shape (rw (ek, en, room, fits, v .head-ok, v .late-ok, cut, W .complete (s, k) at (c .body) (v .body-ok)))
 
--- What a structure that was read shows of its bytes.
-module _ (o : Order) {S B : Type 0} (head : S → ℕ → ℕ) (late : S → ℕ → ℕ → ℕ) (body : S × ℕ → ℕ → List ℕ → Res B) where
-  pub record Opened (s : S) (at : ℕ) (bs : List ℕ) (c : Structure B) : Type 0 where
+module _ (o : Order) {S B : Type 0} (head : S → ℕ → ℕ) (late : S → ℕ → ℕ → ℕ)
+    (body : S × ℕ → ℕ → List ℕ → Res B) (s : S) (at : ℕ) (bs : List ℕ) where
+  -- The kind word, the length word, and the reading of the body.
+  abbrev kindHere : ℕ
+  kindHere = wordAt o 4 0 bs
+
+  abbrev lengthHere : ℕ
+  lengthHere = wordAt o 4 4 bs
+
+  abbrev bodyHere : Res B
+  bodyHere = body (s, kindHere) at (take lengthHere (drop 8 bs))
+
+  abbrev made : B → Res (Structure B)
+  made b = ok (record { kind = kindHere; body = b })
+
+  -- The reading from its body on; from what its place asks on; from its length on; from its kind on.
+  abbrev fromBody : Res (Structure B)
+  fromBody = bind bodyHere made
+
+  abbrev fromLate : Res (Structure B)
+  fromLate = need (late s kindHere lengthHere) at fromBody
+
+  abbrev fromLength : Res (Structure B)
+  fromLength = need (unless (leb (8 + lengthHere) (length bs)) 2) at fromLate
+
+  abbrev fromHead : Res (Structure B)
+  fromHead = need (head s kindHere) at fromLength
+
+  -- What a structure that was read shows of its bytes.
+  pub record Opened (c : Structure B) : Type 0 where
     pub kind-is : c .kind ≡ wordAt o 4 0 bs
     pub fits : 8 + wordAt o 4 4 bs ≤ length bs
     pub head-ok : head s (wordAt o 4 0 bs) ≡ 0
     pub late-ok : late s (wordAt o 4 0 bs) (wordAt o 4 4 bs) ≡ 0
     pub body-is : body (s, wordAt o 4 0 bs) at (take (wordAt o 4 4 bs) (drop 8 bs)) ≡ ok (c .body)
 
-  pub opens : (s : S) (at : ℕ) (bs : List ℕ) (c : Structure B) → readStructure o head late body s at bs ≡ ok c → Opened s at bs c
-  opens s at bs c e =
-      let k : ℕ = wordAt o 4 0 bs in
-      let n : ℕ = wordAt o 4 4 bs in
-      let made : B → Res (Structure B) = λ b. ok (record { kind = k; body = b }) in
-      let r4 : Res (Structure B) = bind (body (s, k) at (take n (drop 8 bs))) made in
-      let r3 : Res (Structure B) = need (late s k n) at r4 in
-      let r2 : Res (Structure B) = need (unless (leb (8 + n) (length bs)) 2) at r3 in
-      let r1 : Res (Structure B) = need (head s k) at r2 in
-      let (f1, e1) = need-ok (unless (leb 8 (length bs)) 2) at r1 e in
-      let (f2, e2) = need-ok (head s k) at r2 e1 in
-      let (f3, e3) = need-ok (unless (leb (8 + n) (length bs)) 2) at r3 e2 in
-      let (f4, e4) = need-ok (late s k n) at r4 e3 in
-      let (b, eb, e5) = bind-ok (body (s, k) at (take n (drop 8 bs))) made e4 in
+  pub opens : (c : Structure B) → readStructure o head late body s at bs ≡ ok c → Opened c
+  opens c e =
+      let n : ℕ = lengthHere in
+      let (f1, e1) = need-ok (unless (leb 8 (length bs)) 2) at fromHead e in
+      let (f2, e2) = need-ok (head s kindHere) at fromLength e1 in
+      let (f3, e3) = need-ok (unless (leb (8 + n) (length bs)) 2) at fromLate e2 in
+      let (f4, e4) = need-ok (late s kindHere n) at fromBody e3 in
+      let (b, eb, e5) = bind-ok bodyHere made e4 in
       let fits : 8 + n ≤ length bs = leb-true (8 + n) (length bs) (unless-zero (leb (8 + n) (length bs)) 2 (omega arith) f3) in
-      subst (λ (d : Structure B). Opened s at bs d) (ok-inj e5) (record { kind-is = refl; fits = fits; head-ok = f2; late-ok = f4; body-is = eb })
+      subst Opened (ok-inj e5) (record { kind-is = refl; fits = fits; head-ok = f2; late-ok = f4; body-is = eb })
 
   -- A structure that is refused: at its own first byte, before its body is looked at; or its body's refusal.
-  pub record OwnFault (s : S) (at : ℕ) (bs : List ℕ) (c p : ℕ) : Type 0 where
+  pub record OwnFault (c p : ℕ) : Type 0 where
     pub place : p ≡ at
     pub whatever : (other : S × ℕ → ℕ → List ℕ → Res B) → readStructure o head late other s at bs ≡ bad c p
 
-  pub record BodyFault (s : S) (at : ℕ) (bs : List ℕ) (c p : ℕ) : Type 0 where
+  pub record BodyFault (c p : ℕ) : Type 0 where
     pub fits : 8 + wordAt o 4 4 bs ≤ length bs
     pub head-ok : head s (wordAt o 4 0 bs) ≡ 0
     pub late-ok : late s (wordAt o 4 0 bs) (wordAt o 4 4 bs) ≡ 0
     pub body-is : body (s, wordAt o 4 0 bs) at (take (wordAt o 4 4 bs) (drop 8 bs)) ≡ bad c p
 
-  pub refused : (s : S) (at : ℕ) (bs : List ℕ) (c p : ℕ) → readStructure o head late body s at bs ≡ bad c p → OwnFault s at bs c p ⊎ BodyFault s at bs c p
-  refused s at bs c p e = room (leb 8 (length bs)) refl e
+  -- Test by test: one that fails is the structure's own fault, whatever its body's reader would say.
+  pub refused : (c p : ℕ) → readStructure o head late body s at bs ≡ bad c p → OwnFault c p ⊎ BodyFault c p
+  refused c p e = room (leb 8 (length bs)) refl e
     where
       k : ℕ
-      k = wordAt o 4 0 bs
+      k = kindHere
 
       n : ℕ
-      n = wordAt o 4 4 bs
+      n = lengthHere
 
       Out : Type 0
-      Out = OwnFault s at bs c p ⊎ BodyFault s at bs c p
-
-      made : B → Res (Structure B)
-      made b = ok (record { kind = k; body = b })
+      Out = OwnFault c p ⊎ BodyFault c p
 
       own : (c′ p′ : ℕ) → _≡_ {A = Res (Structure B)} (bad c′ p′) (bad c p) → p′ ≡ at
           → ((other : S × ℕ → ℕ → List ℕ → Res B) → readStructure o head late other s at bs ≡ bad c′ p′) → Out
       own c′ p′ q l w = let ep : p′ ≡ p = cc in inl (record { place = sym ep ∙ l; whatever = λ other. w other ∙ q })
 
-      inner : (r : Res B) → body (s, k) at (take n (drop 8 bs)) ≡ r → 8 + n ≤ length bs → head s k ≡ 0 → late s k n ≡ 0 → bind r made ≡ bad c p → Out
+      inner : (r : Res B) → bodyHere ≡ r → 8 + n ≤ length bs → head s k ≡ 0 → late s k n ≡ 0 → bind r made ≡ bad c p → Out
       inner (ok b) eb f h l q = absurd (ok-bad q)
       inner (bad c′ p′) eb f h l q =
           let same : _≡_ {A = Res B} (bad c′ p′) (bad c p) = cc in
           inr (record { fits = f; head-ok = h; late-ok = l; body-is = eb ∙ same })
 
       later : (l : ℕ) → late s k n ≡ l → leb 8 (length bs) ≡ true → head s k ≡ 0 → leb (8 + n) (length bs) ≡ true
-          → need l at (bind (body (s, k) at (take n (drop 8 bs))) made) ≡ bad c p → Out
-      later zero el a h b q = inner (body (s, k) at (take n (drop 8 bs))) refl (leb-true (8 + n) (length bs) b) h el q
+          → need l at fromBody ≡ bad c p → Out
+      later zero el a h b q = inner bodyHere refl (leb-true (8 + n) (length bs) b) h el q
       later (suc l) el a h b q = own (suc l) at q refl (λ other. rw (a, h, b, el))
 
       long : (t : Bool) → leb (8 + n) (length bs) ≡ t → leb 8 (length bs) ≡ true → head s k ≡ 0
-          → need (unless t 2) at (need (late s k n) at (bind (body (s, k) at (take n (drop 8 bs))) made)) ≡ bad c p → Out
+          → need (unless t 2) at fromLate ≡ bad c p → Out
       long true b a h q = later (late s k n) refl a h b q
       long false b a h q = own 2 at q refl (λ other. rw (a, h, b))
 
-      kinds : (h : ℕ) → head s k ≡ h → leb 8 (length bs) ≡ true
-          → need h at (need (unless (leb (8 + n) (length bs)) 2) at (need (late s k n) at (bind (body (s, k) at (take n (drop 8 bs))) made))) ≡ bad c p → Out
+      kinds : (h : ℕ) → head s k ≡ h → leb 8 (length bs) ≡ true → need h at fromLength ≡ bad c p → Out
       kinds zero h a q = long (leb (8 + n) (length bs)) refl a h q
       kinds (suc c′) h a q = own (suc c′) at q refl (λ other. rw (a, h))
 
-      room : (t : Bool) → leb 8 (length bs) ≡ t
-          → need (unless t 2) at (need (head s k) at (need (unless (leb (8 + n) (length bs)) 2) at (need (late s k n) at (bind (body (s, k) at (take n (drop 8 bs))) made)))) ≡ bad c p → Out
+      room : (t : Bool) → leb 8 (length bs) ≡ t → need (unless t 2) at fromHead ≡ bad c p → Out
       room true a q = kinds (head s k) refl a q
       room false a q = own 2 at q refl (λ other. rw a)
 
@@ -168,7 +192,7 @@ module _ (o : Order) {S B : Type 0} (head : S → ℕ → ℕ) (late : S → ℕ
       let n : ℕ = wordAt o 4 4 bs in
       let b : B = c .body in
       let fits : 8 + n ≤ length bs = t .fits in
-      let inner = W .sound (s, k) at (take n (drop 8 bs)) b (Bytes-take n (drop 8 bs) (Bytes-drop 8 bs h)) (t .body-is) in
+      let inner = W .sound (s, k) at (take n (drop 8 bs)) b (Bytes-part n 8 bs h) (t .body-is) in
       let size : n ≡ length (W .enc b) = sym (length-take-le n (drop 8 bs) (omega (arith, length-drop 8 bs))) ∙ ap length (inner .0) in
       let body-part : W .enc b ++ drop (8 + n) bs ≡ drop 8 bs =
       ap (λ (r : List ℕ). r ++ drop (8 + n) bs) (sym (inner .0))
@@ -177,7 +201,7 @@ module _ (o : Order) {S B : Type 0} (head : S → ℕ → ℕ) (late : S → ℕ
       let whole : bs ≡ (put o 4 k ++ (put o 4 n ++ W .enc b)) ++ drop (8 + n) bs =
       sym (restore-two o bs h (omega arith))
       ∙ ap (λ (r : List ℕ). put o 4 k ++ (put o 4 n ++ r)) (sym body-part)
-      ∙ sym (append-assoc (put o 4 k) (put o 4 n ++ W .enc b) (drop (8 + n) bs) ∙ ap (λ (r : List ℕ). put o 4 k ++ r) (append-assoc (put o 4 n) (W .enc b) (drop (8 + n) bs))) in
+      ∙ sym (two-append o k n (W .enc b) (drop (8 + n) bs)) in
       let ek : k ≡ c .kind = sym (t .kind-is) in (
         whole
             ∙ ap₂ (λ (x m : ℕ). (put o 4 x ++ (put o 4 m ++ W .enc b)) ++ drop (8 + m) bs) ek size,
@@ -211,11 +235,12 @@ module _ (o : Order) {S B : Type 0} (head : S → ℕ → ℕ) (late : S → ℕ
       let t : Opened o head late (W .read) s at bs c = opens o head late (W .read) s at bs c e in
       let n : ℕ = wordAt o 4 4 bs in
       let fits : 8 + n ≤ length bs = t .fits in
-      let inner = W .sound (s, wordAt o 4 0 bs) at (take n (drop 8 bs)) (c .body) (Bytes-take n (drop 8 bs) (Bytes-drop 8 bs h)) (t .body-is) in
+      let inner = W .sound (s, wordAt o 4 0 bs) at (take n (drop 8 bs)) (c .body) (Bytes-part n 8 bs h) (t .body-is) in
       sym (ap length (inner .0)) ∙ length-take-le n (drop 8 bs) (omega (arith, length-drop 8 bs))
 
 -- A byte of the body is changed.
-pub structure-set : {B : Type 0} (o : Order) (bodyBytes : B → List ℕ) (c d : Structure B) (j v : ℕ) → c .kind ≡ d .kind → set (bodyBytes (c .body)) j v ≡ bodyBytes (d .body)
+pub structure-set : {B : Type 0} (o : Order) (bodyBytes : B → List ℕ) (c d : Structure B) (j v : ℕ)
+    → c .kind ≡ d .kind → set (bodyBytes (c .body)) j v ≡ bodyBytes (d .body)
     → set (structureBytes o bodyBytes c) (8 + j) v ≡ structureBytes o bodyBytes d
 structure-set o bodyBytes c d j v ek e =
     let body : List ℕ = bodyBytes (c .body) in
@@ -263,17 +288,26 @@ module _ {S A B : Type 0} (I : Item S A) (W : Whole S B) where
   abbrev PairOk : S → A × B → Type 0
   PairOk s x = I .Ok s (x .0) × W .Ok (I .step s (x .0)) (x .1)
 
-  pub pair-sound : (s : S) (at : ℕ) (bs : List ℕ) (x : A × B) → Bytes bs → readPair (I .step) (I .size) (I .read) (W .read) s at bs ≡ ok x → (bs ≡ pairBytes x) × PairOk s x
+  abbrev pairRead : S → ℕ → List ℕ → Res (A × B)
+  pairRead = readPair (I .step) (I .size) (I .read) (W .read)
+
+  -- What is read behind the item a; and the pair that it makes.
+  abbrev restRead : S → ℕ → List ℕ → A → Res B
+  restRead s at bs a = W .read (I .step s a) (at + I .size a) (drop (I .size a) bs)
+
+  abbrev withRest : S → ℕ → List ℕ → A → Res (A × B)
+  withRest s at bs a = bind (restRead s at bs a) (λ b. ok (a, b))
+
+  pub pair-sound : (s : S) (at : ℕ) (bs : List ℕ) (x : A × B) → Bytes bs → pairRead s at bs ≡ ok x → (bs ≡ pairBytes x) × PairOk s x
   pair-sound s at bs x h e =
-      let more : A → Res (A × B) = λ a. bind (W .read (I .step s a) (at + I .size a) (drop (I .size a) bs)) (λ b. ok (a, b)) in
-      let (a, ea, e1) = bind-ok (I .read s at bs) more e in
-      let (b, eb, e2) = bind-ok (W .read (I .step s a) (at + I .size a) (drop (I .size a) bs)) (λ b. ok (a, b)) e1 in
+      let (a, ea, e1) = bind-ok (I .read s at bs) (withRest s at bs) e in
+      let (b, eb, e2) = bind-ok (restRead s at bs a) (λ b. ok (a, b)) e1 in
       let one = I .sound s at bs a h ea in
       let two = W .sound (I .step s a) (at + I .size a) (drop (I .size a) bs) b (Bytes-drop (I .size a) bs h) eb in
       subst (λ (y : A × B). (bs ≡ pairBytes y) × PairOk s y) (ok-inj e2)
       (one .0 ∙ ap (λ (r : List ℕ). I .enc a ++ r) (two .0), (one .1, two .1))
 
-  pub pair-complete : (s : S) (at : ℕ) (x : A × B) → PairOk s x → readPair (I .step) (I .size) (I .read) (W .read) s at (pairBytes x) ≡ ok x
+  pub pair-complete : (s : S) (at : ℕ) (x : A × B) → PairOk s x → pairRead s at (pairBytes x) ≡ ok x
   pair-complete s at x v =
       rw (
         I .complete s at (x .0) (W .enc (x .1)) (v .0),
@@ -285,31 +319,30 @@ module _ {S A B : Type 0} (I : Item S A) (W : Whole S B) where
   pair = record {
     enc = pairBytes;
     Ok = PairOk;
-    read = readPair (I .step) (I .size) (I .read) (W .read);
+    read = pairRead;
     sound = pair-sound;
     complete = pair-complete;
   }
 
   -- A pair that is refused: by its item, or after a valid item by the rest.
-  pub pair-refused : (s : S) (at : ℕ) (bs : List ℕ) (c p : ℕ) → Bytes bs → pair .read s at bs ≡ bad c p
-      → (I .read s at bs ≡ bad c p) ⊎ ((a : A) × (I .Ok s a) × (bs ≡ I .enc a ++ drop (I .size a) bs) × (W .read (I .step s a) (at + I .size a) (drop (I .size a) bs) ≡ bad c p))
+  abbrev PairFault : S → ℕ → List ℕ → ℕ → ℕ → Type 0
+  PairFault s at bs c p =
+      (I .read s at bs ≡ bad c p)
+      ⊎ ((a : A) × (I .Ok s a) × (bs ≡ I .enc a ++ drop (I .size a) bs) × (restRead s at bs a ≡ bad c p))
+
+  pub pair-refused : (s : S) (at : ℕ) (bs : List ℕ) (c p : ℕ) → Bytes bs → pair .read s at bs ≡ bad c p → PairFault s at bs c p
   pair-refused s at bs c p h e = go (I .read s at bs) refl e
     where
-      rest : A → Res (A × B)
-      rest a = bind (W .read (I .step s a) (at + I .size a) (drop (I .size a) bs)) (λ b. ok (a, b))
-
-      later : (a : A) → I .read s at bs ≡ ok a → (r : Res B) → W .read (I .step s a) (at + I .size a) (drop (I .size a) bs) ≡ r
-          → bind {B = A × B} r (λ b. ok (a, b)) ≡ bad c p
-          → (I .read s at bs ≡ bad c p) ⊎ ((a : A) × (I .Ok s a) × (bs ≡ I .enc a ++ drop (I .size a) bs) × (W .read (I .step s a) (at + I .size a) (drop (I .size a) bs) ≡ bad c p))
+      later : (a : A) → I .read s at bs ≡ ok a → (r : Res B) → restRead s at bs a ≡ r
+          → bind {B = A × B} r (λ b. ok (a, b)) ≡ bad c p → PairFault s at bs c p
       later a ea (ok b) er q = absurd (ok-bad q)
       later a ea (bad c′ p′) er q =
           let same : _≡_ {A = Res B} (bad c′ p′) (bad c p) = cc in
           let one = I .sound s at bs a h ea in
           inr (a, one .1, one .0, er ∙ same)
 
-      go : (r : Res A) → I .read s at bs ≡ r → bind r rest ≡ bad c p
-          → (I .read s at bs ≡ bad c p) ⊎ ((a : A) × (I .Ok s a) × (bs ≡ I .enc a ++ drop (I .size a) bs) × (W .read (I .step s a) (at + I .size a) (drop (I .size a) bs) ≡ bad c p))
-      go (ok a) ea q = later a ea (W .read (I .step s a) (at + I .size a) (drop (I .size a) bs)) refl q
+      go : (r : Res A) → I .read s at bs ≡ r → bind r (withRest s at bs) ≡ bad c p → PairFault s at bs c p
+      go (ok a) ea q = later a ea (restRead s at bs a) refl q
       go (bad c′ p′) ea q = let same : _≡_ {A = Res A} (bad c′ p′) (bad c p) = cc in inl (ea ∙ same)
 
 -- ---- two words with no length word
@@ -318,15 +351,19 @@ module _ (o : Order) (fixed : ℕ) (wrong : ℕ) (rule : ℕ → ℕ) where
   abbrev WordsOk : Unit {0} → ℕ → Type 0
   WordsOk s v = (rule v ≡ 0) × Fits 4 v
 
+  -- The reading from the rule on; from the fixed word on.
+  abbrev fromRule : ℕ → List ℕ → Res ℕ
+  fromRule at bs = need (rule (wordAt o 4 4 bs)) at (ok (wordAt o 4 4 bs))
+
+  abbrev fromFixed : ℕ → List ℕ → Res ℕ
+  fromFixed at bs = need (unless (eqb (wordAt o 4 0 bs) fixed) wrong) at (fromRule at bs)
+
   pub words-sound : 0 < wrong → (s : Unit {0}) (at : ℕ) (bs : List ℕ) (v : ℕ) → Bytes bs → readWords o fixed wrong rule s at bs ≡ ok v
       → (bs ≡ wordsBytes o fixed wrong rule v ++ drop 8 bs) × WordsOk s v
   words-sound w s at bs v h e =
-      let r3 : Res ℕ = ok (wordAt o 4 4 bs) in
-      let r2 : Res ℕ = need (rule (wordAt o 4 4 bs)) at r3 in
-      let r1 : Res ℕ = need (unless (eqb (wordAt o 4 0 bs) fixed) wrong) at r2 in
-      let (f1, e1) = need-ok (unless (leb 8 (length bs)) 2) at r1 e in
-      let (f2, e2) = need-ok (unless (eqb (wordAt o 4 0 bs) fixed) wrong) at r2 e1 in
-      let (f3, e3) = need-ok (rule (wordAt o 4 4 bs)) at r3 e2 in
+      let (f1, e1) = need-ok (unless (leb 8 (length bs)) 2) at (fromFixed at bs) e in
+      let (f2, e2) = need-ok (unless (eqb (wordAt o 4 0 bs) fixed) wrong) at (fromRule at bs) e1 in
+      let (f3, e3) = need-ok (rule (wordAt o 4 4 bs)) at (ok (wordAt o 4 4 bs)) e2 in
       let room : 8 ≤ length bs = leb-true 8 (length bs) (unless-zero (leb 8 (length bs)) 2 (omega arith) f1) in
       let is : wordAt o 4 0 bs ≡ fixed = eqb-true (wordAt o 4 0 bs) fixed (unless-zero (eqb (wordAt o 4 0 bs) fixed) wrong w f2) in
       subst (λ (y : ℕ). (bs ≡ wordsBytes o fixed wrong rule y ++ drop 8 bs) × WordsOk s y) (ok-inj e3) (
@@ -336,7 +373,8 @@ module _ (o : Order) (fixed : ℕ) (wrong : ℕ) (rule : ℕ → ℕ) where
         (f3, word-fits o 4 4 bs h (omega arith)),
       )
 
-  pub words-complete : Fits 4 fixed → (s : Unit {0}) (at : ℕ) (v : ℕ) (rest : List ℕ) → WordsOk s v → readWords o fixed wrong rule s at (wordsBytes o fixed wrong rule v ++ rest) ≡ ok v
+  pub words-complete : Fits 4 fixed → (s : Unit {0}) (at : ℕ) (v : ℕ) (rest : List ℕ) → WordsOk s v
+      → readWords o fixed wrong rule s at (wordsBytes o fixed wrong rule v ++ rest) ≡ ok v
   words-complete m s at v rest g =
       let bs : List ℕ = put o 4 fixed ++ (put o 4 v ++ rest) in
       let shape : wordsBytes o fixed wrong rule v ++ rest ≡ bs = append-assoc (put o 4 fixed) (put o 4 v) rest in
@@ -366,10 +404,10 @@ module _ (o : Order) (fixed : ℕ) (wrong : ℕ) (rule : ℕ → ℕ) where
       last-need zero q = absurd (ok-bad q)
       last-need (suc f) q = cc
 
-      middle-need : (f : ℕ) → need f at (need (rule (wordAt o 4 4 bs)) at (ok (wordAt o 4 4 bs))) ≡ bad c p → p ≡ at
+      middle-need : (f : ℕ) → need f at (fromRule at bs) ≡ bad c p → p ≡ at
       middle-need zero q = last-need (rule (wordAt o 4 4 bs)) q
       middle-need (suc f) q = cc
 
-      first-need : (f : ℕ) → need f at (need (unless (eqb (wordAt o 4 0 bs) fixed) wrong) at (need (rule (wordAt o 4 4 bs)) at (ok (wordAt o 4 4 bs)))) ≡ bad c p → p ≡ at
+      first-need : (f : ℕ) → need f at (fromFixed at bs) ≡ bad c p → p ≡ at
       first-need zero q = middle-need (unless (eqb (wordAt o 4 0 bs) fixed) wrong) q
       first-need (suc f) q = cc

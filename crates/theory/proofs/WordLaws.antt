@@ -7,7 +7,8 @@ use Prim.Native.Nat.{ℕ, zero, suc, _+_, _-_, _*_, _/_, _%_, _^_, _≤_, _<_}
 use native.Mathlib.Nat.{pow-suc, pow-zero, div-lt-iff-lt-mul, div-add-mod', mod-lt, zero-add, suc-add, add-zero, suc-mul, mul-assoc}
 use native.Mathlib.Omega.{arith}
 use lib.ListN.{length, take, drop, set, getD, take-append-drop, length-append, length-drop, length-set, length-reverse, drop-of-length-le}
-use lib.Seq.{length-take-le, drop-set-lt, drop-set-add, take-set-le, getD-take, getD-drop, getD-set-same, take-append-le, take-at, take-add, drop-drop, drop-append-add}
+use lib.Seq.{length-take-le, take-append-le, take-at, take-add, drop-drop, drop-append-add}
+use lib.Seq.{drop-set-lt, drop-set-add, take-set-le, getD-take, getD-drop, getD-set-same}
 use lib.Arith.{digits-div, digits-mod, digits-lt}
 use Rattle.theory.specs.declared.Order.{Order}
 use Rattle.theory.specs.declared.Order.the-variants.{Little, Big}
@@ -37,6 +38,10 @@ pub Bytes-take : (n : ℕ) (bs : List ℕ) → Bytes bs → Bytes (take n bs)
 Bytes-take zero bs h = tt
 Bytes-take (suc n) [] h = tt
 Bytes-take (suc n) (b ∷ bs) h = (h .0, Bytes-take n bs (h .1))
+
+-- A part that is cut out of bytes.
+pub Bytes-part : (n q : ℕ) (bs : List ℕ) → Bytes bs → Bytes (take n (drop q bs))
+Bytes-part n q bs h = Bytes-take n (drop q bs) (Bytes-drop q bs h)
 
 -- A slice of u8 is bytes: what a contract's rule for a slice gives, index by index.
 pub Bytes-from : (bs : List ℕ) → ((i : ℕ) → i < length bs → getD bs i 0 < 256) → Bytes bs
@@ -142,7 +147,8 @@ unfolding wordAt
 word-fits o w p bs h l =
     let part : List ℕ = take w (drop p bs) in
     let e : length (ordered o part) ≡ w = length-ordered o part ∙ length-take-le w (drop p bs) (omega (arith, length-drop p bs)) in
-    subst (λ (k : ℕ). num (ordered o part) < 256 ^ k) e (num-lt (ordered o part) (Bytes-ordered o part (Bytes-take w (drop p bs) (Bytes-drop p bs h))))
+    let below : num (ordered o part) < 256 ^ length (ordered o part) = num-lt (ordered o part) (Bytes-ordered o part (Bytes-part w p bs h)) in
+    subst (λ (k : ℕ). num (ordered o part) < 256 ^ k) e below
 
 -- A word of the first bytes is seen in those bytes alone.
 pub word-of-append : (o : Order) (w p : ℕ) (xs ys : List ℕ) → p + w ≤ length xs → wordAt o w p (xs ++ ys) ≡ wordAt o w p xs
@@ -155,7 +161,8 @@ word-of-append o w p xs ys h = ap (λ (r : List ℕ). num (ordered o r)) (cut p 
     cut (suc p) (x ∷ xs) h = cut p xs (omega arith)
 
 -- A word of a part that was cut out is that word of the whole.
-pub word-of-part : (o : Order) (w p q n : ℕ) (bs : List ℕ) → p + w ≤ length (take n (drop q bs)) → wordAt o w p (take n (drop q bs)) ≡ wordAt o w (q + p) bs
+pub word-of-part : (o : Order) (w p q n : ℕ) (bs : List ℕ) → p + w ≤ length (take n (drop q bs))
+    → wordAt o w p (take n (drop q bs)) ≡ wordAt o w (q + p) bs
 word-of-part o w p q n bs h =
     sym (word-of-append o w p (take n (drop q bs)) (drop n (drop q bs)) h)
     ∙ ap (wordAt o w p) (take-append-drop n (drop q bs))
@@ -192,11 +199,18 @@ module _ (a c p : ℕ) (bs : List ℕ) (h : Bytes bs) (l : p + a ≤ length bs) 
 
 -- ---- a byte is changed
 
-num-inj : (o : Order) (xs ys : List ℕ) → Bytes xs → Bytes ys → length xs ≡ length ys → num (ordered o xs) ≡ num (ordered o ys) → xs ≡ ys
-num-inj o xs ys hx hy l e = sym (put-num o xs hx) ∙ ap (λ (k : ℕ). put o k (num (ordered o xs))) l ∙ ap (put o (length ys)) e ∙ put-num o ys hy
+-- Bytes of one length that spell the same number are the same.
+num-inj : (o : Order) (xs ys : List ℕ) → Bytes xs → Bytes ys → length xs ≡ length ys
+    → num (ordered o xs) ≡ num (ordered o ys) → xs ≡ ys
+num-inj o xs ys hx hy l e =
+    sym (put-num o xs hx)
+    ∙ ap (λ (k : ℕ). put o k (num (ordered o xs))) l
+    ∙ ap (put o (length ys)) e
+    ∙ put-num o ys hy
 
 -- Outside the word: the word stays.
-pub word-set-other : (o : Order) (w p : ℕ) (bs : List ℕ) (i v : ℕ) → (i < p) ⊎ (p + w ≤ i) → wordAt o w p (set bs i v) ≡ wordAt o w p bs
+pub word-set-other : (o : Order) (w p : ℕ) (bs : List ℕ) (i v : ℕ) → (i < p) ⊎ (p + w ≤ i)
+    → wordAt o w p (set bs i v) ≡ wordAt o w p bs
 unfolding wordAt
 word-set-other o w p bs i v (inl h) = ap (λ (r : List ℕ). num (ordered o (take w r))) (drop-set-lt p bs i v h)
 word-set-other o w p bs i v (inr h) =
@@ -207,18 +221,21 @@ word-set-other o w p bs i v (inr h) =
     ∙ ap (λ (r : List ℕ). num (ordered o r)) (take-set-le w (drop p bs) m v (omega arith))
 
 -- Inside the word: the word changes, if the byte does.
-pub word-set-here : (o : Order) (w p : ℕ) (bs : List ℕ) (i v : ℕ) → Bytes bs → v < 256 → p ≤ i → i < p + w → p + w ≤ length bs → v ≢ getD bs i 0
+pub word-set-here : (o : Order) (w p : ℕ) (bs : List ℕ) (i v : ℕ) → Bytes bs → v < 256
+    → p ≤ i → i < p + w → p + w ≤ length bs → v ≢ getD bs i 0
     → wordAt o w p (set bs i v) ≢ wordAt o w p bs
 unfolding wordAt
 word-set-here o w p bs i v h b lo hi l d e =
+    let new : List ℕ = set bs i v in
     let cut : List ℕ → List ℕ = λ x. take w (drop p x) in
     let at : (x : List ℕ) → getD (cut x) (i - p) 0 ≡ getD x i 0 = λ x.
     getD-take w (drop p x) (i - p) 0 (omega arith) ∙ getD-drop p x (i - p) 0 ∙ ap (λ (q : ℕ). getD x q 0) (omega arith) in
-    let sized : (x : List ℕ) → length x ≡ length bs → length (cut x) ≡ w = λ x q. length-take-le w (drop p x) (simp length-drop (omega arith)) in
-    let same : cut (set bs i v) ≡ cut bs =
-    num-inj o (cut (set bs i v)) (cut bs) (Bytes-take w (drop p (set bs i v)) (Bytes-drop p (set bs i v) (Bytes-set bs i v b h)))
-    (Bytes-take w (drop p bs) (Bytes-drop p bs h)) (sized (set bs i v) (length-set bs i v) ∙ sym (sized bs refl)) e in
-    d (sym (getD-set-same bs i v 0 (omega arith)) ∙ sym (at (set bs i v)) ∙ ap (λ (x : List ℕ). getD x (i - p) 0) same ∙ at bs)
+    let sized : (x : List ℕ) → length x ≡ length bs → length (cut x) ≡ w = λ x q.
+    length-take-le w (drop p x) (simp length-drop (omega arith)) in
+    let same : cut new ≡ cut bs =
+    num-inj o (cut new) (cut bs) (Bytes-part w p new (Bytes-set bs i v b h)) (Bytes-part w p bs h)
+    (sized new (length-set bs i v) ∙ sym (sized bs refl)) e in
+    d (sym (getD-set-same bs i v 0 (omega arith)) ∙ sym (at new) ∙ ap (λ (x : List ℕ). getD x (i - p) 0) same ∙ at bs)
 
 -- ---- numbers in a row
 
@@ -237,38 +254,48 @@ Bytes-puts o w (n ∷ ns) = Bytes-append (put o w n) (puts o w ns) (Bytes-put o 
 pub puts-append : (o : Order) (w : ℕ) (ms ns : List ℕ) → puts o w (ms ++ ns) ≡ puts o w ms ++ puts o w ns
 unfolding puts
 puts-append o w [] ns = refl
-puts-append o w (m ∷ ms) ns = ap (λ (r : List ℕ). put o w m ++ r) (puts-append o w ms ns) ∙ sym (append-assoc (put o w m) (puts o w ms) (puts o w ns))
+puts-append o w (m ∷ ms) ns =
+    ap (λ (r : List ℕ). put o w m ++ r) (puts-append o w ms ns)
+    ∙ sym (append-assoc (put o w m) (puts o w ms) (puts o w ns))
 
 -- Numbers that were written after `pre` are read there.
-words-after-puts : (o : Order) (w : ℕ) (ns pre rest : List ℕ) → AllFit w ns → wordsAt o w (length ns) (length pre) (pre ++ (puts o w ns ++ rest)) ≡ ns
+words-after-puts : (o : Order) (w : ℕ) (ns pre rest : List ℕ) → AllFit w ns
+    → wordsAt o w (length ns) (length pre) (pre ++ (puts o w ns ++ rest)) ≡ ns
 unfolding wordsAt puts
 words-after-puts o w [] pre rest h = refl
 words-after-puts o w (n ∷ ns) pre rest h =
-    let all : List ℕ = pre ++ ((put o w n ++ puts o w ns) ++ rest) in
+    let one : List ℕ = put o w n in
+    let more : List ℕ = puts o w ns in
+    let all : List ℕ = pre ++ ((one ++ more) ++ rest) in
+    let turned : (one ++ more) ++ rest ≡ one ++ (more ++ rest) = append-assoc one more rest in
     let here : wordAt o w (length pre) all ≡ n =
     ap (λ (p : ℕ). wordAt o w p all) (sym (add-zero (length pre)))
-    ∙ word-past o w 0 pre ((put o w n ++ puts o w ns) ++ rest)
-    ∙ ap (wordAt o w 0) (append-assoc (put o w n) (puts o w ns) rest)
-    ∙ word-after-put o w n (puts o w ns ++ rest) (h .0) in
-    let el : length (pre ++ put o w n) ≡ length pre + w = length-append pre (put o w n) ∙ ap (λ (k : ℕ). length pre + k) (length-put o w n) in
-    let eb : (pre ++ put o w n) ++ (puts o w ns ++ rest) ≡ all =
-    append-assoc pre (put o w n) (puts o w ns ++ rest) ∙ ap (λ (r : List ℕ). pre ++ r) (sym (append-assoc (put o w n) (puts o w ns) rest)) in
-    ap₂ (λ (x : ℕ) (xs : List ℕ). x ∷ xs) here (sym (ap₂ (wordsAt o w (length ns)) el eb) ∙ words-after-puts o w ns (pre ++ put o w n) rest (h .1))
+    ∙ word-past o w 0 pre ((one ++ more) ++ rest)
+    ∙ ap (wordAt o w 0) turned
+    ∙ word-after-put o w n (more ++ rest) (h .0) in
+    let el : length (pre ++ one) ≡ length pre + w = length-append pre one ∙ ap (λ (k : ℕ). length pre + k) (length-put o w n) in
+    let eb : (pre ++ one) ++ (more ++ rest) ≡ all = append-assoc pre one (more ++ rest) ∙ ap (λ (r : List ℕ). pre ++ r) (sym turned) in
+    let behind : wordsAt o w (length ns) (length pre + w) all ≡ ns =
+    sym (ap₂ (wordsAt o w (length ns)) el eb) ∙ words-after-puts o w ns (pre ++ one) rest (h .1) in
+    ap₂ (λ (x : ℕ) (xs : List ℕ). x ∷ xs) here behind
 
 pub words-of-puts : (o : Order) (w : ℕ) (ns rest : List ℕ) → AllFit w ns → wordsAt o w (length ns) 0 (puts o w ns ++ rest) ≡ ns
 words-of-puts o w ns rest h = words-after-puts o w ns [] rest h
 
 -- Numbers that were read, written again, restore the bytes that they fill.
-pub puts-of-words : (o : Order) (w k p : ℕ) (bs : List ℕ) → Bytes bs → p + k * w ≤ length bs → puts o w (wordsAt o w k p bs) ++ drop (p + k * w) bs ≡ drop p bs
+pub puts-of-words : (o : Order) (w k p : ℕ) (bs : List ℕ) → Bytes bs → p + k * w ≤ length bs
+    → puts o w (wordsAt o w k p bs) ++ drop (p + k * w) bs ≡ drop p bs
 unfolding wordsAt puts wordAt
 puts-of-words o w zero p bs h l = let e : p + 0 * w ≡ p = omega arith in ap (λ (q : ℕ). drop q bs) e
 puts-of-words o w (suc k) p bs h l =
     let m : suc k * w ≡ k * w + w = suc-mul k w in
     let e : p + suc k * w ≡ p + w + k * w = omega arith in
-    let rest : puts o w (wordsAt o w k (p + w) bs) ++ drop (p + w + k * w) bs ≡ drop (p + w) bs = puts-of-words o w k (p + w) bs h (omega arith) in
-    append-assoc (put o w (wordAt o w p bs)) (puts o w (wordsAt o w k (p + w) bs)) (drop (p + suc k * w) bs)
-    ∙ ap (λ (q : ℕ). put o w (wordAt o w p bs) ++ (puts o w (wordsAt o w k (p + w) bs) ++ drop q bs)) e
-    ∙ ap (λ (r : List ℕ). put o w (wordAt o w p bs) ++ r) (rest ∙ sym (drop-drop w p bs))
+    let one : List ℕ = put o w (wordAt o w p bs) in
+    let more : List ℕ = puts o w (wordsAt o w k (p + w) bs) in
+    let rest : more ++ drop (p + w + k * w) bs ≡ drop (p + w) bs = puts-of-words o w k (p + w) bs h (omega arith) in
+    append-assoc one more (drop (p + suc k * w) bs)
+    ∙ ap (λ (q : ℕ). one ++ (more ++ drop q bs)) e
+    ∙ ap (λ (r : List ℕ). one ++ r) (rest ∙ sym (drop-drop w p bs))
     ∙ put-after-word o w (drop p bs) (Bytes-drop p bs h) (omega (arith, length-drop p bs))
 
 -- Bytes that k numbers fill are those numbers written.
@@ -288,9 +315,12 @@ words-fit o w (suc k) p bs h l =
     (word-fits o w p bs h (omega arith), words-fit o w k (p + w) bs h (omega arith))
 
 -- A byte behind them is changed: they stay.
-pub words-set-behind : (o : Order) (w k p : ℕ) (bs : List ℕ) (i v : ℕ) → p + k * w ≤ i → wordsAt o w k p (set bs i v) ≡ wordsAt o w k p bs
+pub words-set-behind : (o : Order) (w k p : ℕ) (bs : List ℕ) (i v : ℕ) → p + k * w ≤ i
+    → wordsAt o w k p (set bs i v) ≡ wordsAt o w k p bs
 unfolding wordsAt
 words-set-behind o w zero p bs i v h = refl
 words-set-behind o w (suc k) p bs i v h =
     let m : suc k * w ≡ k * w + w = suc-mul k w in
-    ap₂ (λ (x : ℕ) (xs : List ℕ). x ∷ xs) (word-set-other o w p bs i v (inr (omega arith))) (words-set-behind o w k (p + w) bs i v (omega arith))
+    ap₂ (λ (x : ℕ) (xs : List ℕ). x ∷ xs)
+    (word-set-other o w p bs i v (inr (omega arith)))
+    (words-set-behind o w k (p + w) bs i v (omega arith))

@@ -24,7 +24,8 @@ structureSize bodyBytes c = 8 + length (bodyBytes (c .body))
 
 -- The structure at the front of bs, whose first byte stands at the place `at`, in the state s. In this order: eight bytes for
 -- its two words, or 2; its kind (`head`); its length within bs, or 2; what its place in the sequence asks (`late`); its body.
-module _ (o : Order) {S B : Type 0} (head : S → ℕ → ℕ) (late : S → ℕ → ℕ → ℕ) (body : S × ℕ → ℕ → List ℕ → Res B) where
+module _ (o : Order) {S B : Type 0} (head : S → ℕ → ℕ) (late : S → ℕ → ℕ → ℕ)
+    (body : S × ℕ → ℕ → List ℕ → Res B) where
   abbrev pub readStructure : S → ℕ → List ℕ → Res (Structure B)
   readStructure s at bs =
       need (unless (leb 8 (length bs)) 2) at (
@@ -50,8 +51,13 @@ sequenceBytes itemBytes [] = []
 sequenceBytes itemBytes (a ∷ xs) = itemBytes a ++ sequenceBytes itemBytes xs
 
 -- An item, and what fills the rest.
-abbrev pub readPair : {S A B : Type 0} → (S → A → S) → (A → ℕ) → (S → ℕ → List ℕ → Res A) → (S → ℕ → List ℕ → Res B) → S → ℕ → List ℕ → Res (A × B)
-readPair step size one rest s at bs = bind (one s at bs) (λ a. bind (rest (step s a) (at + size a) (drop (size a) bs)) (λ b. ok (a, b)))
+abbrev pub readPair : {S A B : Type 0} → (S → A → S) → (A → ℕ)
+    → (S → ℕ → List ℕ → Res A) → (S → ℕ → List ℕ → Res B)
+    → S → ℕ → List ℕ → Res (A × B)
+readPair step size one rest s at bs =
+    bind (one s at bs) (λ a.
+    bind (rest (step s a) (at + size a) (drop (size a) bs)) (λ b.
+    ok (a, b)))
 
 -- Two words with no length word: the first is fixed, or the fault `wrong`; a rule on the second.
 module _ (o : Order) (fixed : ℕ) (wrong : ℕ) (rule : ℕ → ℕ) where
