@@ -51,7 +51,9 @@ givenRecord (Record.Administrative date clock number time since live) =
 givenRecord (Record.Trace address channel code t0 delta n) =
     accepted (count 7 ∷ count address ∷ count channel ∷ count code ∷ whole t0 ∷ count delta ∷ count n ∷ [])
 givenRecord (Record.History vetoTimes vetoTimesAt vetoWidth vetoMasksAt triggerTimes triggerTimesAt triggerWidth triggerMasksAt) =
-    accepted (count 8 ∷ counts (vetoTimes ∷ vetoTimesAt ∷ vetoWidth ∷ vetoMasksAt ∷ triggerTimes ∷ triggerTimesAt ∷ triggerWidth ∷ triggerMasksAt ∷ []))
+    accepted (count 8 ∷ counts (
+    vetoTimes ∷ vetoTimesAt ∷ vetoWidth ∷ vetoMasksAt ∷
+    triggerTimes ∷ triggerTimesAt ∷ triggerWidth ∷ triggerMasksAt ∷ []))
 givenRecord (Record.Gps year day status hour minute second tenths) =
     accepted (count 9 ∷ counts (year ∷ day ∷ status ∷ hour ∷ minute ∷ second ∷ tenths ∷ []))
 givenRecord (Record.Trigger m1 m2 m3 m4 m5 m6) = accepted (count 10 ∷ counts (m1 ∷ m2 ∷ m3 ∷ m4 ∷ m5 ∷ m6 ∷ []))

@@ -38,12 +38,15 @@ hundredth z = div binary64 (ofInt binary64 z) (ofInt binary64 (pos 100))
 -- "An entry is also offered in working units, as a phonon or a charge setting": "the rest stay whole numbers".
 unfoldable pub phononSetting : Phonon → List Value
 phononSetting f =
-    whole (f .code) ∷ whole (f .tower) ∷ float (hundredth (f .gain)) ∷ float (hundredth (f .qetBias)) ∷ float (hundredth (f .squidBias))
-    ∷ float (hundredth (f .lockpoint)) ∷ wholes (f .rtfOffset ∷ f .variableGain ∷ f .deltaT ∷ f .t0 ∷ f .traceLength ∷ [])
+    whole (f .code) ∷ whole (f .tower) ∷
+    float (hundredth (f .gain)) ∷ float (hundredth (f .qetBias)) ∷ float (hundredth (f .squidBias)) ∷ float (hundredth (f .lockpoint)) ∷
+    wholes (f .rtfOffset ∷ f .variableGain ∷ f .deltaT ∷ f .t0 ∷ f .traceLength ∷ [])
 
 unfoldable pub chargeSetting : Charge → List Value
 chargeSetting f =
-    whole (f .code) ∷ whole (f .tower) ∷ float (hundredth (f .gain)) ∷ wholes (f .bias ∷ f .rtfOffset ∷ f .deltaT ∷ f .t0 ∷ f .traceLength ∷ [])
+    whole (f .code) ∷ whole (f .tower) ∷
+    float (hundredth (f .gain)) ∷
+    wholes (f .bias ∷ f .rtfOffset ∷ f .deltaT ∷ f .t0 ∷ f .traceLength ∷ [])
 
 -- "It is asked by place, with Record's refusals, then 5 there for another kind."
 abbrev pub settingGiven : ℕ → Res Record → Given

@@ -24,9 +24,23 @@ pub data Example : Type 0 where
 -- hold; the listing of a file.
 abbrev pub Holds : Example → Type 0
 Holds (named code kind detector analysis cold) =
-    channelAnswer code ≡ record { number = 0; place = 0; kind = kind; detector = detector; analysis = nameOf (ascii analysis); cold = nameOf (ascii cold) }
+    channelAnswer code ≡ record {
+      number = 0;
+      place = 0;
+      kind = kind;
+      detector = detector;
+      analysis = nameOf (ascii analysis);
+      cold = nameOf (ascii cold);
+    }
 Holds (unnamed code number) =
-    channelAnswer code ≡ record { number = number; place = 0; kind = 0; detector = 0; analysis = nameOf []; cold = nameOf [] }
+    channelAnswer code ≡ record {
+      number = number;
+      place = 0;
+      kind = 0;
+      detector = 0;
+      analysis = nameOf [];
+      cold = nameOf [];
+    }
 Holds (series date clock number) = administrativeFault date clock ≡ number
 Holds (gps first second third number) = gpsRule (words (first ∷ second ∷ third ∷ [])) ≡ number
 Holds (samples bytes one two) = (sampleIn bytes 1 ≡ one) × (sampleIn bytes 2 ≡ two)

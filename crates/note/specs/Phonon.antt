@@ -27,7 +27,9 @@ pub record Phonon : Type 0 where
 
 abbrev pub phononWords : Phonon → List ℤ
 phononWords f =
-    f .code ∷ f .tower ∷ f .gain ∷ f .qetBias ∷ f .squidBias ∷ f .lockpoint ∷ f .rtfOffset ∷ f .variableGain ∷ f .deltaT ∷ f .t0 ∷ f .traceLength ∷ []
+    f .code ∷ f .tower ∷
+    f .gain ∷ f .qetBias ∷ f .squidBias ∷ f .lockpoint ∷
+    f .rtfOffset ∷ f .variableGain ∷ f .deltaT ∷ f .t0 ∷ f .traceLength ∷ []
 
 -- The fields of a body, and the body of fields.
 unfoldable pub phononOf : List ℕ → Phonon

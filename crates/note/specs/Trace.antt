@@ -48,7 +48,10 @@ traceOf b = record {
 }
 
 abbrev pub traceWords : Trace → List ℕ
-traceWords f = 0x11 ∷ 12 ∷ f .address ∷ f .channel ∷ f .code ∷ 0x12 ∷ 12 ∷ unsigned (f .t0) ∷ f .delta ∷ f .n ∷ 0x13 ∷ f .n ∷ []
+traceWords f =
+    0x11 ∷ 12 ∷ f .address ∷ f .channel ∷ f .code ∷
+    0x12 ∷ 12 ∷ unsigned (f .t0) ∷ f .delta ∷ f .n ∷
+    0x13 ∷ f .n ∷ []
 
 unfoldable pub traceBytes : Trace → List ℕ
 traceBytes f = words (traceWords f) ++ f .samples
@@ -68,7 +71,11 @@ countFault n = first (unless (eqb (n % 2) 0) 11 ∷ unless (leb fewestSamples n)
 
 -- The three inner blocks, words in order: "inner kind" 5, an inner length other than 12 is 6.
 unfoldable pub bookkeepingRule : List ℕ → ℕ
-bookkeepingRule b = first (unless (eqb (word 0 b) 0x11) 5 ∷ unless (eqb (word 4 b) 12) 6 ∷ channelFault (word 12 b) ∷ codeFault (word 16 b) ∷ [])
+bookkeepingRule b = first (
+    unless (eqb (word 0 b) 0x11) 5 ∷
+    unless (eqb (word 4 b) 12) 6 ∷
+    channelFault (word 12 b) ∷
+    codeFault (word 16 b) ∷ [])
 
 unfoldable pub timebaseRule : List ℕ → ℕ
 timebaseRule b = first (unless (eqb (word 20 b) 0x12) 5 ∷ unless (eqb (word 24 b) 12) 6 ∷ deltaFault (word 32 b) ∷ [])
@@ -80,7 +87,11 @@ samplesRule b = first (unless (eqb (word 40 b) 0x13) 5 ∷ countFault (word 44 b
 -- "Trace: length below 48 is 6, then words in order, n at its second count, last the length against 48 + 2n."
 abbrev pub traceTests : List ℕ → List ℕ
 traceTests b =
-    unless (leb 48 (length b)) 6 ∷ bookkeepingRule b ∷ timebaseRule b ∷ samplesRule b ∷ unless (eqb (length b) (48 + 2 * word 44 b)) 6 ∷ []
+    unless (leb 48 (length b)) 6 ∷
+    bookkeepingRule b ∷
+    timebaseRule b ∷
+    samplesRule b ∷
+    unless (eqb (length b) (48 + 2 * word 44 b)) 6 ∷ []
 
 unfoldable pub traceRule : List ℕ → ℕ
 traceRule b = first (traceTests b)
@@ -88,7 +99,11 @@ traceRule b = first (traceTests b)
 -- A writer's faults, in word order: the samples are handed over as a part of bytes, 6 where its size isn't 2n.
 unfoldable pub traceFault : Trace → ℕ
 traceFault f = first (
-    channelFault (f .channel) ∷ codeFault (f .code) ∷ deltaFault (f .delta) ∷ countFault (f .n) ∷ unless (eqb (length (f .samples)) (2 * f .n)) 6 ∷ [])
+    channelFault (f .channel) ∷
+    codeFault (f .code) ∷
+    deltaFault (f .delta) ∷
+    countFault (f .n) ∷
+    unless (eqb (length (f .samples)) (2 * f .n)) 6 ∷ [])
 
 -- Sample k of a part of samples, from 1: "The lower half of a word is the earlier sample."
 unfoldable pub sampleIn : List ℕ → ℕ → ℕ
