@@ -8,7 +8,8 @@ use lib.Dec.{eqb}
 use lib.IntN.{ℤ, pos, negsuc}
 use lib.Ieee.{Float, nan}
 use lib.ListN.{getD}
-use Rattle.note.specs.Answers.{Value, whole, float, Given, accepted, refused, counts, givenRecord, givenSetting, givenCode, givenSample, givenFind, givenYield, givenWriter}
+use Rattle.note.specs.Answers.{Value, whole, float, Given, accepted, refused, counts}
+use Rattle.note.specs.Answers.{givenRecord, givenSetting, givenCode, givenSample, givenFind, givenYield, givenWriter}
 use Rattle.note.specs.declared.RecordAnswer.{RecordAnswer}
 use Rattle.note.specs.declared.RecordAnswer.the-variants as Record
 use Rattle.note.specs.declared.SettingAnswer.{SettingAnswer}
@@ -25,7 +26,8 @@ use Rattle.note.specs.declared.WriterAnswer.{WriterAnswer}
 use Rattle.note.specs.declared.WriterAnswer.the-variants as Writer
 
 -- What has a way back is one-to-one.
-way-back : {A : Type 0} (given : A → Given) (back : Given → A) → ((a : A) → back (given a) ≡ a) → (a b : A) → given a ≡ given b → a ≡ b
+way-back : {A : Type 0} (given : A → Given) (back : Given → A) → ((a : A) → back (given a) ≡ a)
+    → (a b : A) → given a ≡ given b → a ≡ b
 way-back given back undo a b e = sym (undo a) ∙ ap back e ∙ undo b
 
 -- A value as a whole number, as a count, as a float.

@@ -1,7 +1,7 @@
 -- What a Boolean test tells: `Tells t A` says that t comes out true exactly where A holds. Tests joined by `&&` and `||` tell what
 -- their parts tell, so a rule of the note is read as a statement part by part.
 use mathlib.Core.Path.{_≡_, refl}
-use mathlib.Core.Logic.{_↔_, _⊎_, inl, inr, ⊎-elim, Iff·trans, Iff·and}
+use mathlib.Core.Logic.{_↔_, _⊎_, inl, inr, ⊎-elim, ⊎-map, Iff·trans, Iff·and}
 use mathlib.Core.Bool.{Bool, true, false, _&&_, _||_, false≢true, and-eq-true-iff}
 use mathlib.Core.List.{List, [], _∷_}
 use Prim.Native.Nat.{ℕ, _≤_}
@@ -21,8 +21,7 @@ or-true-iff true b = (λ e. inl refl, λ h. refl)
 or-true-iff false b = (inr, ⊎-elim (λ e. absurd (false≢true e)) (λ e. e))
 
 pub either-tells : {a b : Bool} {A B : Type 0} → Tells a A → Tells b B → Tells (a || b) (A ⊎ B)
-either-tells {a} {b} p q =
-    (λ e. ⊎-elim (λ h. inl (p .0 h)) (λ h. inr (q .0 h)) (or-true-iff a b .0 e), λ s. or-true-iff a b .1 (⊎-elim (λ h. inl (p .1 h)) (λ h. inr (q .1 h)) s))
+either-tells {a} {b} p q = Iff·trans (or-true-iff a b) (⊎-map (p .0) (q .0), ⊎-map (p .1) (q .1))
 
 pub le-tells : (m n : ℕ) → Tells (leb m n) (m ≤ n)
 le-tells m n = (leb-true m n, le-leb m n)

@@ -13,7 +13,9 @@ use lib.ListN.{length, getD}
 use borrow.Author.Tests.{leb-true, le-leb, eqb-true, ne-eqb}
 use Rattle.theory.specs.Tests.{among}
 use Rattle.note.specs.Answers.{accepted, refused, counts}
-use Rattle.note.specs.Channels.{ascii, Channel, channelsOf, pick, same, typeOf, detectorOf, channelNumber, codeFrom, numbered, called, channelOf, named, phononNamed, chargeNamed, beginsWith, isSome, codeGiven, codeAnswer}
+use Rattle.note.specs.Channels.{ascii, Channel, channelsOf, pick, same, numbered, called, beginsWith, isSome}
+use Rattle.note.specs.Channels.{typeOf, detectorOf, channelNumber, codeFrom, channelOf, named, phononNamed, chargeNamed}
+use Rattle.note.specs.Channels.{codeGiven, codeAnswer}
 use Rattle.note.proofs.BoolLaws.{Tells, both-tell, either-tells, le-tells, OneOf, among-tells, upTo, one-up-to}
 use Rattle.note.proofs.Sweep.{all, all-at}
 use Rattle.note.proofs.Computing.{computing}
@@ -35,8 +37,12 @@ far-kind k h =
       ne-eqb k 11 (omega arith),
     )
 
-every-list : (p : List Channel → Bool) → p [] ≡ true → all (λ (k : ℕ). p (channelsOf k)) 0 12 ≡ true → (k : ℕ) → p (channelsOf k) ≡ true
-every-list p e t k = by-cases (decLe k 11) (λ l. all-at (λ (k : ℕ). p (channelsOf k)) 0 12 t k (omega arith) (omega arith)) (λ g. rw (far-kind k (omega arith)) e)
+every-list : (p : List Channel → Bool) → p [] ≡ true → all (λ (k : ℕ). p (channelsOf k)) 0 12 ≡ true
+    → (k : ℕ) → p (channelsOf k) ≡ true
+every-list p e t k =
+    by-cases (decLe k 11)
+    (λ l. all-at (λ (k : ℕ). p (channelsOf k)) 0 12 t k (omega arith) (omega arith))
+    (λ g. rw (far-kind k (omega arith)) e)
 
 -- A test holds at every channel of a list.
 abbrev every : (Channel → Bool) → List Channel → Bool
@@ -50,7 +56,8 @@ first-or-rest : (b : Bool) (y x : Channel) (o : Option Channel) → cond b (some
 first-or-rest true y x o e = inl (refl, (cc))
 first-or-rest false y x o e = inr e
 
-picked : (test p : Channel → Bool) (xs : List Channel) (x : Channel) → every p xs ≡ true → pick test xs ≡ some x → (test x ≡ true) × (p x ≡ true)
+picked : (test p : Channel → Bool) (xs : List Channel) (x : Channel) → every p xs ≡ true → pick test xs ≡ some x
+    → (test x ≡ true) × (p x ≡ true)
 picked test p [] x t e = absurd (none-some e)
 picked test p (y ∷ ys) x t e =
     let s = and-eq-true-iff (p y) (every p ys) .0 t in
@@ -60,7 +67,8 @@ picked test p (y ∷ ys) x t e =
 -- What holds at each channel of each list holds at the one that a test picks.
 of-picked : (p : List Channel → Channel → Bool) → all (λ (k : ℕ). every (p (channelsOf k)) (channelsOf k)) 0 12 ≡ true
     → (k : ℕ) (test : Channel → Bool) (x : Channel) → pick test (channelsOf k) ≡ some x → (test x ≡ true) × (p (channelsOf k) x ≡ true)
-of-picked p t k test x e = picked test (p (channelsOf k)) (channelsOf k) x (every-list (λ (l : List Channel). every (p l) l) refl t k) e
+of-picked p t k test x e =
+    picked test (p (channelsOf k)) (channelsOf k) x (every-list (λ (l : List Channel). every (p l) l) refl t k) e
 
 pub number-small : (k c : ℕ) (x : Channel) → numbered k c ≡ some x → (k ≤ 11) × (c ≤ 11)
 unfolding computing
@@ -104,14 +112,16 @@ byName l x = finds (pick (λ y. same (y .analysis) (x .analysis)) l) (λ y. eqb 
 abbrev byNumber : List Channel → Channel → Bool
 byNumber l x = finds (pick (λ y. eqb (y .channel) (x .channel)) l) (λ y. same (y .analysis) (x .analysis))
 
-pub number-leads : (k c : ℕ) (x : Channel) → numbered k c ≡ some x → (y : Channel) × (called k (x .analysis) ≡ some y) × (y .channel ≡ c)
+pub number-leads : (k c : ℕ) (x : Channel) → numbered k c ≡ some x
+    → (y : Channel) × (called k (x .analysis) ≡ some y) × (y .channel ≡ c)
 unfolding computing
 number-leads k c x e =
     let s = of-picked byName refl k (λ y. eqb (y .channel) c) x e in
     let (y, f, t) = found (called k (x .analysis)) (λ y. eqb (y .channel) (x .channel)) (s .1) in
     (y, f, eqb-true (y .channel) (x .channel) t ∙ eqb-true (x .channel) c (s .0))
 
-pub name-leads : (k : ℕ) (name : List ℕ) (x : Channel) → called k name ≡ some x → (y : Channel) × (numbered k (x .channel) ≡ some y) × (y .analysis ≡ name)
+pub name-leads : (k : ℕ) (name : List ℕ) (x : Channel) → called k name ≡ some x
+    → (y : Channel) × (numbered k (x .channel) ≡ some y) × (y .analysis ≡ name)
 unfolding computing
 name-leads k name x e =
     let s = of-picked byNumber refl k (λ y. same (y .analysis) name) x e in
@@ -126,7 +136,8 @@ names-differ k c d x y e f q =
     cc
 
 -- From a code to its analysis name and back to the code.
-pub code-leads-back : (w : ℕ) (x : Channel) → channelOf w ≡ some x → codeAnswer (typeOf w) (detectorOf w) (x .analysis) ≡ accepted (counts (w ∷ []))
+pub code-leads-back : (w : ℕ) (x : Channel) → channelOf w ≡ some x
+    → codeAnswer (typeOf w) (detectorOf w) (x .analysis) ≡ accepted (counts (w ∷ []))
 unfolding codeAnswer
 code-leads-back w x e =
     let (y, f, n) = number-leads (typeOf w) (channelNumber w) x e in
@@ -134,13 +145,19 @@ code-leads-back w x e =
     let q : codeFrom (typeOf w) (detectorOf w) (y .channel) ≡ w = omega arith in
     rw (f, le-leb (detectorOf w) 999 d, q)
 
-code-from : (kind detector w : ℕ) (o : Option Channel) → codeGiven kind detector o ≡ accepted (counts (w ∷ []))
-    → (x : Channel) × (o ≡ some x) × (detector ≤ 999) × (codeFrom kind detector (x .channel) ≡ w)
+-- The code w comes from a channel that was found, o.
+abbrev From : ℕ → ℕ → ℕ → Option Channel → Type 0
+From kind detector w o = (x : Channel) × (o ≡ some x) × (detector ≤ 999) × (codeFrom kind detector (x .channel) ≡ w)
+
+code-from : (kind detector w : ℕ) (o : Option Channel) → codeGiven kind detector o ≡ accepted (counts (w ∷ [])) → From kind detector w o
 code-from kind detector w none e = let z : _≡_ {A = ℕ} 0 1 = cc in absurd (omega arith)
 code-from kind detector w (some x) e = go (leb detector 999) refl e
   where
-    go : (b : Bool) → leb detector 999 ≡ b → cond b (accepted (counts (codeFrom kind detector (x .channel) ∷ []))) (refused 10 0) ≡ accepted (counts (w ∷ []))
-        → (y : Channel) × (some x ≡ some y) × (detector ≤ 999) × (codeFrom kind detector (y .channel) ≡ w)
+    made : ℕ
+    made = codeFrom kind detector (x .channel)
+
+    go : (b : Bool) → leb detector 999 ≡ b → cond b (accepted (counts (made ∷ []))) (refused 10 0) ≡ accepted (counts (w ∷ []))
+        → From kind detector w (some x)
     go true t e = (x, refl, leb-true detector 999 t, cc)
     go false t e = let z : _≡_ {A = ℕ} 0 1 = cc in absurd (omega arith)
 
@@ -179,17 +196,34 @@ Listed (l ∷ ls) kind c = (OneOf (l .types) kind × ((l .low ≤ c) × (c ≤ l
 
 -- All channels; the charge channels; the phonon channels.
 abbrev pub channelLines : List Line
-channelLines = line (1 ∷ []) 1 4 ∷ line (3 ∷ []) 0 0 ∷ line (2 ∷ 4 ∷ 5 ∷ 6 ∷ []) 0 5 ∷ line (7 ∷ []) 0 2 ∷ line (10 ∷ 11 ∷ []) 0 11 ∷ []
+channelLines =
+    line (1 ∷ []) 1 4 ∷
+    line (3 ∷ []) 0 0 ∷
+    line (2 ∷ 4 ∷ 5 ∷ 6 ∷ []) 0 5 ∷
+    line (7 ∷ []) 0 2 ∷
+    line (10 ∷ 11 ∷ []) 0 11 ∷ []
 
 abbrev pub chargeLines : List Line
-chargeLines = line (1 ∷ []) 1 2 ∷ line (2 ∷ 4 ∷ 5 ∷ 6 ∷ []) 0 1 ∷ line (7 ∷ []) 0 0 ∷ line (10 ∷ 11 ∷ []) 0 1 ∷ line (10 ∷ 11 ∷ []) 6 7 ∷ []
+chargeLines =
+    line (1 ∷ []) 1 2 ∷
+    line (2 ∷ 4 ∷ 5 ∷ 6 ∷ []) 0 1 ∷
+    line (7 ∷ []) 0 0 ∷
+    line (10 ∷ 11 ∷ []) 0 1 ∷
+    line (10 ∷ 11 ∷ []) 6 7 ∷ []
 
 abbrev pub phononLines : List Line
-phononLines = line (1 ∷ []) 3 4 ∷ line (2 ∷ 4 ∷ 5 ∷ 6 ∷ []) 2 5 ∷ line (7 ∷ []) 1 2 ∷ line (10 ∷ 11 ∷ []) 2 5 ∷ line (10 ∷ 11 ∷ []) 8 11 ∷ []
+phononLines =
+    line (1 ∷ []) 3 4 ∷
+    line (2 ∷ 4 ∷ 5 ∷ 6 ∷ []) 2 5 ∷
+    line (7 ∷ []) 1 2 ∷
+    line (10 ∷ 11 ∷ []) 2 5 ∷
+    line (10 ∷ 11 ∷ []) 8 11 ∷ []
 
 -- w is a code in decimal: type, number 0 to 999 and a channel of these lines, three digits each.
 abbrev pub CodeOf : List Line → ℕ → Type 0
-CodeOf ls w = (kind : ℕ) × (detector : ℕ) × (c : ℕ) × (w ≡ kind * 1000000 + detector * 1000 + c) × (detector ≤ 999) × Listed ls kind c
+CodeOf ls w =
+    (kind : ℕ) × (detector : ℕ) × (c : ℕ)
+    × (w ≡ kind * 1000000 + detector * 1000 + c) × (detector ≤ 999) × Listed ls kind c
 
 abbrev onLine : List Line → ℕ → ℕ → Bool
 onLine [] kind c = false
@@ -212,14 +246,20 @@ line-small (l ∷ ls) k c t h =
     let u = and-eq-true-iff (leb (l .high) 11) (bounded ls) .0 (s .1) in
     ⊎-elim (λ g. (one-up-to 11 (l .types) k (s .0) (g .0), omega (arith, leb-true (l .high) 11 (u .0)))) (line-small ls k c (u .1)) h
 
+-- The lines and a test of the listed channel agree at type k and channel c; at each channel of type k up to 11.
+abbrev agrees : List Line → (Option Channel → Bool) → ℕ → ℕ → Bool
+agrees ls test k c = Bool·beq (onLine ls k c) (test (numbered k c))
+
+abbrev agreesIn : List Line → (Option Channel → Bool) → ℕ → Bool
+agreesIn ls test k = all (agrees ls test k) 0 12
+
 -- A test of the listed channel, which agrees with the lines at every type and channel up to 11, picks the codes of those lines.
 module _ (ls : List Line) (test : Option Channel → Bool) (nothing : test none ≡ false) (small : bounded ls ≡ true)
-    (agree : all (λ (k : ℕ). all (λ (c : ℕ). Bool·beq (onLine ls k c) (test (numbered k c))) 0 12) 0 12 ≡ true) where
+    (agree : all (agreesIn ls test) 0 12 ≡ true) where
   agree-at : (k c : ℕ) → (k ≤ 11) × (c ≤ 11) → onLine ls k c ≡ test (numbered k c)
-  agree-at k c h = beq-equal (onLine ls k c) (test (numbered k c))
-      (all-at (λ (c : ℕ). Bool·beq (onLine ls k c) (test (numbered k c))) 0 12
-      (all-at (λ (k : ℕ). all (λ (c : ℕ). Bool·beq (onLine ls k c) (test (numbered k c))) 0 12) 0 12 agree k (omega arith) (omega arith))
-      c (omega arith) (omega arith))
+  agree-at k c h =
+      let type : agreesIn ls test k ≡ true = all-at (agreesIn ls test) 0 12 agree k (omega arith) (omega arith) in
+      beq-equal (onLine ls k c) (test (numbered k c)) (all-at (agrees ls test k) 0 12 type c (omega arith) (omega arith))
 
   some-channel : (o : Option Channel) → test o ≡ true → (x : Channel) × (o ≡ some x)
   some-channel none e = absurd (false≢true (sym nothing ∙ e))

@@ -9,7 +9,8 @@ use Rattle.note.specs.Phonon.{phononOf, phononBytes, phononFault, phonon
 use Rattle.note.specs.Charge.{chargeOf, chargeBytes, chargeFault, chargeRule}
 use Rattle.note.specs.Administrative.{administrativeOf, administrativeBytes, isSeries, isClock, administrativeFault, administrativeRule}
 use Rattle.note.specs.Trace.{traceOf, traceBytes, countFault, bookkeepingRule, timebaseRule, samplesRule, traceRule, traceFault, sampleIn}
-use Rattle.note.specs.History.{widthAt, widthOf, after, sectionOf, historyOf, sectionBytes, historyBytes, isWidth, sectionRule, historyRule, sectionFault, historyFault, sectionValues}
+use Rattle.note.specs.History.{widthAt, widthOf, after, sectionOf, historyOf, sectionBytes, historyBytes}
+use Rattle.note.specs.History.{isWidth, sectionRule, historyRule, sectionFault, historyFault, sectionValues}
 use Rattle.note.specs.Gps.{areDigits, decimal, bcd, gpsOf, gpsBytes, gpsFault, gpsRule}
 use Rattle.note.specs.Trigger.{triggerOf, triggerBytes, triggerRule}
 use Rattle.note.specs.Tlb.{tlbOf, tlbBytes, isTower, tlbFault, tlbRule, zipSet}
@@ -17,9 +18,14 @@ use Rattle.note.specs.Records.{kindOf, isKind, isPlaced, isAllowed, note
 use Rattle.note.specs.Events.{eventFault, eventWordRule, readEvent, readEvents}
 use Rattle.note.specs.Files.{readHeader, readConfiguration, readParts, readFile}
 use Rattle.note.specs.Rows.{childOf, nodesOf, rowsOf, flat, tableAnswer, tableBuffer, yieldAt}
-use Rattle.note.specs.Calls.{recordFound, recordAt, hundredth, phononSetting, chargeSetting, settingAt, samplesPart, samplesAt, sampleAt, tracesIn, tracesFrom, tracesOf, firstMatch, findAt}
+use Rattle.note.specs.Calls.{recordFound, recordAt, hundredth, phononSetting, chargeSetting, settingAt}
+use Rattle.note.specs.Calls.{samplesPart, samplesAt, sampleAt, tracesIn, tracesFrom, tracesOf, firstMatch, findAt}
 use Rattle.note.specs.Listing.{rowLines, listing}
-use Rattle.note.specs.Writers.{wrote, writerGiven, written, phononWritten, chargeWritten, administrativeWritten, traceWritten, historyWritten, gpsWritten, triggerWritten, tlbWritten, recordWrote, recordOutput, headerWrote, headerOutput, configurationClosed, eventClosed, configurationOutput, eventOutput, recordAgain, fileRewritten, rewriteWrote, rewriteOutput}
+use Rattle.note.specs.Writers.{wrote, writerGiven, written, phononWritten, chargeWritten, administrativeWritten}
+use Rattle.note.specs.Writers.{traceWritten, historyWritten, gpsWritten, triggerWritten, tlbWritten}
+use Rattle.note.specs.Writers.{recordWrote, recordOutput, headerWrote, headerOutput}
+use Rattle.note.specs.Writers.{configurationClosed, eventClosed, configurationOutput, eventOutput}
+use Rattle.note.specs.Writers.{recordAgain, fileRewritten, rewriteWrote, rewriteOutput}
 
 unfoldable pub computing : ℕ
 unfolding

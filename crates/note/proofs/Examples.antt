@@ -8,7 +8,11 @@ use Rattle.note.proofs.Computing.{computing}
 pub examples-hold : AllHold examples
 unfolding computing
 examples-hold =
-    (refl, (refl, (refl, (refl, (refl, (refl, (refl, (refl, (refl, (refl, (refl, (refl, (refl, (refl, ((refl, refl), (refl, (refl, (refl, (refl, (refl, tt))))))))))))))))))))
+    (refl, (refl, (refl, (refl, (refl, (refl, -- P1 to P5
+    (refl, (refl, (refl, -- P6 and P7
+    (refl, (refl, (refl, (refl, (refl, -- P8 to P10
+    ((refl, refl), -- P11
+    (refl, (refl, (refl, (refl, (refl, tt)))))))))))))))))))) -- P12 to P14
 
 -- The files of 'Slips a reader makes here'.
 pub slips-shut-out : AllHold slips

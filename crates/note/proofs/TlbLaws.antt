@@ -29,7 +29,8 @@ unfolding zipSet
 zip-is-bit w z =
     let p : ℕ = 2 ^ (z - 1) in
     let positive : 1 ≤ p = one-le-pow (z - 1) 2 (omega arith) in
-    let t : Tells (zipSet w z) (((1 ≤ z) × (z ≤ 24)) × (w / p % 2 ≡ 1)) = both-tell (both-tell (le-tells 1 z) (le-tells z 24)) (eq-tells (w / p % 2) 1) in (
+    let t : Tells (zipSet w z) (((1 ≤ z) × (z ≤ 24)) × (w / p % 2 ≡ 1)) =
+    both-tell (both-tell (le-tells 1 z) (le-tells z 24)) (eq-tells (w / p % 2) 1) in (
       λ e. let h = t .0 e in
           let odd : 2 * (w / p / 2) + 1 ≡ w / p = omega arith in
           (h .0 .0, h .0 .1, (w / p / 2, w % p, rw odd (sym (div-add-mod' w p)), mod-lt w positive)),

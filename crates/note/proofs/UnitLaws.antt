@@ -45,9 +45,11 @@ div-whole nan s n v = absurd v
 div-whole (inf t) s n v = absurd v
 div-whole (fin t m e) s n v =
     let d = down e in
-    let h : m * up e * 1 * 100 ≡ n * (100 * d) = ap (λ (k : ℕ). k * 100) (v .1) ∙ Nat.mul-assoc n d 100 ∙ ap (λ (k : ℕ). n * k) (Nat.mul-comm d 100) in
-    ap (λ (b : Bool). round binary64 b (m * up e * 1) (100 * d)) (like t ∙ v .0)
-    ∙ round-same binary64 s (m * up e * 1) (100 * d) n 100 (Nat.mul-pos (omega arith) (down-pos e)) (omega arith) h
+    let u = m * up e * 1 in
+    let h : u * 100 ≡ n * (100 * d) =
+    ap (λ (k : ℕ). k * 100) (v .1) ∙ Nat.mul-assoc n d 100 ∙ ap (λ (k : ℕ). n * k) (Nat.mul-comm d 100) in
+    ap (λ (b : Bool). round binary64 b u (100 * d)) (like t ∙ v .0)
+    ∙ round-same binary64 s u (100 * d) n 100 (Nat.mul-pos (omega arith) (down-pos e)) (omega arith) h
 
 -- the quotient is rounded once: the cast before it is exact
 pub rounded-once : (z : ℤ) → mag z < 2 ^ 31 → hundredth z ≡ round binary64 (negative z) (natAbs z) 100
