@@ -66,7 +66,8 @@ picked test p (y ∷ ys) x t e =
 
 -- What holds at each channel of each list holds at the one that a test picks.
 of-picked : (p : List Channel → Channel → Bool) → all (λ (k : ℕ). every (p (channelsOf k)) (channelsOf k)) 0 12 ≡ true
-    → (k : ℕ) (test : Channel → Bool) (x : Channel) → pick test (channelsOf k) ≡ some x → (test x ≡ true) × (p (channelsOf k) x ≡ true)
+    → (k : ℕ) (test : Channel → Bool) (x : Channel) → pick test (channelsOf k) ≡ some x
+    → (test x ≡ true) × (p (channelsOf k) x ≡ true)
 of-picked p t k test x e =
     picked test (p (channelsOf k)) (channelsOf k) x (every-list (λ (l : List Channel). every (p l) l) refl t k) e
 

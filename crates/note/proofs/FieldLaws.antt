@@ -14,7 +14,8 @@ use Rattle.theory.proofs.WordLaws.{words-of-puts, puts-fill, words-fit, length-
 use Rattle.note.specs.Words.{order, word, words, signed, unsigned, AllSigned}
 use Rattle.note.specs.Phonon.{Phonon, phononWords, phononOf, phononBytes, phononFault, phononRule}
 use Rattle.note.specs.Charge.{Charge, chargeWords, chargeOf, chargeBytes, chargeFault, chargeRule}
-use Rattle.note.specs.Administrative.{Administrative, administrativeWords, administrativeOf, administrativeBytes, administrativeFault, administrativeRule}
+use Rattle.note.specs.Administrative.{Administrative, administrativeWords, administrativeOf, administrativeBytes}
+use Rattle.note.specs.Administrative.{administrativeFault, administrativeRule}
 use Rattle.note.specs.Trigger.{Trigger, triggerMasks, triggerOf, triggerBytes, triggerRule}
 use Rattle.note.specs.Tlb.{Tlb, tlbWords, tlbOf, tlbBytes, tlbFault, tlbRule}
 use Rattle.note.proofs.SignedLaws.{all-signed-again, all-unsigned-again, all-unsigned-fit}
@@ -46,9 +47,12 @@ reread ns = read (length ns) (words ns)
 pub words-read : (ns : List ℕ) → AllFit 4 ns → reread ns ≡ ns
 words-read ns h = ap (read (length ns)) (sym (append-nil (words ns))) ∙ words-of-puts order 4 ns [] h
 
--- Number j of a list, as a field is found in it.
+-- Number j of a list, as a field is found in it; lists that are the same have the same.
 abbrev at : List ℕ → ℕ → ℕ
 at ns j = getD ns j 0
+
+pub number-at : {ms ns : List ℕ} → ms ≡ ns → (j : ℕ) → at ms j ≡ at ns j
+number-at e j = ap (λ (l : List ℕ). at l j) e
 
 abbrev signedAt : List ℤ → ℕ → ℤ
 signedAt zs j = getD zs j (pos 0)
@@ -74,7 +78,8 @@ pub phonon-restored : (b : List ℕ) → Bytes b → phononRule b ≡ 0 → phon
 unfolding phononRule phononBytes phononOf wordsAt
 phonon-restored b h e = signed-restored 11 b _ h e
 
-pub phonon-read-back : (f : Phonon) → AllSigned (phononWords f) → phononFault (unsigned (f .code)) ≡ 0 → (phononRule (phononBytes f) ≡ 0) × (phononOf (phononBytes f) ≡ f)
+pub phonon-read-back : (f : Phonon) → AllSigned (phononWords f) → phononFault (unsigned (f .code)) ≡ 0
+    → (phononRule (phononBytes f) ≡ 0) × (phononOf (phononBytes f) ≡ f)
 unfolding phononRule phononBytes phononOf wordsAt
 phonon-read-back f h e = signed-read-back (λ ns. phononFault (at ns 0) ∷ []) (λ zs. record {
   code = signedAt zs 0;
@@ -96,7 +101,8 @@ pub charge-restored : (b : List ℕ) → Bytes b → chargeRule b ≡ 0 → char
 unfolding chargeRule chargeBytes chargeOf wordsAt
 charge-restored b h e = signed-restored 8 b _ h e
 
-pub charge-read-back : (f : Charge) → AllSigned (chargeWords f) → chargeFault (unsigned (f .code)) ≡ 0 → (chargeRule (chargeBytes f) ≡ 0) × (chargeOf (chargeBytes f) ≡ f)
+pub charge-read-back : (f : Charge) → AllSigned (chargeWords f) → chargeFault (unsigned (f .code)) ≡ 0
+    → (chargeRule (chargeBytes f) ≡ 0) × (chargeOf (chargeBytes f) ≡ f)
 unfolding chargeRule chargeBytes chargeOf wordsAt
 charge-read-back f h e = signed-read-back (λ ns. chargeFault (at ns 0) ∷ []) (λ zs. record {
   code = signedAt zs 0;

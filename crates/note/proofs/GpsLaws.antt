@@ -4,7 +4,7 @@ use Prim.Native.Nat.{ℕ, zero, suc, _+_, _-_, _*_, _/_, _%_, _^_, _≤_, _<_}
 use mathlib.Core.Path.{_≡_, refl, sym, ap, _∙_, subst}
 use mathlib.Core.Logic.{_↔_}
 use mathlib.Core.Bool.{Bool, true, false, cond, _&&_, and-eq-true-iff, and-assoc}
-use mathlib.Core.List.{List, [], _∷_, append-nil}
+use mathlib.Core.List.{List, [], _∷_}
 use native.Mathlib.Omega.{arith}
 use native.Mathlib.Nat.{pow-suc, pow-succ', pow-zero, mul-assoc, mod-one, mod-eq-of-lt, div-one, div-div-eq-div-mul, zero-add, suc-add, one-le-pow}
 use lib.Arith.{digits-div, digits-mod, digits-lt, mod-mul}
@@ -14,9 +14,10 @@ use borrow.Author.Tests.{leb-true, le-leb, eqb-true, eq-eqb}
 use Rattle.theory.specs.Words.{Bytes, AllFit, wordsAt}
 use Rattle.theory.specs.Tests.{first}
 use Rattle.theory.proofs.TestLaws.{holds-at}
-use Rattle.theory.proofs.WordLaws.{word-fits, words-of-puts, puts-fill, length-puts}
+use Rattle.theory.proofs.WordLaws.{word-fits, puts-fill, length-puts}
 use Rattle.note.specs.Words.{order, word, words}
 use Rattle.note.specs.Gps.{Gps, areDigits, decimal, bcd, gpsOf, gpsWords, gpsBytes, isLeap, daysOfYear, gpsFault, gpsTests, gpsRule}
+use Rattle.note.proofs.FieldLaws.{read, words-read, number-at}
 use Rattle.note.proofs.Sweep.{all-at}
 use Rattle.note.proofs.Computing.{computing}
 
@@ -169,7 +170,7 @@ module _ (f : Gps) (fine : gpsFault f ≡ 0) where
   unfolding gpsFault
   bounds =
       let at = holds-at _ fine in
-      let d = and-eq-true-iff (leb 1 (f .day)) (leb (f .day) (daysOfYear (f .year))) .0 (at 1 (leb 1 (f .day) && leb (f .day) (daysOfYear (f .year))) 9 refl) in
+      let d = and-eq-true-iff (leb 1 (f .day)) (leb (f .day) (daysOfYear (f .year))) .0 (at 1 _ 9 refl) in
       record {
         year = (omega (arith, leb-true (f .year) 9999 (at 0 _ 9 refl)), digits-fit 4 (f .year));
         day = (omega (arith, leb-true (f .day) (daysOfYear (f .year)) (d .1), days-at-most (isLeap (f .year))), digits-fit 4 (f .day));
@@ -183,9 +184,9 @@ module _ (f : Gps) (fine : gpsFault f ≡ 0) where
   fit : AllFit 4 (gpsWords f)
   fit = let b = bounds in (omega arith, (omega arith, (omega arith, tt)))
 
-  read-words : wordsAt order 4 3 0 (gpsBytes f) ≡ gpsWords f
+  read-words : read 3 (gpsBytes f) ≡ gpsWords f
   unfolding gpsBytes
-  read-words = rw append-nil at (words-of-puts order 4 (gpsWords f) [] fit)
+  read-words = words-read (gpsWords f) fit
 
   record Read : Type 0 where
     year : (areDigits 4 (word 0 (gpsBytes f) / 65536) ≡ true) × (decimal 4 (word 0 (gpsBytes f) / 65536) ≡ f .year)
@@ -200,7 +201,7 @@ module _ (f : Gps) (fine : gpsFault f ≡ 0) where
   unfolding wordsAt
   fields-read =
       let b = bounds in
-      let at : (j : ℕ) → getD (wordsAt order 4 3 0 (gpsBytes f)) j 0 ≡ getD (gpsWords f) j 0 = λ j. ap (λ (l : List ℕ). getD l j 0) read-words in
+      let at : (j : ℕ) → getD (read 3 (gpsBytes f)) j 0 ≡ getD (gpsWords f) j 0 = number-at read-words in
       let date : word 0 (gpsBytes f) ≡ bcd 4 (f .year) * 65536 + bcd 4 (f .day) = at 0 in
       let time : word 4 (gpsBytes f) ≡ f .status * 268435456 + bcd 2 (f .hour) * 65536 + bcd 2 (f .minute) * 256 + bcd 2 (f .second) = at 1 in
       let part : word 8 (gpsBytes f) ≡ bcd 8 (f .tenths) = at 2 in

@@ -8,13 +8,15 @@ use Prim.Native.Nat.{ℕ, zero, suc, _+_, _*_, _%_, _≤_, _<_}
 use native.Mathlib.Omega.{arith}
 use borrow.Author.Tests.{eqb-true, eqb-false, eq-eqb, ne-eqb, not-true}
 use lib.Dec.{eqb, eqb·suc-zero}
-use lib.ListN.{length, take, drop, getD, length-append, length-drop, take-append-drop, drop-of-length-le}
+use lib.ListN.{length, take, drop, length-append, length-drop, take-append-drop, drop-of-length-le}
 use lib.Seq.{length-take-le, drop-drop, drop-at, take-at}
 use Rattle.theory.specs.Words.{Bytes, wordsAt}
 use Rattle.theory.proofs.TestLaws.{first-at, first-passes, holds-at, unless-holds, equal-passed, equal-passes, most-passed, most-passes}
 use Rattle.theory.proofs.WordLaws.{words-of-puts, puts-of-words, length-puts, word-past}
 use Rattle.note.specs.Words.{order, word, words, greatestSigned}
-use Rattle.note.specs.History.{Section, History, widthAt, widthOf, after, triggerAt, sectionOf, historyOf, sectionBytes, historyBytes, isWidth, sectionRule, historyRule, sectionFault, historyFault}
+use Rattle.note.specs.History.{Section, History, widthAt, widthOf, after, triggerAt, sectionOf, historyOf}
+use Rattle.note.specs.History.{sectionBytes, historyBytes, isWidth, sectionRule, historyRule, sectionFault, historyFault}
+use Rattle.note.proofs.FieldLaws.{number-at}
 
 -- ---- a section without a fault
 
@@ -26,7 +28,9 @@ Width true times width = ((times ≡ 0) × (width ≡ 0)) ⊎ ((0 < times) × (w
 width-means : (trigger : Bool) (t w : ℕ) → isWidth trigger t w ≡ true → Width trigger t w
 unfolding isWidth
 width-means false zero w e = (λ z. eqb-true w 0 e, λ z. refl)
-width-means false (suc t) w e = let h : w ≢ 0 = eqb-false w 0 (not-true (eqb w 0) (rw (eqb·suc-zero t) at e)) in (λ z. absurd (omega arith), λ z. absurd (h z))
+width-means false (suc t) w e =
+    let h : w ≢ 0 = eqb-false w 0 (not-true (eqb w 0) (rw (eqb·suc-zero t) at e)) in
+    (λ z. absurd (omega arith), λ z. absurd (h z))
 width-means true zero w e = inl (refl, eqb-true w 0 e)
 width-means true (suc t) w e = inr (omega arith, eqb-true w 6 (rw (eqb·suc-zero t) at e))
 
@@ -104,7 +108,9 @@ module _ (b pre rest : List ℕ) (p : ℕ) (l : length pre ≡ p) where
   unfolding wordsAt
   word-behind n f e =
       let q : p ≡ length pre + 0 = omega arith in
-      ap₂ word q e ∙ word-past order 4 0 pre (words (n ∷ []) ++ rest) ∙ ap (λ (ns : List ℕ). getD ns 0 0) (words-of-puts order 4 (n ∷ []) rest (omega arith))
+      ap₂ word q e
+      ∙ word-past order 4 0 pre (words (n ∷ []) ++ rest)
+      ∙ number-at (words-of-puts order 4 (n ∷ []) rest (omega arith)) 0
 
   part-behind : (x : List ℕ) (n : ℕ) → length x ≡ n → b ≡ pre ++ (x ++ rest) → take n (drop p b) ≡ x
   part-behind x n k e = ap (λ (r : List ℕ). take n (drop p r)) e ∙ ap (take n) (drop-at pre (x ++ rest) p l) ∙ take-at x rest n k
@@ -129,11 +135,14 @@ module _ (trigger : Bool) (s : Section) (h : Whole trigger s) where
         let at : ℕ = p + 4 + 4 * s .count in
         let count : word p b ≡ s .count = word-behind b pre (t ++ (w ++ (m ++ rest))) p l (s .count) (h .count) flat in
         let times : take (4 * s .count) (drop (p + 4) b) ≡ t =
-        part-behind b (pre ++ c) (w ++ (m ++ rest)) (p + 4) (simp length-append (omega arith)) t (4 * s .count) (h .times) (flat ∙ sym (simp append-assoc)) in
+        part-behind b (pre ++ c) (w ++ (m ++ rest)) (p + 4) (simp length-append (omega arith))
+        t (4 * s .count) (h .times) (flat ∙ sym (simp append-assoc)) in
         let width : word at b ≡ s .width =
-        word-behind b (pre ++ (c ++ t)) (m ++ rest) at (simp length-append (omega arith)) (s .width) (h .width) (flat ∙ sym (simp append-assoc)) in
+        word-behind b (pre ++ (c ++ t)) (m ++ rest) at (simp length-append (omega arith))
+        (s .width) (h .width) (flat ∙ sym (simp append-assoc)) in
         let masks : take (4 * (s .count * s .width)) (drop (at + 4) b) ≡ m =
-        part-behind b (pre ++ (c ++ (t ++ w))) rest (at + 4) (simp length-append (omega arith)) m (4 * (s .count * s .width)) (h .masks) (flat ∙ sym (simp append-assoc)) in
+        part-behind b (pre ++ (c ++ (t ++ w))) rest (at + 4) (simp length-append (omega arith))
+        m (4 * (s .count * s .width)) (h .masks) (flat ∙ sym (simp append-assoc)) in
         rw (count, width) (λ i. record { count = s .count; times = times i; width = s .width; masks = masks i }, omega (arith, section-size))
 
 -- ---- the whole body
@@ -172,12 +181,15 @@ pub history-read-back : (f : History) → historyFault f ≡ 0 → (historyRule 
 unfolding historyFault historyRule historyBytes historyOf
 history-read-back f e =
     let b : List ℕ = historyBytes f in
+    let one : List ℕ = sectionBytes (f .veto) in
+    let two : List ℕ = sectionBytes (f .trigger) in
     let v : Whole false (f .veto) = fault-whole false (f .veto) (first-at _ e 0) in
     let t : Whole true (f .trigger) = fault-whole true (f .trigger) (first-at _ e 1) in
-    let veto = section-read false (f .veto) v 0 b [] (sectionBytes (f .trigger)) refl refl in
-    let at : length (sectionBytes (f .veto)) ≡ triggerAt b = omega arith in
-    let trigger = section-read true (f .trigger) t (triggerAt b) b (sectionBytes (f .veto)) [] at (ap (λ (r : List ℕ). sectionBytes (f .veto) ++ r) (sym (append-nil (sectionBytes (f .trigger))))) in
-    let size : length b ≡ length (sectionBytes (f .veto)) + length (sectionBytes (f .trigger)) = length-append (sectionBytes (f .veto)) (sectionBytes (f .trigger)) in
+    let veto = section-read false (f .veto) v 0 b [] two refl refl in
+    let at : length one ≡ triggerAt b = omega arith in
+    let last : b ≡ one ++ (two ++ []) = ap (λ (r : List ℕ). one ++ r) (sym (append-nil two)) in
+    let trigger = section-read true (f .trigger) t (triggerAt b) b one [] at last in
+    let size : length b ≡ length one + length two = length-append one two in
     let sv = section-size false (f .veto) v in
     let st = section-size true (f .trigger) t in
     let least : 16 ≤ length b = omega arith in
@@ -185,7 +197,8 @@ history-read-back f e =
     let end : length b ≡ after (triggerAt b) b = omega arith in
     let first : sectionRule false 0 b ≡ 0 = whole-rule false 0 b (omega arith) (rw (veto .0) v) in
     let second : sectionRule true (triggerAt b) b ≡ 0 = whole-rule true (triggerAt b) b (omega arith) (rw (trigger .0) t) in
-    (first-passes _ (most-passes 6 least, (equal-passes 6 fours, (first, (second, (equal-passes 6 end, tt))))), λ i. record { veto = veto .0 i; trigger = trigger .0 i })
+    let rule : historyRule b ≡ 0 = first-passes _ (most-passes 6 least, (equal-passes 6 fours, (first, (second, (equal-passes 6 end, tt))))) in
+    (rule, λ i. record { veto = veto .0 i; trigger = trigger .0 i })
 
 -- ---- the rule said a second time
 
@@ -201,7 +214,8 @@ pub record Fills (b : List ℕ) : Type 0 where
   pub triggerMasks : List ℕ
   pub filled : b ≡ words (nvt ∷ []) ++ (vetoTimes ++ (words (nvw ∷ []) ++ (vetoMasks
       ++ (words (ntt ∷ []) ++ (triggerTimes ++ (words (ntw ∷ []) ++ triggerMasks))))))
-  pub lengths : (length vetoTimes ≡ 4 * nvt) × (length vetoMasks ≡ 4 * (nvt * nvw)) × (length triggerTimes ≡ 4 * ntt) × (length triggerMasks ≡ 4 * (ntt * ntw))
+  pub lengths : (length vetoTimes ≡ 4 * nvt) × (length vetoMasks ≡ 4 * (nvt * nvw))
+      × (length triggerTimes ≡ 4 * ntt) × (length triggerMasks ≡ 4 * (ntt * ntw))
   pub counts : (nvt ≤ 0x7FFFFFFF) × (nvw ≤ 0x7FFFFFFF) × (ntt ≤ 0x7FFFFFFF) × (ntw ≤ 0x7FFFFFFF)
   pub missing : (nvt ≡ 0) ↔ (nvw ≡ 0)
   pub six : ((ntt ≡ 0) × (ntw ≡ 0)) ⊎ ((0 < ntt) × (ntw ≡ 6))
@@ -210,17 +224,19 @@ accepted-fills : (b : List ℕ) → Bytes b → historyRule b ≡ 0 → Fills b
 unfolding historyRule historyBytes historyOf sectionBytes
 accepted-fills b h e =
     let (room, end) = history-ends b e in
-    let v : Whole false (sectionOf 0 b) = rule-whole false 0 b room (first-at _ e 2) in
-    let t : Whole true (sectionOf (triggerAt b) b) = rule-whole true (triggerAt b) b (omega arith) (first-at _ e 3) in
+    let veto : Section = sectionOf 0 b in
+    let trigger : Section = sectionOf (triggerAt b) b in
+    let v : Whole false veto = rule-whole false 0 b room (first-at _ e 2) in
+    let t : Whole true trigger = rule-whole true (triggerAt b) b (omega arith) (first-at _ e 3) in
     record {
-      nvt = sectionOf 0 b .count;
-      nvw = sectionOf 0 b .width;
-      ntt = sectionOf (triggerAt b) b .count;
-      ntw = sectionOf (triggerAt b) b .width;
-      vetoTimes = sectionOf 0 b .times;
-      vetoMasks = sectionOf 0 b .masks;
-      triggerTimes = sectionOf (triggerAt b) b .times;
-      triggerMasks = sectionOf (triggerAt b) b .masks;
+      nvt = veto .count;
+      nvw = veto .width;
+      ntt = trigger .count;
+      ntw = trigger .width;
+      vetoTimes = veto .times;
+      vetoMasks = veto .masks;
+      triggerTimes = trigger .times;
+      triggerMasks = trigger .masks;
       filled = sym (history-restored b h e) ∙ simp append-assoc;
       lengths = (v .times, v .masks, t .times, t .masks);
       counts = (v .count, v .width, t .count, t .width);
@@ -233,8 +249,20 @@ unfolding historyFault historyBytes sectionBytes
 fills-accepted b f =
     let veto : Section = record { count = f .nvt; times = f .vetoTimes; width = f .nvw; masks = f .vetoMasks } in
     let trigger : Section = record { count = f .ntt; times = f .triggerTimes; width = f .ntw; masks = f .triggerMasks } in
-    let v : Whole false veto = record { count = f .counts .0; times = f .lengths .0; width = f .counts .1; widths = f .missing; masks = f .lengths .1 } in
-    let t : Whole true trigger = record { count = f .counts .2; times = f .lengths .2; width = f .counts .3; widths = f .six; masks = f .lengths .3 } in
+    let v : Whole false veto = record {
+      count = f .counts .0;
+      times = f .lengths .0;
+      width = f .counts .1;
+      widths = f .missing;
+      masks = f .lengths .1;
+    } in
+    let t : Whole true trigger = record {
+      count = f .counts .2;
+      times = f .lengths .2;
+      width = f .counts .3;
+      widths = f .six;
+      masks = f .lengths .3;
+    } in
     let g : History = record { veto = veto; trigger = trigger } in
     let same : historyBytes g ≡ b = simp append-assoc (sym (f .filled)) in
     rw same at (history-read-back g (first-passes _ (whole-fault false veto v, (whole-fault true trigger t, tt))) .0)

@@ -52,14 +52,17 @@ DateExists yy mm dd = (1 ≤ mm) × (mm ≤ 12) × (1 ≤ dd) × InMonth yy mm d
 -- w reads llyymmdd in decimal, a location and a day that exists.
 abbrev pub SeriesDate : ℕ → Type 0
 SeriesDate w =
-    (ll : ℕ) × (yy : ℕ) × (mm : ℕ) × (dd : ℕ) × (w ≡ ll * 1000000 + yy * 10000 + mm * 100 + dd) × Location ll × (yy ≤ 99) × DateExists yy mm dd
+    (ll : ℕ) × (yy : ℕ) × (mm : ℕ) × (dd : ℕ)
+    × (w ≡ ll * 1000000 + yy * 10000 + mm * 100 + dd) × Location ll × (yy ≤ 99) × DateExists yy mm dd
 
 -- The list of locations is the six and the six plus 50.
 one-of-append : (xs ys : List ℕ) (n : ℕ) → OneOf (xs ++ ys) n ↔ (OneOf xs n ⊎ OneOf ys n)
 one-of-append [] ys n = (inr, ⊎-elim (λ h. absurd h) (λ h. h))
 one-of-append (x ∷ xs) ys n =
-    let r = one-of-append xs ys n in
-    (⊎-elim (λ e. inl (inl e)) (λ h. ⊎-elim (λ g. inl (inr g)) inr (r .0 h)), ⊎-elim (⊎-elim inl (λ g. inr (r .1 (inl g)))) (λ g. inr (r .1 (inr g))))
+    let r = one-of-append xs ys n in (
+      ⊎-elim (λ e. inl (inl e)) (λ h. ⊎-elim (λ g. inl (inr g)) inr (r .0 h)),
+      ⊎-elim (⊎-elim inl (λ g. inr (r .1 (inl g)))) (λ g. inr (r .1 (inr g))),
+    )
 
 one-of-map : (f : ℕ → ℕ) (xs : List ℕ) (n : ℕ) → OneOf (map f xs) n ↔ ((b : ℕ) × OneOf xs b × (n ≡ f b))
 one-of-map f [] n = (λ h. absurd h, λ h. absurd (h .1))
@@ -90,13 +93,16 @@ is-month : (mm : ℕ) → 1 ≤ getD daysOfMonth mm 0 → (1 ≤ mm) × (mm ≤ 
 is-month zero h = absurd (omega arith)
 is-month (suc m) h = (
   omega arith,
-  by-cases (decLe (suc m) 12) (λ l. l) (λ g. let l : 13 ≤ suc m = omega arith in absurd (omega (arith, List·getD-eq-default daysOfMonth 0 l))),
+  by-cases (decLe (suc m) 12)
+      (λ l. l)
+      (λ g. let l : 13 ≤ suc m = omega arith in absurd (omega (arith, List·getD-eq-default daysOfMonth 0 l))),
 )
 
 date-exists : (yy mm dd : ℕ) → ((1 ≤ dd) × (dd ≤ daysIn yy mm)) ↔ DateExists yy mm dd
 date-exists yy mm dd = go (eqb mm 2) (eqb (yy % 4) 0) refl refl
   where
-    go : (a b : Bool) → eqb mm 2 ≡ a → eqb (yy % 4) 0 ≡ b → ((1 ≤ dd) × (dd ≤ cond (a && b) 29 (getD daysOfMonth mm 0))) ↔ DateExists yy mm dd
+    go : (a b : Bool) → eqb mm 2 ≡ a → eqb (yy % 4) 0 ≡ b
+        → ((1 ≤ dd) × (dd ≤ cond (a && b) 29 (getD daysOfMonth mm 0))) ↔ DateExists yy mm dd
     go true true p q =
         let m = eqb-true mm 2 p in
         let y = eqb-true (yy % 4) 0 q in (
@@ -143,18 +149,21 @@ taken-apart ll yy mm dd w e y m d =
 pub series-is-date : (w : ℕ) → (isSeries w ≡ true) ↔ SeriesDate w
 unfolding isSeries
 series-is-date w =
-    let t : Tells (isSeries w) ((((w ≤ 99999999) × OneOf locations (w / 1000000)) × (1 ≤ w % 100)) × (w % 100 ≤ daysIn (w / 10000 % 100) (w / 100 % 100))) =
-    both-tell (both-tell (both-tell (le-tells w 99999999) (among-tells locations (w / 1000000))) (le-tells 1 (w % 100)))
-    (le-tells (w % 100) (daysIn (w / 10000 % 100) (w / 100 % 100))) in (
+    let site : ℕ = w / 1000000 in
+    let year : ℕ = w / 10000 % 100 in
+    let month : ℕ = w / 100 % 100 in
+    let day : ℕ = w % 100 in
+    let t : Tells (isSeries w) ((((w ≤ 99999999) × OneOf locations site) × (1 ≤ day)) × (day ≤ daysIn year month)) =
+    both-tell (both-tell (both-tell (le-tells w 99999999) (among-tells locations site)) (le-tells 1 day)) (le-tells day (daysIn year month)) in (
       λ e. let h = t .0 e in (
-        w / 1000000,
-        w / 10000 % 100,
-        w / 100 % 100,
-        w % 100,
+        site,
+        year,
+        month,
+        day,
         put-together w,
-        location-listed (w / 1000000) .0 (h .0 .0 .1),
+        location-listed site .0 (h .0 .0 .1),
         omega arith,
-        date-exists (w / 10000 % 100) (w / 100 % 100) (w % 100) .0 (h .0 .1, h .1),
+        date-exists year month day .0 (h .0 .1, h .1),
       ),
       λ s.
           let (ll, yy, mm, dd, e, l, y, d) = s in

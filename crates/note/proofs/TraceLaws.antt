@@ -15,11 +15,14 @@ use lib.IntN.{ℤ}
 use Rattle.theory.specs.declared.Order.the-variants.{Little}
 use Rattle.theory.specs.Words.{Bytes, Fits, wordAt, wordsAt}
 use Rattle.theory.proofs.TestLaws.{first-at, first-passes, equal-passed, equal-passes, most-passed, most-passes}
-use Rattle.theory.proofs.WordLaws.{words-of-puts, puts-of-words, length-puts, word-fits, word-set-other, word-set-here, words-set-behind, word-low, word-high, Bytes-set}
+use Rattle.theory.proofs.WordLaws.{words-of-puts, puts-of-words, length-puts, word-fits, word-low, word-high}
+use Rattle.theory.proofs.WordLaws.{Bytes-set, word-set-other, word-set-here, words-set-behind}
 use Rattle.note.specs.Words.{order, word, words, signed, unsigned}
-use Rattle.note.specs.Trace.{Trace, TraceFits, traceOf, traceWords, traceBytes, channelFault, codeFault, deltaFault, countFault, bookkeepingRule, timebaseRule, samplesRule, traceRule, traceFault, sampleIn, traceKind}
+use Rattle.note.specs.Trace.{Trace, TraceFits, traceOf, traceWords, traceBytes, sampleIn, traceKind}
+use Rattle.note.specs.Trace.{channelFault, codeFault, deltaFault, countFault, traceFault}
+use Rattle.note.specs.Trace.{bookkeepingRule, timebaseRule, samplesRule, traceRule}
 use Rattle.note.proofs.SignedLaws.{signed-again, unsigned-again, unsigned-fits}
-use Rattle.note.proofs.FieldLaws.{read}
+use Rattle.note.proofs.FieldLaws.{read, number-at}
 
 -- ---- an accepted body
 
@@ -38,18 +41,23 @@ pub record AcceptedTrace (b : List ℕ) : Type 0 where
 
 pub trace-accepted : (b : List ℕ) → traceRule b ≡ 0 → AcceptedTrace b
 unfolding traceRule bookkeepingRule timebaseRule samplesRule countFault
-trace-accepted b e = record {
-  bookkeeping = equal-passed (word 0 b) 0x11 4 (first-at _ (first-at _ e 1) 0);
-  first-size = equal-passed (word 4 b) 12 5 (first-at _ (first-at _ e 1) 1);
-  timebase = equal-passed (word 20 b) 0x12 4 (first-at _ (first-at _ e 2) 0);
-  second-size = equal-passed (word 24 b) 12 5 (first-at _ (first-at _ e 2) 1);
-  again = equal-passed (word 36 b) (word 44 b) 10 (first-at _ (first-at _ e 3) 2);
-  samples = equal-passed (word 40 b) 0x13 4 (first-at _ (first-at _ e 3) 0);
-  even = equal-passed (word 44 b % 2) 0 10 (first-at _ (first-at _ (first-at _ e 3) 1) 0);
-  fewest = most-passed 2 (word 44 b) 10 (first-at _ (first-at _ (first-at _ e 3) 1) 1);
-  most = most-passed (word 44 b) 32768 10 (first-at _ (first-at _ (first-at _ e 3) 1) 2);
-  size = equal-passed (length b) (48 + 2 * word 44 b) 5 (first-at _ e 4);
-}
+trace-accepted b e =
+    let books : bookkeepingRule b ≡ 0 = first-at _ e 1 in
+    let base : timebaseRule b ≡ 0 = first-at _ e 2 in
+    let part : samplesRule b ≡ 0 = first-at _ e 3 in
+    let counted : countFault (word 44 b) ≡ 0 = first-at _ part 1 in
+    record {
+      bookkeeping = equal-passed (word 0 b) 0x11 4 (first-at _ books 0);
+      first-size = equal-passed (word 4 b) 12 5 (first-at _ books 1);
+      timebase = equal-passed (word 20 b) 0x12 4 (first-at _ base 0);
+      second-size = equal-passed (word 24 b) 12 5 (first-at _ base 1);
+      again = equal-passed (word 36 b) (word 44 b) 10 (first-at _ part 2);
+      samples = equal-passed (word 40 b) 0x13 4 (first-at _ part 0);
+      even = equal-passed (word 44 b % 2) 0 10 (first-at _ counted 0);
+      fewest = most-passed 2 (word 44 b) 10 (first-at _ counted 1);
+      most = most-passed (word 44 b) 32768 10 (first-at _ counted 2);
+      size = equal-passed (length b) (48 + 2 * word 44 b) 5 (first-at _ e 4);
+    }
 
 pub trace-restored : (b : List ℕ) → Bytes b → traceRule b ≡ 0 → traceBytes (traceOf b) ≡ b
 unfolding traceBytes traceOf wordsAt
@@ -59,13 +67,23 @@ trace-restored b h e =
     let same : traceWords (traceOf b) ≡ read 12 b = rw (a .bookkeeping, a .first-size, a .timebase, a .second-size, a .again, a .samples, s) in
     ap (λ (ns : List ℕ). words ns ++ drop 48 b) same ∙ puts-of-words order 4 12 0 b h (omega arith)
 
-pub trace-length : (b : List ℕ) → traceRule b ≡ 0 → (length b ≡ 48 + 2 * word 44 b) × (word 44 b % 2 ≡ 0) × (2 ≤ word 44 b) × (word 44 b ≤ 32768)
+pub trace-length : (b : List ℕ) → traceRule b ≡ 0
+    → (length b ≡ 48 + 2 * word 44 b) × (word 44 b % 2 ≡ 0) × (2 ≤ word 44 b) × (word 44 b ≤ 32768)
 trace-length b e = let a : AcceptedTrace b = trace-accepted b e in (a .size, a .even, a .fewest, a .most)
 
 -- ---- fields written and read back
 
+-- The fields that stand in the twelve words, with t0 and the samples.
 abbrev fields : List ℕ → ℤ → List ℕ → Trace
-fields ns t ss = record { address = getD ns 2 0; channel = getD ns 3 0; code = getD ns 4 0; t0 = t; delta = getD ns 8 0; n = getD ns 11 0; samples = ss }
+fields ns t ss = record {
+  address = getD ns 2 0;
+  channel = getD ns 3 0;
+  code = getD ns 4 0;
+  t0 = t;
+  delta = getD ns 8 0;
+  n = getD ns 11 0;
+  samples = ss;
+}
 
 module _ (f : Trace) (h : TraceFits f) where
   twelve-read : read 12 (traceBytes f) ≡ traceWords f
@@ -91,10 +109,12 @@ module _ (f : Trace) (h : TraceFits f) where
   pub trace-read-back : traceFault f ≡ 0 → (traceRule (traceBytes f) ≡ 0) × (traceOf (traceBytes f) ≡ f)
   unfolding traceFault traceRule bookkeepingRule timebaseRule samplesRule wordsAt
   trace-read-back e =
-      let at : (j : ℕ) → getD (read 12 (traceBytes f)) j 0 ≡ getD (traceWords f) j 0 = λ j. ap (λ (ns : List ℕ). getD ns j 0) twelve-read in
+      let at : (j : ℕ) → getD (read 12 (traceBytes f)) j 0 ≡ getD (traceWords f) j 0 = number-at twelve-read in
       let s : length (f .samples) ≡ 2 * f .n = equal-passed (length (f .samples)) (2 * f .n) 5 (first-at _ e 4) in
+      let channel : channelFault (word 12 (traceBytes f)) ≡ 0 = ap channelFault (at 3) ∙ first-at _ e 0 in
+      let code : codeFault (word 16 (traceBytes f)) ≡ 0 = ap codeFault (at 4) ∙ first-at _ e 1 in
       let books : bookkeepingRule (traceBytes f) ≡ 0 =
-      first-passes _ (equal-passes 5 (at 0), (equal-passes 6 (at 1), (ap channelFault (at 3) ∙ first-at _ e 0, (ap codeFault (at 4) ∙ first-at _ e 1, tt)))) in
+      first-passes _ (equal-passes 5 (at 0), (equal-passes 6 (at 1), (channel, (code, tt)))) in
       let base : timebaseRule (traceBytes f) ≡ 0 =
       first-passes _ (equal-passes 5 (at 5), (equal-passes 6 (at 6), (ap deltaFault (at 8) ∙ first-at _ e 2, tt))) in
       let counted : samplesRule (traceBytes f) ≡ 0 =
@@ -108,7 +128,7 @@ module _ (f : Trace) (h : TraceFits f) where
 module _ (b : List ℕ) (i v : ℕ) (h : 48 ≤ i) where
   -- Word j of the twelve is as before.
   stays : (j : ℕ) → getD (read 12 (set b i v)) j 0 ≡ getD (read 12 b) j 0
-  stays j = ap (λ (ns : List ℕ). getD ns j 0) (words-set-behind order 4 12 0 b i v h)
+  stays = number-at (words-set-behind order 4 12 0 b i v h)
 
   pub trace-blind : traceRule (set b i v) ≡ traceRule b
   unfolding traceRule bookkeepingRule timebaseRule samplesRule wordsAt
