@@ -142,7 +142,8 @@ unfolding isSpelled
 never-spelled w name e = rw (eq-eqb w 0 e)
 
 -- What is left of the number, w, and of the name, from byte i on, still decides.
-pub decides : (number w : ℕ) (name : List ℕ) (i : ℕ) (b : Bool) → (number ≡ 0 → ⊥) → areLetters number name ≡ areLetters w (drop i name)
+pub decides : (number w : ℕ) (name : List ℕ) (i : ℕ) (b : Bool) → (number ≡ 0 → ⊥)
+    → areLetters number name ≡ areLetters w (drop i name)
     → areLetters w (drop i name) ≡ b → b ≡ isSpelled number name
 unfolding isSpelled
 decides number w name i b n e t = rw (ne-eqb number 0 n) (sym (e ∙ t))

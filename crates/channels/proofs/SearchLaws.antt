@@ -42,7 +42,8 @@ search-found k c name t = go (numbered k c) refl
         rw (← e, f, n)
 
 -- A name that a type's list has is the name of a channel below 12.
-called-small : (k : ℕ) (name : List ℕ) (x : Channel) → called k name ≡ some x → (k ≤ 11) × (x .channel ≤ 11) × (hasName k name (x .channel) ≡ true)
+called-small : (k : ℕ) (name : List ℕ) (x : Channel) → called k name ≡ some x
+    → (k ≤ 11) × (x .channel ≤ 11) × (hasName k name (x .channel) ≡ true)
 called-small k name x q =
     let (y, f, e) = name-leads k name x q in
     let (h, l) = number-small k (x .channel) y f in

@@ -27,12 +27,17 @@ or-unless-requires-3 c κs = search needs
 returns : tie.Need-returns
 unfolding eventFault
 returns c =
-    let at1 = c .before in
-    let at2 = at1 .before in
-    let at3 = at2 .before in
-    let at4 = at3 .before in
-    let at5 = at4 .before in
-    rw (c .or-unless3 .ensures, at1 .or-unless2 .ensures, at2 .or-unless .ensures, at3 .is-category .ensures, at4 .unless .ensures, at5 .is-class .ensures) (simp first-of-part)
+    let last = c .before in
+    let category = last .before in
+    let class = category .before .before in
+    rw (
+      c .or-unless3 .ensures,
+      last .or-unless2 .ensures,
+      category .or-unless .ensures,
+      category .before .is-category .ensures,
+      class .unless .ensures,
+      class .before .is-class .ensures,
+    ) (simp first-of-part)
 
 pub event-fault-spec : {M : Type 1} → statement M
 event-fault-spec =

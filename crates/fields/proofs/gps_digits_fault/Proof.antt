@@ -33,14 +33,19 @@ or-unless-requires-3 c κs = search needs
 returns : tie.Need-returns
 unfolding gpsDigitsFault
 returns c =
-    let at1 = c .before in
-    let at2 = at1 .before in
-    let at3 = at2 .before in
-    let at4 = at3 .before in
-    let at5 = at4 .before in
-    let at6 = at5 .before in
-    let at7 = at6 .before in
-    rw (c .or-unless3 .ensures, at1 .are-digits3 .ensures, at2 .or-unless2 .ensures, at3 .are-digits2 .ensures, at4 .or-unless .ensures, at5 .nibble .ensures, at6 .unless .ensures, at7 .are-digits .ensures) (simp first-of-part)
+    let time = c .before .before in
+    let gap = time .before .before in
+    let date = gap .before .before in
+    rw (
+      c .or-unless3 .ensures,
+      c .before .are-digits3 .ensures,
+      time .or-unless2 .ensures,
+      time .before .are-digits2 .ensures,
+      gap .or-unless .ensures,
+      gap .before .nibble .ensures,
+      date .unless .ensures,
+      date .before .are-digits .ensures,
+    ) (simp first-of-part)
 
 pub gps-digits-fault-spec : {M : Type 1} → statement M
 gps-digits-fault-spec =

@@ -33,14 +33,22 @@ or-unless-requires-6 c κs = search needs
 returns : tie.Need-returns
 unfolding gpsFault
 returns c =
-    let at1 = c .before in
-    let at2 = at1 .before in
-    let at3 = at2 .before in
-    let at4 = at3 .before in
-    let at5 = at4 .before in
-    let at6 = at5 .before in
-    let at7 = at6 .before in
-    rw (c .or-unless6 .ensures, at1 .or-unless5 .ensures, at2 .or-unless4 .ensures, at3 .or-unless3 .ensures, at4 .or-unless2 .ensures, at5 .or-unless .ensures, at6 .is-day .ensures, at7 .unless .ensures) (simp first-of-part)
+    let second = c .before in
+    let minute = second .before in
+    let hour = minute .before in
+    let status = hour .before in
+    let day = status .before in
+    let year = day .before .before in
+    rw (
+      c .or-unless6 .ensures,
+      second .or-unless5 .ensures,
+      minute .or-unless4 .ensures,
+      hour .or-unless3 .ensures,
+      status .or-unless2 .ensures,
+      day .or-unless .ensures,
+      day .before .is-day .ensures,
+      year .unless .ensures,
+    ) (simp first-of-part)
 
 pub gps-fault-spec : {M : Type 1} → statement M
 gps-fault-spec =

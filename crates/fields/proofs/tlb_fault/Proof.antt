@@ -45,18 +45,25 @@ or-unless-requires-5 c κs = search needs
 returns : tie.Need-returns
 unfolding tlbFault
 returns c =
-    let at1 = c .before in
-    let at2 = at1 .before in
-    let at3 = at2 .before in
-    let at4 = at3 .before in
-    let at5 = at4 .before in
-    let at6 = at5 .before in
-    let at7 = at6 .before in
-    let at8 = at7 .before in
-    let at9 = at8 .before in
-    let at10 = at9 .before in
-    let at11 = at10 .before in
-    rw (c .or-unless5 .ensures, at1 .is-tower6 .ensures, at2 .or-unless4 .ensures, at3 .is-tower5 .ensures, at4 .or-unless3 .ensures, at5 .is-tower4 .ensures, at6 .or-unless2 .ensures, at7 .is-tower3 .ensures, at8 .or-unless .ensures, at9 .is-tower2 .ensures, at10 .unless .ensures, at11 .is-tower .ensures) (simp first-of-part)
+    let fifth = c .before .before in
+    let fourth = fifth .before .before in
+    let third = fourth .before .before in
+    let second = third .before .before in
+    let one = second .before .before in
+    rw (
+      c .or-unless5 .ensures,
+      c .before .is-tower6 .ensures,
+      fifth .or-unless4 .ensures,
+      fifth .before .is-tower5 .ensures,
+      fourth .or-unless3 .ensures,
+      fourth .before .is-tower4 .ensures,
+      third .or-unless2 .ensures,
+      third .before .is-tower3 .ensures,
+      second .or-unless .ensures,
+      second .before .is-tower2 .ensures,
+      one .unless .ensures,
+      one .before .is-tower .ensures,
+    ) (simp first-of-part)
 
 pub tlb-fault-spec : {M : Type 1} → statement M
 tlb-fault-spec =
