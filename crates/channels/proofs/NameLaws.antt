@@ -15,12 +15,8 @@ use borrow.Author.Tests.{lt-ltb, le-ltb, eq-eqb, ne-eqb}
 use Rattle.theory.specs.Words.{num, bytes}
 use Rattle.note.specs.Channels.{Channel, same, nameOf, channelOf, typeOf, detectorOf, channelNumber, channelGiven, channelAnswer}
 use Rattle.note.specs.declared.ChannelAnswer.{ChannelAnswer}
-use Rattle.note.proofs.ChannelLaws.{Short, names-fit}
+use Rattle.note.proofs.ChannelLaws.{Letters, Short, names-fit}
 use Rattle.channels.specs.Tables.{analysisNumber, coldNumber, sizeOf, nameOfNumber, areLetters, isSpelled}
-
--- Every letter is from 1 to 127.
-abbrev Letters : List ℕ → Type 0
-Letters name = (i : ℕ) → i < length name → (1 ≤ getD name i 0) × (getD name i 0 ≤ 127)
 
 rest-letters : (x : ℕ) (name : List ℕ) → Letters (x ∷ name) → Letters name
 rest-letters x name h = λ i l. h (suc i) (omega arith)

@@ -14,7 +14,7 @@ use Rattle.theory.specs.Words.{num}
 use Rattle.note.specs.Channels.{Channel, numbered}
 use Rattle.note.proofs.ChannelLaws.{number-small}
 use Rattle.note.proofs.Computing.{computing}
-use Rattle.note.proofs.Sweep.{all, all-at}
+use Rattle.note.proofs.Sweep.{allPairs, all-pairs-at}
 use Rattle.channels.specs.Tables.{lettersAt, lookedUp, nameIn, tableOf, analysisNumber, coldNumber}
 
 -- ---- looking a name up
@@ -41,26 +41,32 @@ none-past f e k c h = go (numbered k c) refl
     go none q = e
     go (some x) q = absurd (h (number-small k c x q))
 
--- Two numbers agree at every type and channel up to 11.
-abbrev pub agree : (ℕ → ℕ → ℕ) → (ℕ → ℕ → ℕ) → Bool
-agree f g = all (λ (k : ℕ). all (λ (c : ℕ). eqb (f k c) (g k c)) 0 12) 0 12
+-- Two numbers agree at a type and a channel; at every type and channel up to 11.
+abbrev equalAt : (ℕ → ℕ → ℕ) → (ℕ → ℕ → ℕ) → ℕ → ℕ → Bool
+equalAt f g k c = eqb (f k c) (g k c)
+
+abbrev agree : (ℕ → ℕ → ℕ) → (ℕ → ℕ → ℕ) → Bool
+agree f g = allPairs (equalAt f g) 12
 
 pub agree-at : (f g : ℕ → ℕ → ℕ) → agree f g ≡ true → (k c : ℕ) → k ≤ 11 → c ≤ 11 → f k c ≡ g k c
 agree-at f g e k c h l =
-    eqb-true (f k c) (g k c)
-    (all-at (λ (c : ℕ). eqb (f k c) (g k c)) 0 12
-    (all-at (λ (k : ℕ). all (λ (c : ℕ). eqb (f k c) (g k c)) 0 12) 0 12 e k (omega arith) (omega arith))
-    c (omega arith) (omega arith))
+    eqb-true (f k c) (g k c) (all-pairs-at (equalAt f g) 12 e k c (omega arith) (omega arith))
 
 -- A table that agrees with the lists up to type 11 and channel 11 agrees with them everywhere.
-table-agrees : (t : List ℕ) (name : Channel → List ℕ) → agree (lookedUp t) (λ k c. num (nameIn name (numbered k c))) ≡ true
-    → (k c : ℕ) → lookedUp t k c ≡ num (nameIn name (numbered k c))
-table-agrees t name e k c =
-    by-cases (decLe k 11)
-    (λ h. by-cases (decLe c 11)
-    (agree-at (lookedUp t) (λ k c. num (nameIn name (numbered k c))) e k c h)
-    (λ g. sym (past-channels t k c (omega arith)) ∙ sym (none-past (λ o. num (nameIn name o)) refl k c (λ s. g (s .1)))))
-    (λ g. sym (past-types t k c (omega arith)) ∙ sym (none-past (λ o. num (nameIn name o)) refl k c (λ s. g (s .0))))
+module _ (t : List ℕ) (name : Channel → List ℕ) where
+  abbrev listed : ℕ → ℕ → ℕ
+  listed k c = num (nameIn name (numbered k c))
+
+  none-listed : (k c : ℕ) → ((k ≤ 11) × (c ≤ 11) → ⊥) → listed k c ≡ 0
+  none-listed = none-past (λ o. num (nameIn name o)) refl
+
+  table-agrees : agree (lookedUp t) listed ≡ true → (k c : ℕ) → lookedUp t k c ≡ listed k c
+  table-agrees e k c =
+      by-cases (decLe k 11)
+      (λ h. by-cases (decLe c 11)
+      (agree-at (lookedUp t) listed e k c h)
+      (λ g. sym (past-channels t k c (omega arith)) ∙ sym (none-listed k c (λ s. g (s .1)))))
+      (λ g. sym (past-types t k c (omega arith)) ∙ sym (none-listed k c (λ s. g (s .0))))
 
 -- The tables that the lists give.
 pub analysis-table : (k c : ℕ) → lookedUp (tableOf (λ x. x .analysis)) k c ≡ analysisNumber (numbered k c)

@@ -17,7 +17,7 @@ use Rattle.note.specs.Channels.{ascii, Channel, channelsOf, pick, same, 
 use Rattle.note.specs.Channels.{typeOf, detectorOf, channelNumber, codeFrom, channelOf, named, phononNamed, chargeNamed}
 use Rattle.note.specs.Channels.{codeGiven, codeAnswer}
 use Rattle.note.proofs.BoolLaws.{Tells, both-tell, either-tells, le-tells, OneOf, among-tells, upTo, one-up-to}
-use Rattle.note.proofs.Sweep.{all, all-at}
+use Rattle.note.proofs.Sweep.{all, all-at, allPairs, all-pairs-at}
 use Rattle.note.proofs.Computing.{computing}
 
 -- ---- a fact about every list
@@ -247,20 +247,16 @@ line-small (l ∷ ls) k c t h =
     let u = and-eq-true-iff (leb (l .high) 11) (bounded ls) .0 (s .1) in
     ⊎-elim (λ g. (one-up-to 11 (l .types) k (s .0) (g .0), omega (arith, leb-true (l .high) 11 (u .0)))) (line-small ls k c (u .1)) h
 
--- The lines and a test of the listed channel agree at type k and channel c; at each channel of type k up to 11.
+-- The lines and a test of the listed channel agree at type k and channel c.
 abbrev agrees : List Line → (Option Channel → Bool) → ℕ → ℕ → Bool
 agrees ls test k c = Bool·beq (onLine ls k c) (test (numbered k c))
 
-abbrev agreesIn : List Line → (Option Channel → Bool) → ℕ → Bool
-agreesIn ls test k = all (agrees ls test k) 0 12
-
 -- A test of the listed channel, which agrees with the lines at every type and channel up to 11, picks the codes of those lines.
 module _ (ls : List Line) (test : Option Channel → Bool) (nothing : test none ≡ false) (small : bounded ls ≡ true)
-    (agree : all (agreesIn ls test) 0 12 ≡ true) where
+    (agree : allPairs (agrees ls test) 12 ≡ true) where
   agree-at : (k c : ℕ) → (k ≤ 11) × (c ≤ 11) → onLine ls k c ≡ test (numbered k c)
   agree-at k c h =
-      let type : agreesIn ls test k ≡ true = all-at (agreesIn ls test) 0 12 agree k (omega arith) (omega arith) in
-      beq-equal (onLine ls k c) (test (numbered k c)) (all-at (agrees ls test k) 0 12 type c (omega arith) (omega arith))
+      beq-equal (onLine ls k c) (test (numbered k c)) (all-pairs-at (agrees ls test) 12 agree k c (omega arith) (omega arith))
 
   some-channel : (o : Option Channel) → test o ≡ true → (x : Channel) × (o ≡ some x)
   some-channel none e = absurd (false≢true (sym nothing ∙ e))
@@ -296,9 +292,12 @@ phonon-code-is-listed = codes-tell phononLines (beginsWith "P") refl refl refl
 
 -- ---- what the names are
 
--- One to four bytes of ASCII, none of them 0.
+-- Bytes of ASCII, none of them 0; one to four of them.
+abbrev pub Letters : List ℕ → Type 0
+Letters name = (i : ℕ) → i < length name → (1 ≤ getD name i 0) × (getD name i 0 ≤ 127)
+
 abbrev pub Short : List ℕ → Type 0
-Short name = ((1 ≤ length name) × (length name ≤ 4)) × ((i : ℕ) → i < length name → (1 ≤ getD name i 0) × (getD name i 0 ≤ 127))
+Short name = ((1 ≤ length name) × (length name ≤ 4)) × Letters name
 
 abbrev inAscii : List ℕ → ℕ → Bool
 inAscii name i = leb 1 (getD name i 0) && leb (getD name i 0) 127

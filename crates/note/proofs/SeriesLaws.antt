@@ -81,7 +81,7 @@ location-listed ll =
     )
 
 -- The table of the months and the knuckles agree.
-knuckles : (mm : ℕ) → 1 ≤ mm → mm ≤ 12 → mm ≢ 2 → getD daysOfMonth mm 0 ≡ 30 + (mm + mm / 8) % 2
+pub knuckles : (mm : ℕ) → 1 ≤ mm → mm ≤ 12 → mm ≢ 2 → getD daysOfMonth mm 0 ≡ 30 + (mm + mm / 8) % 2
 knuckles mm l h n =
     let days : ℕ → ℕ = λ m. getD daysOfMonth m 0 in
     let knuckle : ℕ → ℕ = λ m. 30 + (m + m / 8) % 2 in

@@ -18,6 +18,15 @@ all-at f a (suc n) t l h k =
     let s = and-eq-true-iff (f a) (all f (suc a) n) .0 t in
     ⊎-elim (λ e. subst (λ (m : ℕ). f m ≡ true) e (s .0)) (λ u. all-at f (suc a) n (s .1) l u (omega arith)) (eq-or-lt-of-le h)
 
+-- f holds at every pair of numbers below n.
+abbrev pub allPairs : (ℕ → ℕ → Bool) → ℕ → Bool
+allPairs f n = all (λ (k : ℕ). all (f k) 0 n) 0 n
+
+pub all-pairs-at : (f : ℕ → ℕ → Bool) (n : ℕ) → allPairs f n ≡ true → (k c : ℕ) → k < n → c < n → f k c ≡ true
+all-pairs-at f n t k c h l =
+    let row : all (f k) 0 n ≡ true = all-at (λ (k : ℕ). all (f k) 0 n) 0 n t k (omega arith) (omega arith) in
+    all-at (f k) 0 n row c (omega arith) (omega arith)
+
 -- The same as an answer's contract asks it: the test is true, or false, all over the range.
 pub yes : (f : ℕ → Bool) (a n : ℕ) → all f a n ≡ true → (l : ℕ) → a ≤ l → l < a + n → true ≡ f l
 yes f a n t l h k = sym (all-at f a n t l h k)

@@ -28,8 +28,9 @@ is-spelled-requires c κs = search needs
 
 returns : tie.Need-returns Inv-loop μ-loop
 returns c =
-    let a = c .before .before .before .before .before .before .args in
-    search-found (a .kind) (c .before .before .before .before .loop .channel) (now (a .name)) (cc)
+    let at = c .before .before .before .before in
+    let a = at .before .before .args in
+    search-found (a .kind) (at .loop .channel) (now (a .name)) (cc)
 
 add-channel : tie.Need-add-channel Inv-loop μ-loop
 add-channel c = search needs

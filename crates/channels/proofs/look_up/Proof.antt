@@ -61,9 +61,13 @@ letter-requires-4 c κs = search needs
 joined-requires : tie.Need-joined-requires
 joined-requires c κs = search needs
 
+-- Where the function starts, from the second letter on.
+abbrev start : tie.After-letter2 → tie.Start
+start c = c .before .before .before .before .before .before
+
 returns-3 : tie.Need-returns-3
 returns-3 c =
-    let a = c .before .before .before .before .before .before .before .before .before .before .before .args in
+    let a = start (c .before .before .before .before .before) .args in
     cc (in-table (now (a .table)) (a .kind) (a .channel) (omega arith) (omega arith))
 
 pub look-up-spec : {M : Type 1} → statement M

@@ -1,30 +1,15 @@
--- `fields::days_of_month` meets its contract: past December the table gives nothing, and for each other month the sum is computed.
--- The idea: one test over the twelve months.
-use Prim.Native.Nat.{ℕ, _+_, _/_, _%_, _≤_}
-use mathlib.Core.Bool.{Bool, _||_}
-use mathlib.Core.Path.{_≡_, refl, sym}
+-- `fields::days_of_month` meets its contract: past December the table gives nothing, and for each other month the sum is the table's.
+-- The idea: the months but February have 31 and 30 days in turn, which is a law of the note.
+use mathlib.Core.Path.{_≡_, sym}
 use native.Mathlib.Omega.{arith}
-use lib.Dec.{eqb}
-use lib.ListN.{getD, List·getD-eq-default}
+use lib.ListN.{List·getD-eq-default}
 use borrow.Author.Needs.{needs}
-use borrow.Author.Tests.{eqb-true, ne-eqb}
 use Rattle.note.specs.Administrative.{daysOfMonth}
-use Rattle.note.proofs.Sweep.{all-at}
+use Rattle.note.proofs.SeriesLaws.{knuckles}
 use Rattle.fields.proofs.days_of_month.Statement.{statement}
 use Rattle.fields.proofs.days_of_month.Tie as tie
 use Rattle.fields.proofs.days_of_month.Reads as reads
 use Rattle.fields.proofs.days_of_month.Lts as lts
-
-in-turn : ℕ → ℕ
-in-turn mm = 30 + (mm + mm / 8) % 2
-
--- February, or the table's days are those in turn.
-abbrev listed : ℕ → Bool
-listed mm = eqb mm 2 || eqb (in-turn mm) (getD daysOfMonth mm 0)
-
-is-listed : (mm : ℕ) → 1 ≤ mm → mm ≤ 12 → (mm ≡ 2 → ⊥) → in-turn mm ≡ getD daysOfMonth mm 0
-unfolding in-turn
-is-listed mm low high n = eqb-true _ _ (rw (ne-eqb mm 2 n) at (all-at listed 1 12 refl mm low (omega arith)))
 
 returns : tie.Need-returns
 returns c = let none : c .before .args .mm ≡ 0 = omega arith in rw none
@@ -42,8 +27,7 @@ add-result-2 : tie.Need-add-result-2
 add-result-2 c = search needs
 
 returns-4 : tie.Need-returns-4
-unfolding in-turn
-returns-4 c = is-listed (c .before .before .before .args .mm) (c .before .before .if1 .left) (c .before .if2 .left) (c .if3 .left)
+returns-4 c = sym (knuckles (c .before .before .before .args .mm) (c .before .before .if1 .left) (c .before .if2 .left) (c .if3 .left))
 
 pub days-of-month-spec : {M : Type 1} → statement M
 days-of-month-spec =

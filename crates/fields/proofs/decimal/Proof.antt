@@ -1,6 +1,6 @@
 -- `fields::decimal` meets its contract. From the highest digit down, the value so far is the number of the digits from k on.
 -- A turn adds the next digit below, and eight digits fit a word.
-use Prim.Native.Nat.{_-_, _*_, _+_, _/_, _%_, _^_, _≤_, _<_}
+use Prim.Native.Nat.{ℕ, _-_, _*_, _+_, _/_, _%_, _^_, _≤_, _<_}
 use mathlib.Core.Path.{_≡_, sym, _∙_}
 use native.Mathlib.Omega.{arith}
 use borrow.Author.Needs.{needs}
@@ -17,12 +17,20 @@ abbrev μ-loop : tie.MeasureT-loop
 
 -- A turn adds digit k - 1, and the number stays small.
 module _ (c : tie.In-loop Inv-loop μ-loop) where
-  added :
-      c .before .loop .value * 10 + c .before .before .args .w / 16 ^ (c .before .loop .k - 1) % 16
-      ≡ decimal (c .before .before .args .n - (c .before .loop .k - 1)) (c .before .before .args .w / 16 ^ (c .before .loop .k - 1))
-  added = digit-added _ _ (c .before .loop .k - 1) (omega arith) (c .before .loop .k) (c .before .loop .value) (omega arith) (c .before .loop .inv .1)
+  -- The number of the digit, what stands from it on, and the value that the turn makes.
+  abbrev number : ℕ
+  number = c .before .loop .k - 1
 
-  small : c .before .loop .value * 10 + c .before .before .args .w / 16 ^ (c .before .loop .k - 1) % 16 < 2 ^ 31
+  abbrev from : ℕ
+  from = c .before .before .args .w / 16 ^ number
+
+  abbrev made : ℕ
+  made = c .before .loop .value * 10 + from % 16
+
+  added : made ≡ decimal (c .before .before .args .n - number) from
+  added = digit-added _ _ number (omega arith) (c .before .loop .k) (c .before .loop .value) (omega arith) (c .before .loop .inv .1)
+
+  small : made < 2 ^ 31
   small = rw added (decimal-small _ _ (omega arith))
 
 loop-holds : tie.Need-loop-holds Inv-loop μ-loop
