@@ -23,6 +23,7 @@ use Rattle.channels.proofs.TableLaws.{none-past, agree-at}
 pub groups-are : (v a n : ℕ) → all (λ (k : ℕ). eqb (groupsOf k) v) a n ≡ true → (k : ℕ) → a ≤ k → k < a + n → v ≡ groupsOf k
 groups-are v a n e k h l = sym (eqb-true (groupsOf k) v (all-at (λ (k : ℕ). eqb (groupsOf k) v) a n e k h l))
 
+-- Past type 11 and past channel 11 each digit is 0.
 no-group : (k c : ℕ) → ((k ≤ 11) × (c ≤ 11) → ⊥) → groupOf (numbered k c) ≡ 0
 unfolding groupOf
 no-group = none-past groupOf refl
@@ -40,6 +41,7 @@ groups-past k h = sym (no-groups k 12 0 h)
 pub group-past : (k c : ℕ) → 11 < c → 0 ≡ groupOf (numbered k c)
 group-past k c h = sym (no-group k c (λ s. omega (arith, s .1)))
 
+-- The digit at a channel's place is its group.
 pub group-is : (k c : ℕ) → c ≤ 11 → groupsOf k / 2 ^ (4 * c) % 16 ≡ groupOf (numbered k c)
 unfolding computing groupsOf groupOf
 group-is k c l =
@@ -53,6 +55,7 @@ group-is k c l =
 abbrev digit : Bool → Bool → ℕ
 digit q p = cond q 1 (cond p 2 3)
 
+-- What each digit tells: listed, charge, phonon.
 listed-digit : (q p : Bool) → not (eqb (digit q p) 0) ≡ true
 listed-digit true p = refl
 listed-digit false true = refl
@@ -68,6 +71,7 @@ phonon-digit true p h = sym (h refl)
 phonon-digit false true h = refl
 phonon-digit false false h = refl
 
+-- So a code's digit tells whether it is named, and as what.
 pub named-by-group : (w : ℕ) → not (eqb (groupOf (channelOf w)) 0) ≡ named w
 unfolding named groupOf
 named-by-group w = go (channelOf w)

@@ -23,6 +23,7 @@ rest-letters x name h = λ i l. h (suc i) (omega arith)
 
 -- ---- how many letters a number has
 
+-- One letter for each byte that the number needs.
 pub one-letter : (w : ℕ) → w < 256 → 1 ≡ sizeOf w
 unfolding sizeOf
 one-letter w h = rw (lt-ltb w 256 h)
@@ -41,6 +42,7 @@ four-letters w g = rw (le-ltb w 256 (omega arith), le-ltb w 65536 (omega arith),
 
 -- ---- from a number back to its name
 
+-- Four bytes and a size that are the number's are its name.
 pub name-made : (w n : ℕ) (bs : List ℕ) → bs ≡ bytes 4 w → n ≡ sizeOf w → record { bytes = bs; length = n } ≡ nameOfNumber w
 unfolding nameOfNumber
 name-made w n bs e s = cc
@@ -82,10 +84,12 @@ name-back (a ∷ b ∷ c ∷ d ∷ e ∷ name) (s, h) = absurd (omega arith)
 
 -- ---- what a channel's answer holds
 
+-- A listed name's number isn't 0.
 some-letter : (name : List ℕ) → Short name → num name ≡ 0 → ⊥
 some-letter [] (s, h) e = omega arith
 some-letter (x ∷ name) (s, h) e = omega (arith, h 0 (omega arith))
 
+-- Where the number of a code's name is 0 the code is not listed.
 pub unlisted : (w : ℕ) → analysisNumber (channelOf w) ≡ 0 → channelGiven w none ≡ channelAnswer w
 unfolding analysisNumber channelAnswer
 unlisted w e = go (channelOf w) refl e
@@ -105,6 +109,7 @@ answerOf w o = record {
   cold = nameOfNumber (coldNumber o);
 }
 
+-- Where it isn't 0 the answer has the listed names.
 pub listed : (w : ℕ) → (analysisNumber (channelOf w) ≡ 0 → ⊥) → answerOf w (channelOf w) ≡ channelAnswer w
 unfolding analysisNumber coldNumber channelAnswer
 listed w n = go (channelOf w) refl n
@@ -117,6 +122,7 @@ listed w n = go (channelOf w) refl n
 
 -- ---- whether bytes are a name
 
+-- The number of letters is spelled by those letters alone.
 letters-same : (a b : List ℕ) → Letters a → areLetters (num a) b ≡ same a b
 letters-same [] [] h = refl
 letters-same [] (y ∷ b) h = refl
@@ -133,6 +139,7 @@ pub spelled-same : (a b : List ℕ) → Short a → isSpelled (num a) b ≡ same
 unfolding isSpelled
 spelled-same a b s = rw (ne-eqb (num a) 0 (some-letter a s)) (letters-same a b (s .1))
 
+-- 0 stands for no name.
 pub never-spelled : (w : ℕ) (name : List ℕ) → w ≡ 0 → false ≡ isSpelled w name
 unfolding isSpelled
 never-spelled w name e = rw (eq-eqb w 0 e)
@@ -144,10 +151,12 @@ pub decides : (number w : ℕ) (name : List ℕ) (i : ℕ) (b : Bool) → (numbe
 unfolding isSpelled
 decides number w name i b n e t = rw (ne-eqb number 0 n) (sym (e ∙ t))
 
+-- Past the name's last byte nothing may be left of the number.
 pub at-end : (w : ℕ) (name : List ℕ) (i : ℕ) → length name ≤ i → areLetters w (drop i name) ≡ eqb w 0
 at-end w name i h = rw (drop-of-length-le name h)
 
 module _ (w : ℕ) (name : List ℕ) (i : ℕ) (h : i < length name) where
+  -- Before it: nothing is left of the number; the byte is another letter; or it is the letter, and what follows decides.
   pub no-letters : w ≡ 0 → areLetters w (drop i name) ≡ false
   no-letters e = rw (drop-cons name i 0 h, eq-eqb w 0 e)
 

@@ -30,6 +30,7 @@ no-name : (k c : ℕ) (name : List ℕ) → numbered k c ≡ none → hasName k 
 unfolding analysisNumber
 no-name k c name q = rw q (sym (never-spelled 0 name refl))
 
+-- A channel that has the name is the one that the list gives.
 pub search-found : (k c : ℕ) (name : List ℕ) → hasName k name c ≡ true → c ≡ channelCalled k name
 unfolding channelCalled
 search-found k c name t = go (numbered k c) refl
@@ -49,6 +50,7 @@ called-small k name x q =
     let (h, l) = number-small k (x .channel) y f in
     (h, l, has-name k (x .channel) name y f ∙ ap (λ (n : List ℕ). same n name) e ∙ same-as-itself name)
 
+-- Where none of the twelve has the name the list has none.
 pub search-ended : (k : ℕ) (name : List ℕ) → ((c : ℕ) → c < 12 → hasName k name c ≡ false) → 12 ≡ channelCalled k name
 unfolding channelCalled
 search-ended k name h = go (called k name) refl
@@ -59,6 +61,7 @@ search-ended k name h = go (called k name) refl
 
 -- ---- the code of what was searched for
 
+-- A detector number past 999 is refused.
 pub past-detectors : (k d : ℕ) (name : List ℕ) → 999 < d → givenCode (Refused 10 0) ≡ codeAnswer k d name
 unfolding givenCode codeAnswer
 past-detectors k d name h = go (called k name)
@@ -68,6 +71,7 @@ past-detectors k d name h = go (called k name)
     go (some x) = rw (lt-leb d 999 h)
 
 module _ (k c : ℕ) (name : List ℕ) (e : c ≡ channelCalled k name) where
+  -- Where the search gave no channel the call refuses; where it gave one, the type is listed and the code is the answer's.
   pub no-channel : (d : ℕ) → 11 < c → givenCode (Refused 10 0) ≡ codeAnswer k d name
   unfolding givenCode codeAnswer channelCalled
   no-channel d h = go (called k name) refl e

@@ -19,6 +19,7 @@ use Rattle.channels.specs.Tables.{lettersAt, lookedUp, nameIn, tableOf, 
 
 -- ---- looking a name up
 
+-- Nothing is found past type 11 or channel 11; up to them, what the table has there.
 pub past-types : (t : List ℕ) (k c : ℕ) → 11 < k → 0 ≡ lookedUp t k c
 unfolding lookedUp
 past-types t k c h = rw (lt-leb k 11 h)

@@ -71,6 +71,7 @@ of-picked : (p : List Channel → Channel → Bool) → all (λ (k : ℕ). every
 of-picked p t k test x e =
     picked test (p (channelsOf k)) (channelsOf k) x (every-list (λ (l : List Channel). every (p l) l) refl t k) e
 
+-- What is listed has a type and a channel of at most 11.
 pub number-small : (k c : ℕ) (x : Channel) → numbered k c ≡ some x → (k ≤ 11) × (c ≤ 11)
 unfolding computing
 number-small k c x e =
@@ -113,6 +114,7 @@ byName l x = finds (pick (λ y. same (y .analysis) (x .analysis)) l) (λ y. eqb 
 abbrev byNumber : List Channel → Channel → Bool
 byNumber l x = finds (pick (λ y. eqb (y .channel) (x .channel)) l) (λ y. same (y .analysis) (x .analysis))
 
+-- A number leads to a name that leads back to it, and a name to a number.
 pub number-leads : (k c : ℕ) (x : Channel) → numbered k c ≡ some x
     → (y : Channel) × (called k (x .analysis) ≡ some y) × (y .channel ≡ c)
 unfolding computing

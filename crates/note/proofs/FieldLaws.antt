@@ -29,6 +29,7 @@ read k b = wordsAt order 4 k 0 b
 abbrev pub rule : ℕ → List ℕ → List ℕ → ℕ
 rule k b tests = first (unless (eqb (length b) (k * 4)) 6 ∷ tests)
 
+-- A body that passes has k words, and these words written again are the body.
 pub sized : (k : ℕ) (b tests : List ℕ) → rule k b tests ≡ 0 → length b ≡ k * 4
 sized k b tests e = equal-passed (length b) (k * 4) 5 (first-at _ e 0)
 

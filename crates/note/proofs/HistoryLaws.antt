@@ -158,6 +158,7 @@ history-ends b e =
     let end : length b ≡ after (triggerAt b) b = equal-passed (length b) (after (triggerAt b) b) 5 (first-at _ e 4) in
     (omega (arith, after-past (triggerAt b) b), end)
 
+-- An accepted body is its fields, written.
 pub history-restored : (b : List ℕ) → Bytes b → historyRule b ≡ 0 → historyBytes (historyOf b) ≡ b
 unfolding historyBytes historyOf
 history-restored b h e =
@@ -177,6 +178,7 @@ history-faultless b e =
       (whole-fault true (sectionOf (triggerAt b) b) (rule-whole true (triggerAt b) b (omega arith) (first-at _ e 3)), tt),
     )
 
+-- What a writer accepts is read back: its body passes the rule, and its fields are those that were written.
 pub history-read-back : (f : History) → historyFault f ≡ 0 → (historyRule (historyBytes f) ≡ 0) × (historyOf (historyBytes f) ≡ f)
 unfolding historyFault historyRule historyBytes historyOf
 history-read-back f e =
@@ -267,5 +269,6 @@ fills-accepted b f =
     let same : historyBytes g ≡ b = simp append-assoc (sym (f .filled)) in
     rw same at (history-read-back g (first-passes _ (whole-fault false veto v, (whole-fault true trigger t, tt))) .0)
 
+-- A body is accepted exactly where two sections fill it.
 pub history-fills : (b : List ℕ) → Bytes b → (historyRule b ≡ 0) ↔ Fills b
 history-fills b h = (accepted-fills b h, fills-accepted b)

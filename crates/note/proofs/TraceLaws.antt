@@ -59,6 +59,7 @@ trace-accepted b e =
       size = equal-passed (length b) (48 + 2 * word 44 b) 5 (first-at _ e 4);
     }
 
+-- An accepted body is its fields, written.
 pub trace-restored : (b : List ℕ) → Bytes b → traceRule b ≡ 0 → traceBytes (traceOf b) ≡ b
 unfolding traceBytes traceOf wordsAt
 trace-restored b h e =
@@ -106,6 +107,7 @@ module _ (f : Trace) (h : TraceFits f) where
       ap₂ (λ (ns ss : List ℕ). fields ns (signed (getD ns 7 0)) ss) twelve-read samples-read
       ∙ ap (λ (t : ℤ). fields (traceWords f) t (f .samples)) (unsigned-again (f .t0) (h .t0))
 
+  -- What a writer accepts is read back: its body passes the rule, and its fields are those that were written.
   pub trace-read-back : traceFault f ≡ 0 → (traceRule (traceBytes f) ≡ 0) × (traceOf (traceBytes f) ≡ f)
   unfolding traceFault traceRule bookkeepingRule timebaseRule samplesRule wordsAt
   trace-read-back e =
@@ -130,6 +132,7 @@ module _ (b : List ℕ) (i v : ℕ) (h : 48 ≤ i) where
   stays : (j : ℕ) → getD (read 12 (set b i v)) j 0 ≡ getD (read 12 b) j 0
   stays = number-at (words-set-behind order 4 12 0 b i v h)
 
+  -- The rule, the row's values and the answer's values are as before.
   pub trace-blind : traceRule (set b i v) ≡ traceRule b
   unfolding traceRule bookkeepingRule timebaseRule samplesRule wordsAt
   trace-blind = rw (length-set b i v, stays 0, stays 1, stays 3, stays 4, stays 5, stays 6, stays 8, stays 9, stays 10, stays 11)

@@ -12,6 +12,7 @@ use Rattle.theory.proofs.WordLaws.{Bytes-set}
 use Rattle.theory.proofs.Items.{Item, Whole, seqW, encs, Oks, steps, Oks-append, Oks-change, encs-set, length-encs}
 use Rattle.theory.proofs.StructureLaws.{StructureOk, structure, ruled, inside, structure-set, length-structure}
 
+-- A record with a body of bytes; a box of records.
 abbrev pub Leaf : Type 0
 Leaf = Structure (List ℕ)
 
@@ -26,6 +27,7 @@ pub record Spot : Type 0 where
   pub right : List Leaf
   pub after : List Box
 
+-- The box with the leaf in its place; the boxes; the leaf with byte i of its body changed to v.
 abbrev pub boxAt : Spot → Leaf → Box
 boxAt p r = record { kind = p .word; body = p .left ++ r ∷ p .right }
 
@@ -38,6 +40,7 @@ edited r i v = record { kind = r .kind; body = set (r .body) i v }
 module _ (o : Order) {S E : Type 0}
     (recHead : S → ℕ → ℕ) (recLate : S → ℕ → ℕ → ℕ) (rule : S × ℕ → List ℕ → ℕ) (recStep : S → Leaf → S)
     (boxHead : E → ℕ → ℕ) (boxLate : E → ℕ → ℕ → ℕ) (init : E × ℕ → S) (boxStep : E → Box → E) where
+  -- Records, and boxes, as items.
   abbrev pub R : Item S Leaf
   R = structure o recHead recLate (ruled rule) recStep
 
@@ -63,6 +66,7 @@ module _ (o : Order) {S E : Type 0}
     pub step-blind : recStep (stateLeaf e p) (edited r i v) ≡ recStep (stateLeaf e p) r
     pub box-blind : boxStep (stateBox e p) (boxAt p (edited r i v)) ≡ boxStep (stateBox e p) (boxAt p r)
 
+  -- The changed bytes are those of the boxes with the changed leaf.
   pub free-bytes : (e : E) (p : Spot) (r : Leaf) (i v : ℕ) → Free e p r i v
       → set (encs Bx (plug p r)) (placeIn p + (8 + i)) v ≡ encs Bx (plug p (edited r i v))
   free-bytes e p r i v f =
@@ -81,6 +85,7 @@ module _ (o : Order) {S E : Type 0}
       (omega arith)
       (structure-set o (encs R) (boxAt p r) (boxAt p d) (length (encs R (p .left)) + (8 + i)) v refl inbox)
 
+  -- With the changed leaf the boxes are as valid as before.
   pub free-valid : (e : E) (p : Spot) (r : Leaf) (i v : ℕ) → Free e p r i v → Oks Bx e (plug p r) → Oks Bx e (plug p (edited r i v))
   free-valid e p r i v f valid =
       let d : Leaf = edited r i v in

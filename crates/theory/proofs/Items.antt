@@ -52,6 +52,7 @@ unique W s a b ha hb e =
 -- ---- the sequence: items up to the end of the list
 
 module _ {S A : Type 0} (F : Item S A) where
+  -- The bytes of items, that each is valid in the state before it, the state behind them, and the reader of them.
   abbrev pub encs : List A → List ℕ
   encs = sequenceBytes (F .enc)
 
@@ -73,6 +74,7 @@ module _ {S A : Type 0} (F : Item S A) where
   abbrev pub turn : ℕ → S → ℕ → List ℕ → A → Res (List A)
   turn f s at bs a = bind (others f s at bs a) (λ ys. ok (a ∷ ys))
 
+  -- What is read as items is their bytes, and they are valid.
   pub seq-sound : (f : ℕ) (s : S) (at : ℕ) (bs : List ℕ) (xs : List A) → length bs ≤ f → Bytes bs → seqs f s at bs ≡ ok xs
       → (bs ≡ encs xs) × Oks s xs
   seq-sound zero s at [] xs l h e = subst (λ (ys : List A). ([] ≡ encs ys) × Oks s ys) (ok-inj e) (refl, tt)
@@ -88,6 +90,7 @@ module _ {S A : Type 0} (F : Item S A) where
       subst (λ (zs : List A). (b ∷ bs ≡ encs zs) × Oks s zs) (ok-inj e2)
       (one .0 ∙ ap (λ (r : List ℕ). F .enc a ++ r) (rest .0), (one .1, rest .1))
 
+  -- Where bytes are left, the reader takes a turn.
   pub seq-open : (f : ℕ) (s : S) (at : ℕ) (bs : List ℕ) → 0 < length bs → seqs (suc f) s at bs ≡ bind (F .read s at bs) (turn f s at bs)
   seq-open f s at [] h = absurd (not-suc-le-zero h)
   seq-open f s at (b ∷ bs) h = refl
@@ -130,6 +133,7 @@ module _ {S A : Type 0} (F : Item S A) where
       ∙ bind-bind (seqs g (steps (F .step s a) xs) (at + F .size a + length (encs xs)) rest) (λ ys. ok (xs ++ ys)) put
       ∙ ap (λ (p : ℕ). bind (seqs g (steps (F .step s a) xs) p rest) (λ ys. ok (a ∷ (xs ++ ys)))) (simp length-append (omega arith))
 
+  -- The bytes of valid items are read as those items.
   pub seq-complete : (f : ℕ) (s : S) (at : ℕ) (xs : List A) → length (encs xs) ≤ f → Oks s xs → seqs f s at (encs xs) ≡ ok xs
   seq-complete f s at xs l o =
       ap (seqs f s at) (sym (append-nil (encs xs)))
@@ -146,7 +150,7 @@ module _ {S A : Type 0} (F : Item S A) where
     complete = λ s at xs o. seq-complete (length (encs xs)) s at xs (omega arith) o;
   }
 
-  -- an item is changed for another of the same effect on the state
+  -- the bytes of items, one list after the other; how many they are
   pub encs-append : (xs ys : List A) → encs (xs ++ ys) ≡ encs xs ++ encs ys
   encs-append [] ys = refl
   encs-append (x ∷ xs) ys = ap (λ (r : List ℕ). F .enc x ++ r) (encs-append xs ys) ∙ sym (append-assoc (F .enc x) (encs xs) (encs ys))
@@ -157,6 +161,7 @@ module _ {S A : Type 0} (F : Item S A) where
       ∙ length-append (encs xs) (F .enc a ++ encs ys)
       ∙ ap (λ (n : ℕ). length (encs xs) + n) (length-append (F .enc a) (encs ys) ∙ ap (λ (n : ℕ). n + length (encs ys)) (sym (F .sizes a)))
 
+  -- Items are valid where the first of them are, and the others in the state behind these.
   pub Oks-append : (s : S) (xs ys : List A) → Oks s (xs ++ ys) ↔ (Oks s xs × Oks (steps s xs) ys)
   Oks-append s [] ys = (λ o. (tt, o), λ p. p .1)
   Oks-append s (x ∷ xs) ys = (
@@ -164,6 +169,7 @@ module _ {S A : Type 0} (F : Item S A) where
     λ p. (p .0 .0, Oks-append (F .step s x) xs ys .1 (p .0 .1, p .1)),
   )
 
+  -- an item is changed for another of the same effect on the state
   pub Oks-change : (s : S) (xs : List A) (a b : A) (ys : List A) → Oks s (xs ++ a ∷ ys)
       → F .Ok (steps s xs) b → F .step (steps s xs) b ≡ F .step (steps s xs) a
       → Oks s (xs ++ b ∷ ys)

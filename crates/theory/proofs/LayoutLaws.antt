@@ -42,6 +42,7 @@ rows-append i at (box k a b cs ∷ xs) ys =
 -- ---- tiling
 
 module _ (isBox : ℕ → Bool) where
+  -- A child is no box and has eight bytes at the least; so each child of nodes, and what is a box has a box's kind.
   abbrev pub GoodChild : Child → Type 0
   GoodChild c = (isBox (c .kind) ≡ false) × (8 ≤ c .size)
 
@@ -58,6 +59,7 @@ module _ (isBox : ℕ → Bool) where
   tiles-append at m end [] ys t u = subst (λ (a : ℕ). Tiles isBox a ys end) (sym t) u
   tiles-append at m end (x ∷ xs) ys t u = (t .0, t .1, tiles-append (at + own isBox x) m end xs ys (t .2) u)
 
+  -- The rows of children tile their bytes; so do the rows of nodes.
   child-tiles : (p at : ℕ) (cs : List Child) → GoodChildren cs → Tiles isBox at (childRows p at cs) (at + total cs)
   unfolding rows childRows
   child-tiles p at [] g = omega arith
@@ -105,6 +107,7 @@ module _ (isBox : ℕ → Bool) where
   few-rows at end [] t = omega arith
   few-rows at end (r ∷ rs) t = omega (arith, few-rows (at + own isBox r) end rs (t .2), t .1)
 
+  -- Each byte has a row that owns it, and one only.
   pub owner : (at end : ℕ) (rs : List Row) (i : ℕ) → Tiles isBox at rs end → at ≤ i → i < end
       → (j : ℕ) × (j < length rs) × Owns isBox (row rs j) i
   owner at end [] i t l h = absurd (omega arith)
@@ -114,6 +117,7 @@ module _ (isBox : ℕ → Bool) where
         | no q ↦ let (j, a, b) = owner (at + own isBox r) end rs i (t .2) (omega arith) h in (suc j, suc-le-suc a, b)
       ]
 
+  -- No row starts before the first place.
   starts : (at end : ℕ) (rs : List Row) → Tiles isBox at rs end → (j : ℕ) → j < length rs → at ≤ row rs j .start
   starts at end [] t j h = absurd (not-suc-le-zero h)
   starts at end (r ∷ rs) t zero h = omega arith
@@ -149,6 +153,7 @@ module _ (isBox : ℕ → Bool) where
 
 -- ---- each child inside its one parent
 
+-- Each row keeps P.
 abbrev pub All : (Row → Type 0) → List Row → Type 0
 All P [] = Unit {0}
 All P (r ∷ rs) = P r × All P rs
@@ -170,6 +175,7 @@ unfolding rows childRows
 length-childRows p at [] = refl
 length-childRows p at (c ∷ cs) = ap suc (length-childRows p (at + c .size) cs)
 
+-- The rows of nodes, behind the rows `pre`, lie inside their parents.
 inside-from : (all pre : List Row) (i at : ℕ) (ns : List Node) → i ≡ suc (length pre) → all ≡ pre ++ rows i at ns
     → All (Placed all) (rows i at ns)
 unfolding rows childRows

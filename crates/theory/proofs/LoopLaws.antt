@@ -38,6 +38,7 @@ behind-ok xs (ok zs) ys e = (zs, sym (ok-inj e))
 behind-ok xs (bad c p) ys e = absurd (bad-ok e)
 
 module _ {S A : Type 0} (F : Item S A) where
+  -- What a reader of all the bytes gives.
   abbrev pub whole : S → ℕ → List ℕ → Res (List A)
   whole s from bs = seqs F (length bs) s from bs
 
@@ -113,6 +114,7 @@ module _ {S A : Type 0} (F : Item S A) where
     pub reads-item : F .read s at bs ≡ ok item
     pub reads-others : whole (F .step s item) (at + F .size item) (drop (F .size item) bs) ≡ ok others
 
+  -- The first item of a list that is known to be read.
   pub ahead : (s : S) (at : ℕ) (bs : List ℕ) (ys : List A) → Bytes bs → 0 < length bs → whole s at bs ≡ ok ys → Ahead s at bs ys
   unfolding behind
   ahead s at bs ys h l w =

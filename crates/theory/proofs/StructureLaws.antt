@@ -22,12 +22,14 @@ use Rattle.theory.proofs.Items.{Item, Whole}
 
 -- ---- two words at the front
 
+-- The second of two words at the front is read there.
 pub second-word : (o : Order) (k n : ℕ) (rest : List ℕ) → Fits 4 n → wordAt o 4 4 (put o 4 k ++ (put o 4 n ++ rest)) ≡ n
 second-word o k n rest h =
     let e : 4 ≡ length (put o 4 k) + 0 = omega (arith, length-put o 4 k) in
     ap (λ (p : ℕ). wordAt o 4 p (put o 4 k ++ (put o 4 n ++ rest))) e
     ∙ word-past o 4 0 (put o 4 k) (put o 4 n ++ rest) ∙ word-after-put o 4 n rest h
 
+-- The two words at the front, written again, restore the front.
 pub restore-two : (o : Order) (bs : List ℕ) → Bytes bs → 8 ≤ length bs
     → put o 4 (wordAt o 4 0 bs) ++ (put o 4 (wordAt o 4 4 bs) ++ drop 8 bs) ≡ bs
 restore-two o bs h l =
@@ -36,6 +38,7 @@ restore-two o bs h l =
     ∙ put-after-word o 4 (drop 4 bs) (Bytes-drop 4 bs h) (omega (arith, length-drop 4 bs)) in
     ap (λ (r : List ℕ). put o 4 (wordAt o 4 0 bs) ++ r) second ∙ put-after-word o 4 bs h (omega arith)
 
+-- Two words take eight bytes, and what follows them stands from the eighth on.
 pub length-two : (o : Order) (k n : ℕ) (rest : List ℕ) → length (put o 4 k ++ (put o 4 n ++ rest)) ≡ 8 + length rest
 length-two o k n rest =
     omega (arith, length-append (put o 4 k) (put o 4 n ++ rest), length-append (put o 4 n) rest, length-put o 4 k, length-put o 4 n)
@@ -53,6 +56,7 @@ two-append o k n part rest =
     append-assoc (put o 4 k) (put o 4 n ++ part) rest
     ∙ ap (λ (r : List ℕ). put o 4 k ++ r) (append-assoc (put o 4 n) part rest)
 
+-- A structure takes eight bytes more than its body.
 pub length-structure : {B : Type 0} (o : Order) (bodyBytes : B → List ℕ) (c : Structure B)
     → length (structureBytes o bodyBytes c) ≡ 8 + length (bodyBytes (c .body))
 length-structure o bodyBytes c = length-two o (c .kind) (length (bodyBytes (c .body))) (bodyBytes (c .body))
@@ -68,6 +72,7 @@ module _ (o : Order) {S B : Type 0} (head : S → ℕ → ℕ) (late : S → ℕ
     pub length-word : Fits 4 (length (W .enc (c .body)))
     pub body-ok : W .Ok (s, c .kind) (c .body)
 
+  -- The bytes of a structure that keeps every rule are read as that structure.
   pub structure-complete : (s : S) (at : ℕ) (c : Structure B) (rest : List ℕ) → StructureOk s c
       → readStructure o head late (W .read) s at (structureBytes o (W .enc) c ++ rest) ≡ ok c
   structure-complete s at c rest v =
@@ -120,6 +125,7 @@ module _ (o : Order) {S B : Type 0} (head : S → ℕ → ℕ) (late : S → ℕ
     pub late-ok : late s (wordAt o 4 0 bs) (wordAt o 4 4 bs) ≡ 0
     pub body-is : body (s, wordAt o 4 0 bs) at (take (wordAt o 4 4 bs) (drop 8 bs)) ≡ ok (c .body)
 
+  -- A structure was read, so every test has passed.
   pub opens : (c : Structure B) → readStructure o head late body s at bs ≡ ok c → Opened c
   opens c e =
       let n : ℕ = lengthHere in
@@ -184,6 +190,7 @@ module _ (o : Order) {S B : Type 0} (head : S → ℕ → ℕ) (late : S → ℕ
       room false a q = own 2 at q refl (λ other. rw a)
 
 module _ (o : Order) {S B : Type 0} (head : S → ℕ → ℕ) (late : S → ℕ → ℕ → ℕ) (W : Whole (S × ℕ) B) where
+  -- A structure that was read keeps every rule, and its bytes stand at the front.
   pub structure-sound : (s : S) (at : ℕ) (bs : List ℕ) (c : Structure B) → Bytes bs → readStructure o head late (W .read) s at bs ≡ ok c
       → (bs ≡ structureBytes o (W .enc) c ++ drop (8 + length (W .enc (c .body))) bs) × StructureOk o head late W s c
   structure-sound s at bs c h e =
@@ -298,6 +305,7 @@ module _ {S A B : Type 0} (I : Item S A) (W : Whole S B) where
   abbrev withRest : S → ℕ → List ℕ → A → Res (A × B)
   withRest s at bs a = bind (restRead s at bs a) (λ b. ok (a, b))
 
+  -- What is read as a pair is the bytes of a valid pair.
   pub pair-sound : (s : S) (at : ℕ) (bs : List ℕ) (x : A × B) → Bytes bs → pairRead s at bs ≡ ok x → (bs ≡ pairBytes x) × PairOk s x
   pair-sound s at bs x h e =
       let (a, ea, e1) = bind-ok (I .read s at bs) (withRest s at bs) e in
@@ -307,6 +315,7 @@ module _ {S A B : Type 0} (I : Item S A) (W : Whole S B) where
       subst (λ (y : A × B). (bs ≡ pairBytes y) × PairOk s y) (ok-inj e2)
       (one .0 ∙ ap (λ (r : List ℕ). I .enc a ++ r) (two .0), (one .1, two .1))
 
+  -- The bytes of a valid pair are read as that pair.
   pub pair-complete : (s : S) (at : ℕ) (x : A × B) → PairOk s x → pairRead s at (pairBytes x) ≡ ok x
   pair-complete s at x v =
       rw (
@@ -358,6 +367,7 @@ module _ (o : Order) (fixed : ℕ) (wrong : ℕ) (rule : ℕ → ℕ) where
   abbrev fromFixed : ℕ → List ℕ → Res ℕ
   fromFixed at bs = need (unless (eqb (wordAt o 4 0 bs) fixed) wrong) at (fromRule at bs)
 
+  -- Where the two words are read, their bytes stand at the front and the second keeps the rule.
   pub words-sound : 0 < wrong → (s : Unit {0}) (at : ℕ) (bs : List ℕ) (v : ℕ) → Bytes bs → readWords o fixed wrong rule s at bs ≡ ok v
       → (bs ≡ wordsBytes o fixed wrong rule v ++ drop 8 bs) × WordsOk s v
   words-sound w s at bs v h e =
@@ -373,6 +383,7 @@ module _ (o : Order) (fixed : ℕ) (wrong : ℕ) (rule : ℕ → ℕ) where
         (f3, word-fits o 4 4 bs h (omega arith)),
       )
 
+  -- The bytes of a second word that keeps the rule are read as that word.
   pub words-complete : Fits 4 fixed → (s : Unit {0}) (at : ℕ) (v : ℕ) (rest : List ℕ) → WordsOk s v
       → readWords o fixed wrong rule s at (wordsBytes o fixed wrong rule v ++ rest) ≡ ok v
   words-complete m s at v rest g =
