@@ -78,11 +78,17 @@ bookkeepingRule b = first (
     codeFault (word 16 b) ∷ [])
 
 unfoldable pub timebaseRule : List ℕ → ℕ
-timebaseRule b = first (unless (eqb (word 20 b) 0x12) 5 ∷ unless (eqb (word 24 b) 12) 6 ∷ deltaFault (word 32 b) ∷ [])
+timebaseRule b = first (
+    unless (eqb (word 20 b) 0x12) 5 ∷
+    unless (eqb (word 24 b) 12) 6 ∷
+    deltaFault (word 32 b) ∷ [])
 
 -- "n at its second count": odd, too few, too many, or unlike the first count.
 unfoldable pub samplesRule : List ℕ → ℕ
-samplesRule b = first (unless (eqb (word 40 b) 0x13) 5 ∷ countFault (word 44 b) ∷ unless (eqb (word 36 b) (word 44 b)) 11 ∷ [])
+samplesRule b = first (
+    unless (eqb (word 40 b) 0x13) 5 ∷
+    countFault (word 44 b) ∷
+    unless (eqb (word 36 b) (word 44 b)) 11 ∷ [])
 
 -- "Trace: length below 48 is 6, then words in order, n at its second count, last the length against 48 + 2n."
 abbrev pub traceTests : List ℕ → List ℕ
