@@ -1,23 +1,22 @@
 -- The note's readers with the theory's laws: the same readers, by computation, as items and wholes.
 -- The idea: a format made of the theory's parts needs no proof of its own.
-use mathlib.Core.Path.{_≡_, refl, sym, ap, _∙_}
-use mathlib.Core.Bool.{Bool, true, false}
-use mathlib.Core.List.{List, [], _∷_, _++_}
-use Prim.Native.Nat.{ℕ, zero, suc, _+_, _≤_, _<_}
+use mathlib.Core.Path.{_≡_, refl}
+use mathlib.Core.Bool.{Bool, true}
+use mathlib.Core.List.{List, [], _∷_}
+use Prim.Native.Nat.{ℕ, suc}
 use native.Mathlib.Omega.{arith}
-use lib.Dec.{leb, eqb}
-use lib.ListN.{length, length-append}
-use borrow.Author.Tests.{leb-true, le-leb, eqb-true, eq-eqb}
-use Rattle.theory.specs.Tests.{Res, ok, bad, need, unless}
-use Rattle.theory.specs.Words.{Bytes, Fits}
-use Rattle.theory.proofs.TestLaws.{unless-zero, need-ok}
-use Rattle.theory.proofs.Items.{Item, Whole, seqW, encs, Oks}
-use Rattle.theory.proofs.StructureLaws.{StructureOk, structure, ruled, inside, pair, twoWords}
+use lib.Dec.{leb}
+use lib.ListN.{length}
+use borrow.Author.Tests.{leb-true, le-leb}
+use Rattle.theory.specs.Tests.{unless}
+use Rattle.theory.proofs.TestLaws.{unless-zero}
+use Rattle.theory.proofs.Items.{Item, Whole, seqW, Oks}
+use Rattle.theory.proofs.StructureLaws.{structure, ruled, inside, pair, twoWords}
 use Rattle.note.specs.Words.{order}
 use Rattle.note.specs.Records.{Record, Context, entry, event, none, isKind, isAllowed, recordHead, recordLate, recordRule, recordStep, readRecord, readRecords}
 use Rattle.note.specs.Events.{Container, eventHead, eventLate, eventStep, readEvent, readEvents}
-use Rattle.note.specs.Files.{File, fileMark, versionRule, configurationWord, configurationHead, configurationLate, readHeader, readConfiguration, readParts, fileBytes}
-use Rattle.demands.specs.Valid.{ValidRecord, ValidRecords, ValidEvent, ValidEvents, Valid}
+use Rattle.note.specs.Files.{File, fileMark, versionRule, configurationHead, configurationLate, readHeader, readConfiguration, readParts, fileBytes}
+use Rattle.demands.specs.Valid.{ValidRecord, ValidRecords, ValidEvent, ValidEvents}
 
 abbrev pub recordItem : Item Context Record
 recordItem = structure order recordHead recordLate (ruled (λ s. recordRule (s .1))) recordStep

@@ -1,18 +1,17 @@
 -- Demand 3 as it is worded: an accepted file, a trace's row, a byte inside its samples.
 -- The idea: the row gives the trace's spot (SpotLaws), the spot gives the edit (EditLaws), and the places agree.
-use mathlib.Core.Path.{_≡_, refl, sym, ap, ap₂, _∙_, subst}
+use mathlib.Core.Path.{_≡_, sym, ap, _∙_, subst}
 use mathlib.Core.Logic.{_≢_}
-use mathlib.Core.Bool.{Bool, true, false}
-use mathlib.Core.List.{List, [], _∷_, _++_}
-use Prim.Native.Nat.{ℕ, zero, suc, _+_, _-_, _/_, _≤_, _<_}
+use mathlib.Core.List.{List, []}
+use Prim.Native.Nat.{ℕ, _+_, _-_, _/_, _≤_, _<_}
 use native.Mathlib.Decide.{ℕ-discrete}
 use native.Mathlib.Omega.{arith}
 use lib.ListN.{length, take, drop, getD, set, length-take}
 use lib.Seq.{getD-take, getD-drop, getD-set-other}
 use Rattle.theory.specs.Words.{Bytes, wordAt}
-use Rattle.theory.specs.Tests.{Res, ok}
-use Rattle.theory.specs.Layout.{Row, row, own, Owns}
-use Rattle.theory.proofs.FreeLaws.{Spot, plug, edited}
+use Rattle.theory.specs.Tests.{ok}
+use Rattle.theory.specs.Layout.{row, own, Owns}
+use Rattle.theory.proofs.FreeLaws.{Spot, plug}
 use Rattle.note.specs.Words.{order}
 use Rattle.note.specs.Trace.{traceKind}
 use Rattle.note.specs.Records.{Record, recordSize}

@@ -2,45 +2,39 @@
 -- The idea: the theory's law of a free byte gives the new file; the rows and the records beside them differ in one record alone, whose
 -- rule, row and fields are blind to the byte; so what each call reads at a row can differ at that record's one sample only.
 use mathlib.Core.Path.{_≡_, refl, sym, ap, ap₂, _∙_, subst}
-use mathlib.Core.Logic.{_⊎_, inl, inr, _≢_}
+use mathlib.Core.Logic.{_≢_}
 use mathlib.Core.Bool.{Bool, true, false, cond, _&&_}
 use mathlib.Core.List.{List, [], _∷_, _++_, map, append-assoc}
 use mathlib.Core.Option.{Option, some, none}
-use Prim.Native.Nat.{ℕ, zero, suc, _+_, _-_, _*_, _/_, _%_, _^_, _≤_, _<_}
-use native.Mathlib.Nat.{le-of-suc-le-suc, not-suc-le-zero}
-use native.Mathlib.Decide.{decLt, ℕ-discrete}
+use Prim.Native.Nat.{ℕ, zero, suc, _+_, _-_, _*_, _/_, _%_, _≤_, _<_}
 use native.Mathlib.Omega.{arith}
-use lib.Dec.{leb, eqb}
-use lib.IntN.{ℤ, pos}
-use lib.ListN.{length, take, drop, getD, set, length-append, length-drop, length-set, List·getD-append}
-use lib.Seq.{getD-at, getD-append-add, getD-set-other, getD-drop, drop-set-add}
-use borrow.Author.Tests.{leb-true, leb-false, le-leb, lt-leb}
+use lib.Dec.{leb}
+use lib.ListN.{length, drop, getD, set, length-append, length-drop, length-set}
+use lib.Seq.{getD-at, getD-drop, drop-set-add}
+use borrow.Author.Tests.{leb-true, le-leb}
 use Rattle.theory.specs.Words.{Bytes}
-use Rattle.theory.specs.Tests.{Res, ok, bad}
-use Rattle.theory.specs.Structures.{Structure}
-use Rattle.theory.specs.Layout.{Row, Child, Node, box, rows, row, own, Owns}
+use Rattle.theory.specs.Tests.{ok}
+use Rattle.theory.specs.Layout.{Row, Child, Node, box, row}
 use Rattle.theory.proofs.WordLaws.{Bytes-set, Bytes-drop, set-append-add}
-use Rattle.theory.proofs.Items.{Item, Whole, Oks, steps, Oks-append}
-use Rattle.theory.proofs.StructureLaws.{StructureOk}
+use Rattle.theory.proofs.Items.{Oks, steps, Oks-append}
 use Rattle.theory.proofs.FreeLaws.{Spot, boxAt, plug, edited, Free, free-bytes, free-valid}
 use Rattle.note.specs.Limits.{fileLimit}
 use Rattle.note.specs.Words.{order, word}
-use Rattle.note.specs.Answers.{Given, accepted, refused, count, counts}
-use Rattle.note.specs.Trace.{Trace, traceKind, traceOf, traceRule, sampleIn}
-use Rattle.note.specs.Records.{Record, Context, event, none as nothing, recordHead, recordLate, recordRule, recordStep, recordSize, recordBytes, recordsBytes, kindOf}
+use Rattle.note.specs.Answers.{accepted, refused, counts}
+use Rattle.note.specs.Trace.{traceKind, traceOf, traceRule, sampleIn}
+use Rattle.note.specs.Records.{Record, event, none as nothing, recordHead, recordLate, recordRule, recordStep, recordsBytes, kindOf}
 use Rattle.note.specs.Events.{Container, containerBytes, containerSize, eventHead, eventLate, eventStep, eventsBytes}
-use Rattle.note.specs.Files.{File, versionOf, configurationOf, eventsOf, headerBytes, fileBytes, readFile}
-use Rattle.note.specs.Rows.{childOf, childrenOf, eventNode, nodesOf, rowsOf, isBox}
-use Rattle.note.specs.Calls.{recordGiven, settingGiven, sampleGiven, recordFound, recordAt, settingAt, sampleAt}
+use Rattle.note.specs.Files.{File, headerBytes, fileBytes, readFile}
+use Rattle.note.specs.Rows.{childOf, childrenOf, eventNode, nodesOf, rowsOf}
+use Rattle.note.specs.Calls.{recordFound, recordAt, settingAt, sampleAt}
 use Rattle.note.proofs.TraceLaws.{trace-length, trace-blind, trace-row-blind, trace-values-blind, sample-changed, sample-stays}
 use Rattle.demands.specs.Valid.{ValidRecord, Valid}
 use Rattle.demands.specs.RowRecords.{rowRecords, foundAs}
-use Rattle.demands.specs.Edited.{startOf, holder, Edited}
-use Rattle.demands.proofs.Bundles.{recordItem, eventItem, headerItem, parts, record-valid}
-use Rattle.demands.proofs.Follows.{parts-ok, parts-valid, file-sound, file-complete}
-use Rattle.demands.proofs.RowLaws.{rows-tile-file, byte-has-one-row, container-size}
+use Rattle.demands.proofs.Bundles.{recordItem, eventItem, headerItem, record-valid}
+use Rattle.demands.proofs.Follows.{parts-ok, parts-valid, file-complete}
+use Rattle.demands.proofs.RowLaws.{container-size}
 use Rattle.demands.proofs.RecordLaws.{rows-read, Reads-at}
-use Rattle.demands.proofs.SpotLaws.{recordsBefore, recordsAfter, placeOf, records-split, Found, traces-found}
+use Rattle.demands.proofs.SpotLaws.{recordsBefore, recordsAfter, placeOf, records-split}
 
 -- ---- one record among the rows' records
 

@@ -2,29 +2,28 @@
 -- The idea: each combinator says where its own refusal comes from (theory); they are followed down from the file to the record.
 use mathlib.Core.Path.{_≡_, refl, sym, ap, ap₂, _∙_, subst}
 use mathlib.Core.Logic.{_⊎_, inl, inr}
-use mathlib.Core.Bool.{Bool, true, false}
+use mathlib.Core.Bool.{Bool}
 use mathlib.Core.List.{List, [], _∷_, _++_, append-assoc, append-nil}
 use Prim.Native.Nat.{ℕ, zero, suc, _+_, _≤_, _<_}
 use native.Mathlib.Omega.{arith}
-use lib.Dec.{leb, eqb}
+use lib.Dec.{eqb}
 use lib.ListN.{length, take, drop, length-append, length-drop, take-append-drop}
-use lib.Seq.{length-take-le, drop-drop}
-use borrow.Author.Tests.{leb-true, le-leb, eqb-true}
+use lib.Seq.{length-take-le}
+use borrow.Author.Tests.{le-leb, eqb-true}
 use Rattle.theory.specs.Words.{Bytes, wordAt, put}
-use Rattle.theory.specs.Tests.{Res, ok, bad, need, unless}
-use Rattle.theory.specs.Structures.{readStructure}
+use Rattle.theory.specs.Tests.{ok, bad, need, unless}
 use Rattle.theory.proofs.WordLaws.{Bytes-drop, Bytes-take, length-put}
 use Rattle.theory.proofs.TestLaws.{ok-bad, unless-zero}
-use Rattle.theory.proofs.Items.{Item, Whole, encs, Oks, steps, seqW, seq-refused}
+use Rattle.theory.proofs.Items.{Item, Oks, steps, seq-refused}
 use Rattle.theory.proofs.StructureLaws.{OwnFault, BodyFault, refused, restore-two, structure, ruled, inside, pair, pair-refused, words-refused}
 use Rattle.note.specs.Limits.{fileLimit}
 use Rattle.note.specs.Words.{order}
 use Rattle.note.specs.Records.{Record, Context, entry, event, none, recordHead, recordLate, recordRule, recordStep, recordsBytes, readRecord}
-use Rattle.note.specs.Events.{Container, containerBytes, containerSize, eventsBytes, eventWordRule, eventHead, eventLate}
-use Rattle.note.specs.Files.{File, configurationWord, configurationHead, configurationLate, headerBytes, fileMark, versionRule, readHeader, readParts, readFile}
-use Rattle.demands.specs.Valid.{ValidRecords, ValidEvents}
-use Rattle.demands.specs.FirstFault.{Cut, ValidHeader, ValidConfiguration, front, past, Itself, FirstFault, at-header, at-configuration, at-entry, at-event, at-record}
-use Rattle.demands.proofs.Bundles.{recordItem, records, configurationItem, eventItem, events, headerItem, parts, same-record, same-parts, records-valid, events-valid}
+use Rattle.note.specs.Events.{Container, containerBytes, eventsBytes, eventHead, eventLate}
+use Rattle.note.specs.Files.{configurationWord, configurationHead, configurationLate, headerBytes, fileMark, versionRule, readHeader, readParts, readFile}
+use Rattle.demands.specs.Valid.{ValidRecords}
+use Rattle.demands.specs.FirstFault.{ValidHeader, ValidConfiguration, front, past, Itself, FirstFault, at-header, at-configuration, at-entry, at-event, at-record}
+use Rattle.demands.proofs.Bundles.{recordItem, records, configurationItem, eventItem, events, headerItem, same-record, same-parts, records-valid, events-valid}
 
 -- A record's refusal is at its first byte.
 pub record-fault-here : (c : Context) (at : ℕ) (bs : List ℕ) (k p : ℕ) → recordItem .read c at bs ≡ bad k p → p ≡ at

@@ -1,24 +1,22 @@
 -- Demand 2: a file is accepted exactly when it is the bytes of a valid tree, and bytes have one meaning.
 -- The idea: each direction is the theory's, for the whole that the file is; the limit is one test in front.
-use mathlib.Core.Path.{_≡_, refl, sym, ap, _∙_, subst}
+use mathlib.Core.Path.{_≡_, refl, sym, _∙_, subst}
 use mathlib.Core.Logic.{_↔_}
-use mathlib.Core.Bool.{Bool, true, false}
-use mathlib.Core.List.{List, [], _∷_, _++_}
-use Prim.Native.Nat.{ℕ, zero, suc, _+_, _≤_, _<_}
+use mathlib.Core.List.{List, []}
+use Prim.Native.Nat.{ℕ, _≤_}
 use native.Mathlib.Omega.{arith}
 use lib.Dec.{leb, eqb}
 use lib.ListN.{length}
 use borrow.Author.Tests.{leb-true, le-leb, eqb-true, eq-eqb}
-use Rattle.theory.specs.Tests.{Res, ok, bad, need, unless}
-use Rattle.theory.specs.Words.{Bytes, Fits}
+use Rattle.theory.specs.Tests.{Res, ok, unless}
+use Rattle.theory.specs.Words.{Bytes}
 use Rattle.theory.proofs.TestLaws.{unless-zero, need-ok}
-use Rattle.theory.proofs.Items.{Item, Whole, follows, unique}
+use Rattle.theory.proofs.Items.{unique}
 use Rattle.note.specs.Limits.{fileLimit}
 use Rattle.note.specs.Records.{entry}
-use Rattle.note.specs.Events.{Container}
 use Rattle.note.specs.Files.{File, configurationOf, eventsOf, configurationWord, fileBytes, readParts, readFile}
 use Rattle.demands.specs.Valid.{Valid}
-use Rattle.demands.proofs.Bundles.{records, configurationItem, parts, same-parts, records-valid, records-ok, events-valid, events-ok}
+use Rattle.demands.proofs.Bundles.{parts, same-parts, records-valid, records-ok, events-valid, events-ok}
 
 -- What the parts ask is validity, but for the limit.
 pub parts-valid : (f : File) → parts .Ok tt f → length (fileBytes f) ≤ fileLimit → Valid f

@@ -1,31 +1,30 @@
 -- Every row is what Record reads at its first byte: a record row that record with its fields, any other row 5.
 -- The idea: the rows are walked with the bytes that stand before each, so that what begins at a row's place is that row's bytes.
-use mathlib.Core.Path.{_≡_, refl, sym, ap, ap₂, _∙_, subst}
-use mathlib.Core.Logic.{_⊎_, inl, inr}
-use mathlib.Core.Bool.{Bool, true, false, cond, _||_}
-use mathlib.Core.List.{List, [], _∷_, _++_, map, append-assoc, append-nil}
+use mathlib.Core.Path.{_≡_, refl, sym, ap, _∙_, subst}
+use mathlib.Core.Bool.{Bool, true, false, _||_}
+use mathlib.Core.List.{List, [], _∷_, _++_, map, append-assoc}
 use mathlib.Core.Option.{Option, some, none}
-use Prim.Native.Nat.{ℕ, zero, suc, _+_, _*_, _/_, _%_, _≤_, _<_}
+use Prim.Native.Nat.{ℕ, zero, suc, _+_, _/_, _%_, _≤_, _<_}
 use native.Mathlib.Nat.{le-of-suc-le-suc, not-suc-le-zero}
 use native.Mathlib.Omega.{arith}
 use lib.Dec.{leb, eqb}
-use lib.ListN.{length, take, drop, getD, length-append, length-map}
+use lib.ListN.{length, take, drop, getD, length-append}
 use lib.Seq.{drop-at}
-use borrow.Author.Tests.{leb-true, le-leb, eqb-true, ne-eqb}
+use borrow.Author.Tests.{le-leb, eqb-true, ne-eqb}
 use Rattle.theory.specs.Words.{Bytes, Fits, wordAt, put}
-use Rattle.theory.specs.Tests.{Res, ok, bad, need, unless, first, among}
-use Rattle.theory.specs.Layout.{Row, Child, Node, single, box, total, childRows, rows, row}
+use Rattle.theory.specs.Tests.{Res, ok, bad, unless, among}
+use Rattle.theory.specs.Layout.{Row, total, childRows, rows, row}
 use Rattle.theory.proofs.WordLaws.{word-after-put, length-put}
 use Rattle.theory.proofs.TestLaws.{holds-at, need-ok, ok-inj}
 use Rattle.theory.proofs.StructureLaws.{length-structure, opens, ruled}
 use Rattle.note.specs.Limits.{fileLimit}
 use Rattle.note.specs.Words.{order}
 use Rattle.note.specs.Records.{Record, Context, entry, event, alone, isKind, isAllowed, behind, entryKinds, recordKinds, recordBytes, recordSize, recordsBytes, recordHead, recordLate, recordRule, readRecord}
-use Rattle.note.specs.Events.{Container, containerBytes, containerSize, eventsBytes, eventMark, eventFault, classOf, categoryOf, eventTypeOf, eventWordRule}
-use Rattle.note.specs.Files.{File, versionOf, configurationOf, eventsOf, configurationWord, fileMark, versionRule, headerBytes, fileBytes, readFile}
+use Rattle.note.specs.Events.{Container, containerBytes, eventsBytes, eventMark, eventFault, classOf, categoryOf, eventTypeOf, eventWordRule}
+use Rattle.note.specs.Files.{File, versionOf, configurationOf, eventsOf, configurationWord, fileMark, headerBytes, readFile}
 use Rattle.note.specs.Rows.{childOf, childrenOf, eventNode, nodesOf, rowsOf}
 use Rattle.note.specs.Calls.{recordFound}
-use Rattle.demands.specs.Valid.{ValidRecord, ValidRecords, ValidEvent, ValidEvents, Valid}
+use Rattle.demands.specs.Valid.{ValidRecord, ValidRecords, ValidEvents}
 use Rattle.demands.specs.RowRecords.{containerRecords, eventsRecords, rowRecords, foundAs, Reads}
 use Rattle.demands.proofs.Bundles.{recordItem, headerItem, same-record, record-ok}
 use Rattle.demands.proofs.Follows.{file-sound}

@@ -3,10 +3,10 @@
 use mathlib.Core.Path.{_≡_, refl, sym, ap, ap₂, _∙_, subst}
 use mathlib.Core.Bool.{Bool, true, false}
 use mathlib.Core.List.{List, [], _∷_, _++_, map}
-use Prim.Native.Nat.{ℕ, zero, suc, _+_, _≤_, _<_}
+use Prim.Native.Nat.{ℕ, _+_, _≤_, _<_}
 use native.Mathlib.Omega.{arith}
 use lib.Dec.{leb}
-use lib.ListN.{length, take, drop}
+use lib.ListN.{length, drop}
 use borrow.Author.Tests.{le-leb, leb-true, leb-false}
 use Rattle.theory.specs.Words.{Bytes}
 use Rattle.theory.specs.Tests.{Res, ok, bad, need, bind, unless}
@@ -19,7 +19,7 @@ use Rattle.note.specs.Events.{Container, containerBytes, eventsBytes}
 use Rattle.note.specs.Files.{File, versionOf, configurationOf, eventsOf, headerBytes, fileBytes, readFile}
 use Rattle.note.specs.Writers.{recordAgain, containerRewritten, fileRewritten, written, rewritten, rewriteWrote, rewriteOutput}
 use Rattle.note.proofs.KindLaws.{again-restores}
-use Rattle.demands.specs.Valid.{ValidRecord, ValidRecords, ValidEvent, ValidEvents, Valid}
+use Rattle.demands.specs.Valid.{ValidRecord, ValidRecords, ValidEvents, Valid}
 use Rattle.demands.specs.Outputs.{RewriteRefused, output-over, file-refused, no-room}
 use Rattle.demands.proofs.Follows.{file-sound}
 use Rattle.demands.proofs.OutputLaws.{refusal-keeps}

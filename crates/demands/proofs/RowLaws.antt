@@ -1,26 +1,24 @@
 -- Demand 3, the rows: they tile the file from its first byte to its last, each byte in one row, each child inside its one parent, which
 -- stands before it, and there are no more rows than an eighth of the length.
 -- The idea: a file's nodes have the sizes of its structures; the theory's laws of rows do the rest.
-use mathlib.Core.Path.{_≡_, refl, sym, ap, _∙_, subst}
-use mathlib.Core.Bool.{Bool, true, false}
+use mathlib.Core.Path.{_≡_, refl, sym, subst}
+use mathlib.Core.Bool.{false}
 use mathlib.Core.List.{List, [], _∷_, _++_, map}
-use Prim.Native.Nat.{ℕ, zero, suc, _+_, _*_, _≤_, _<_}
+use Prim.Native.Nat.{ℕ, _+_, _*_, _≤_, _<_}
 use native.Mathlib.Omega.{arith}
-use lib.Dec.{eqb}
-use lib.ListN.{length, length-append, length-map}
+use lib.ListN.{length, length-append}
 use Rattle.theory.specs.Words.{Bytes}
-use Rattle.theory.specs.Tests.{Res, ok}
-use Rattle.theory.specs.Layout.{Row, Child, Node, single, box, total, extents, rows, row, Tiles, Owns, Placed}
-use Rattle.theory.proofs.Items.{encs}
+use Rattle.theory.specs.Tests.{ok}
+use Rattle.theory.specs.Layout.{total, extents, rows, row, Tiles, Owns, Placed}
 use Rattle.theory.proofs.StructureLaws.{length-structure}
 use Rattle.theory.proofs.LayoutLaws.{GoodChildren, Good, row-tiles, few-rows, owner, owner-one, parent-before, All, All-at, all-inside}
 use Rattle.note.specs.Words.{order}
-use Rattle.note.specs.Records.{Record, recordBytes, recordSize, recordsBytes, kindOf}
+use Rattle.note.specs.Records.{Record, recordBytes, recordsBytes, kindOf}
 use Rattle.note.specs.Events.{Container, containerBytes, containerSize, eventsBytes}
 use Rattle.note.specs.Files.{File, configurationOf, eventsOf, versionOf, headerBytes, fileBytes, readFile}
 use Rattle.note.specs.Rows.{childOf, childrenOf, eventNode, nodesOf, rowsOf, isBox}
 use Rattle.note.proofs.KindCases.{kind-cases}
-use Rattle.demands.proofs.Bundles.{recordItem, eventItem, headerItem, configurationItem}
+use Rattle.demands.proofs.Bundles.{headerItem}
 use Rattle.demands.proofs.Follows.{file-sound}
 
 -- ---- sizes

@@ -1,30 +1,26 @@
 -- Where a trace's row stands in its file: the events before, its event's word and the records on both sides, the events after.
 -- The idea: the rows are walked with the tree in two pieces, what was passed and what is still to come.
-use mathlib.Core.Path.{_≡_, refl, sym, ap, ap₂, _∙_, subst}
-use mathlib.Core.Bool.{Bool, true, false}
+use mathlib.Core.Path.{_≡_, refl, sym, ap, _∙_, subst}
+use mathlib.Core.Bool.{Bool, true}
 use mathlib.Core.List.{List, [], _∷_, _++_, map, append-assoc}
 use mathlib.Core.Option.{Option, some, none}
-use Prim.Native.Nat.{ℕ, zero, suc, _+_, _%_, _≤_, _<_}
+use Prim.Native.Nat.{ℕ, suc, _+_, _<_}
 use native.Mathlib.Omega.{arith}
 use lib.ListN.{length, length-append, length-map}
-use Rattle.theory.specs.Words.{Bytes}
-use Rattle.theory.specs.Tests.{Res, ok}
-use Rattle.theory.specs.Layout.{Row, Child, Node, total, childRows, rows, row}
+use Rattle.theory.specs.Layout.{Row, Child, total, childRows, rows, row}
 use Rattle.theory.proofs.Items.{length-encs}
 use Rattle.theory.proofs.LayoutLaws.{AllFrom, AllFrom-append, AllFrom-at, length-childRows}
 use Rattle.theory.proofs.FreeLaws.{Spot, plug}
-use Rattle.note.specs.Kinds.{Kind}
 use Rattle.note.specs.Trace.{traceKind}
-use Rattle.note.specs.Words.{order}
-use Rattle.note.specs.Records.{Record, Context, entry, event, isKind, behind, recordBytes, recordSize, recordsBytes, kindOf}
-use Rattle.note.specs.Events.{Container, containerBytes, containerSize, eventsBytes}
-use Rattle.note.specs.Files.{File, versionOf, configurationOf, eventsOf, readFile}
+use Rattle.note.specs.Records.{Record, entry, isKind, behind, recordSize, recordsBytes, kindOf}
+use Rattle.note.specs.Events.{Container, containerSize, eventsBytes}
+use Rattle.note.specs.Files.{File, configurationOf, eventsOf}
 use Rattle.note.specs.Rows.{childOf, childrenOf, eventNode, nodesOf, rowsOf}
 use Rattle.note.proofs.KindCases.{kind-cases}
-use Rattle.demands.specs.Valid.{ValidRecord, ValidRecords, ValidEvent, ValidEvents, Valid}
+use Rattle.demands.specs.Valid.{ValidRecord, ValidRecords, Valid}
 use Rattle.demands.specs.RowRecords.{containerRecords, eventsRecords, rowRecords}
 use Rattle.demands.proofs.Bundles.{recordItem, eventItem}
-use Rattle.demands.proofs.RowLaws.{children-total, container-size}
+use Rattle.demands.proofs.RowLaws.{children-total}
 
 -- Only a trace has row kind 7.
 pub trace-kind : (k : ℕ) → kindOf k .row ≡ 7 → k ≡ traceKind .word

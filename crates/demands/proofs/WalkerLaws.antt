@@ -1,19 +1,17 @@
 -- The walker's yields are the table's rows in order, then the end for ever; over a refused file that refusal for ever.
 -- The idea: the table's buffer is the rows' numbers one after the other, six to a row.
-use mathlib.Core.Path.{_≡_, refl, sym, ap, _∙_, subst}
-use mathlib.Core.Bool.{Bool, true, false, cond}
+use mathlib.Core.Path.{_≡_, refl, sym, ap, _∙_}
 use mathlib.Core.List.{List, [], _∷_, _++_, append-assoc}
 use Prim.Native.Nat.{ℕ, zero, suc, _+_, _*_, _≤_, _<_}
 use native.Mathlib.Nat.{le-of-suc-le-suc, not-suc-le-zero}
 use native.Mathlib.Omega.{arith}
-use lib.Dec.{leb, ltb}
 use lib.ListN.{length, take, drop}
 use lib.Seq.{drop-append-add}
 use borrow.Author.Tests.{le-leb, lt-ltb, le-ltb}
-use Rattle.theory.specs.Tests.{Res, ok, bad}
+use Rattle.theory.specs.Tests.{ok, bad}
 use Rattle.theory.specs.Layout.{Row, row}
 use Rattle.note.specs.Limits.{rowWidth}
-use Rattle.note.specs.Answers.{Given, accepted, refused, counts}
+use Rattle.note.specs.Answers.{accepted, refused, counts}
 use Rattle.note.specs.Files.{File, readFile}
 use Rattle.note.specs.Rows.{rowsOf, rowNumbers, flat, tableAnswer, tableBuffer, yieldAt}
 
