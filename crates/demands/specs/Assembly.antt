@@ -9,7 +9,8 @@ use Rattle.theory.specs.Tests.{Res, ok, bind}
 use Rattle.note.specs.Records.{Context, entry, event, none, isKind, isAllowed, behind}
 use Rattle.note.specs.Events.{Container, eventWord, eventFault}
 use Rattle.note.specs.Files.{File, versionWord, configurationWord, readFile}
-use Rattle.note.specs.Writers.{recordWrote, recordOutput, headerWrote, headerOutput, configurationClosed, configurationOutput, eventClosed, eventOutput}
+use Rattle.note.specs.Writers.{recordWrote, recordOutput, headerWrote, headerOutput}
+use Rattle.note.specs.Writers.{configurationClosed, configurationOutput, eventClosed, eventOutput}
 use Rattle.demands.specs.Pieces.{Piece, writtenOf, recordOf, PieceFits}
 
 -- ---- the pieces
@@ -105,7 +106,8 @@ recordsAssembled b (p ∷ ps) =
     recordsAssembled (record { next = next; out = recordOutput (b .out) (b .next) (writtenOf p) }) ps)
 
 -- "Over contents already written after eight free bytes": the contents, then a closing, with its answer and its output.
-unfoldable pub containerAssembled : (List ℕ → ℕ → ℕ → Res ℕ) → (List ℕ → ℕ → ℕ → List ℕ) → Built → List Piece → Res Built
+unfoldable pub containerAssembled : (List ℕ → ℕ → ℕ → Res ℕ) → (List ℕ → ℕ → ℕ → List ℕ)
+    → Built → List Piece → Res Built
 containerAssembled closed output b ps =
     bind (recordsAssembled (record { next = b .next + 8; out = b .out }) ps) (λ filled.
     bind (closed (filled .out) (b .next) (filled .next)) (λ next.

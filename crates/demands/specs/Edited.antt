@@ -24,7 +24,8 @@ pub record Edited (bs : List ℕ) (f : File) (j i v : ℕ) : Type 0 where
   pub file : File
   pub accepted : readFile (set bs i v) ≡ ok file
   pub same-rows : rowsOf file ≡ rowsOf f
-  pub sample-changes : v ≢ getD bs i 0 → sampleAt (set bs i v) (startOf f j) (holder (startOf f j) i) ≢ sampleAt bs (startOf f j) (holder (startOf f j) i)
+  pub sample-changes : v ≢ getD bs i 0
+      → sampleAt (set bs i v) (startOf f j) (holder (startOf f j) i) ≢ sampleAt bs (startOf f j) (holder (startOf f j) i)
   pub other-samples-stay : (k n : ℕ) → k < length (rowsOf f) → ((k ≡ j) × (n ≡ holder (startOf f j) i) → ⊥)
       → sampleAt (set bs i v) (startOf f k) n ≡ sampleAt bs (startOf f k) n
   pub fields-stay : (k : ℕ) → k < length (rowsOf f) → recordAt (set bs i v) (startOf f k) ≡ recordAt bs (startOf f k)

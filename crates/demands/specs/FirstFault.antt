@@ -40,7 +40,8 @@ past c (r ∷ rs) = past (behind c (r .kind)) rs
 
 -- A container is at fault itself: whatever its contents, it is refused so at its first byte.
 abbrev pub Itself : (Unit {0} → ℕ → ℕ) → (Unit {0} → ℕ → ℕ → ℕ) → List ℕ → ℕ → ℕ → Type 0
-Itself head late part c p = (contents : Unit {0} × ℕ → ℕ → List ℕ → Res (List Record)) → readStructure order head late contents tt p part ≡ bad c p
+Itself head late part c p = (contents : Unit {0} × ℕ → ℕ → List ℕ → Res (List Record))
+    → readStructure order head late contents tt p part ≡ bad c p
 
 pub data FirstFault (bs : List ℕ) (c p : ℕ) : Type 0 where
   at-header : Cut bs [] bs [] p → readHeader tt p bs ≡ bad c p → FirstFault bs c p
@@ -50,8 +51,10 @@ pub data FirstFault (bs : List ℕ) (c p : ℕ) : Type 0 where
       → ValidRecords entry entries → length (recordsBytes entries) + length part ≡ n
       → Cut bs (headerBytes v ++ (front configurationWord n ++ recordsBytes entries)) part beyond p
       → readRecord (past entry entries) p part ≡ bad c p → FirstFault bs c p
-  at-event : (v : ℕ) (configuration : Container) (es : List Container) (part : List ℕ) → ValidHeader v → ValidConfiguration configuration → ValidEvents es
-      → Cut bs (headerBytes v ++ (containerBytes configuration ++ eventsBytes es)) part [] p → Itself eventHead eventLate part c p → FirstFault bs c p
+  at-event : (v : ℕ) (configuration : Container) (es : List Container) (part : List ℕ)
+      → ValidHeader v → ValidConfiguration configuration → ValidEvents es
+      → Cut bs (headerBytes v ++ (containerBytes configuration ++ eventsBytes es)) part [] p
+      → Itself eventHead eventLate part c p → FirstFault bs c p
   at-record : (v : ℕ) (configuration : Container) (es : List Container) (w n : ℕ) (rs : List Record) (part beyond : List ℕ)
       → ValidHeader v → ValidConfiguration configuration → ValidEvents es
       → eventWordRule w ≡ 0 → ValidRecords (event none) rs → length (recordsBytes rs) + length part ≡ n

@@ -29,7 +29,8 @@ pub record SectionStands (bs : List ℕ) (from : ℕ) (s : Section) : Type 0 whe
 -- "A container is closed from a given place to a given end, which is the next place, over contents already written after eight free bytes:
 -- they are checked by the reading rules, then the eight bytes are written"; "a container's contents, stay". From the place up to the end
 -- then stands the container with that first word and the records or entries read from the contents, and there it is read.
-pub record Closed (read : Unit {0} → ℕ → List ℕ → Res Container) (c : Context) (old new : List ℕ) (place end next word : ℕ) : Type 0 where
+pub record Closed (read : Unit {0} → ℕ → List ℕ → Res Container) (c : Context)
+    (old new : List ℕ) (place end next word : ℕ) : Type 0 where
   pub records : List Record
   pub contents : readRecords c (place + 8) (contentsOf old place end) ≡ ok records
   pub ends : next ≡ end
@@ -42,4 +43,5 @@ pub record Closed (read : Unit {0} → ℕ → List ℕ → Res Container) (c : 
 pub data RewriteRefused (bs out : List ℕ) (c p : ℕ) : Type 0 where
   output-over : fileLimit < length out → c ≡ 1 → p ≡ 0 → RewriteRefused bs out c p
   file-refused : length out ≤ fileLimit → readFile bs ≡ bad c p → RewriteRefused bs out c p
-  no-room : (f : File) → length out ≤ fileLimit → readFile bs ≡ ok f → length out < length bs → c ≡ 13 → p ≡ 0 → RewriteRefused bs out c p
+  no-room : (f : File) → length out ≤ fileLimit → readFile bs ≡ ok f → length out < length bs
+      → c ≡ 13 → p ≡ 0 → RewriteRefused bs out c p

@@ -14,7 +14,8 @@ use Rattle.note.specs.Trigger.{Trigger, triggerKind, triggerMasks, triggerBytes
 use Rattle.note.specs.Tlb.{Tlb, tlbKind, tlbWords, tlbBytes}
 use Rattle.note.specs.Kinds.{Kind}
 use Rattle.note.specs.Records.{Record}
-use Rattle.note.specs.Writers.{Written, phononWritten, chargeWritten, administrativeWritten, traceWritten, historyWritten, gpsWritten, triggerWritten, tlbWritten}
+use Rattle.note.specs.Writers.{Written, phononWritten, chargeWritten, administrativeWritten, traceWritten}
+use Rattle.note.specs.Writers.{historyWritten, gpsWritten, triggerWritten, tlbWritten}
 
 -- The fields of one record or entry, as its writer takes them.
 pub data Piece : Type 0 where
@@ -95,7 +96,8 @@ answerOf place (phonon f) = accepted (count 3 ∷ wholes (phononWords f))
 answerOf place (charge f) = accepted (count 4 ∷ wholes (chargeWords f))
 answerOf place (administrative f) = accepted (count 6 ∷ counts (administrativeWords f))
 answerOf place (trace f) =
-    accepted (count 7 ∷ count (f .address) ∷ count (f .channel) ∷ count (f .code) ∷ whole (f .t0) ∷ count (f .delta) ∷ count (f .n) ∷ [])
+    accepted
+    (count 7 ∷ count (f .address) ∷ count (f .channel) ∷ count (f .code) ∷ whole (f .t0) ∷ count (f .delta) ∷ count (f .n) ∷ [])
 answerOf place (history f) =
     accepted (count 8 ∷ counts (sectionAnswer (vetoFrom place f) (f .veto) ++ sectionAnswer (triggerFrom place f) (f .trigger)))
 answerOf place (gps f) = accepted (count 9 ∷ counts (gpsNumbers f))

@@ -1,4 +1,5 @@
--- Document 01, 'Rows and calls', under the third demand (demands/specs/Edited): what the calls give after one byte is changed inside a trace's samples.
+-- Document 01, 'Rows and calls', under the third demand (demands/specs/Edited): what the calls give after one byte is changed inside a
+-- trace's samples.
 use Prim.Native.Nat.{ℕ, _+_, _≤_, _<_}
 use mathlib.Core.Path.{_≡_}
 use mathlib.Core.Logic.{_≢_}
@@ -27,8 +28,10 @@ pub record EditedCalls (bs old : List ℕ) (j i x : ℕ) : Type 0 where
   pub same-buffer : (other : List ℕ) → tableBuffer (set bs i x) other ≡ tableBuffer bs other
   pub same-yields : (k : ℕ) → yieldAt (set bs i x) k ≡ yieldAt bs k
   pub same-finds : (number code : ℕ) → findAt (set bs i x) number code ≡ findAt bs number code
-  pub same-records : (k : ℕ) → k < tableCount bs old → recordAt (set bs i x) (tableRow bs old k .start) ≡ recordAt bs (tableRow bs old k .start)
-  pub same-settings : (k : ℕ) → k < tableCount bs old → settingAt (set bs i x) (tableRow bs old k .start) ≡ settingAt bs (tableRow bs old k .start)
+  pub same-records : (k : ℕ) → k < tableCount bs old
+      → recordAt (set bs i x) (tableRow bs old k .start) ≡ recordAt bs (tableRow bs old k .start)
+  pub same-settings : (k : ℕ) → k < tableCount bs old
+      → settingAt (set bs i x) (tableRow bs old k .start) ≡ settingAt bs (tableRow bs old k .start)
   pub sample-changes : x ≢ getD bs i 0
       → sampleAt (set bs i x) (tableRow bs old j .start) (holder (tableRow bs old j .start) i)
       ≢ sampleAt bs (tableRow bs old j .start) (holder (tableRow bs old j .start) i)
