@@ -4,12 +4,12 @@
 use mathlib.Core.Path.{_≡_, refl, sym, subst}
 use mathlib.Core.Bool.{false}
 use mathlib.Core.List.{List, [], _∷_, _++_, map}
-use Prim.Native.Nat.{ℕ, _+_, _*_, _≤_, _<_}
+use Prim.Native.Nat.{ℕ, _+_, _*_, _%_, _≤_, _<_}
 use native.Mathlib.Omega.{arith}
 use lib.ListN.{length, length-append}
 use Rattle.theory.specs.Words.{Bytes}
 use Rattle.theory.specs.Tests.{ok}
-use Rattle.theory.specs.Layout.{total, extents, rows, row, Tiles, Owns, Placed}
+use Rattle.theory.specs.Layout.{Row, total, extents, childRows, rows, row, Tiles, Owns, Placed}
 use Rattle.theory.proofs.StructureLaws.{length-structure}
 use Rattle.theory.proofs.LayoutLaws.{GoodChildren, Good, row-tiles, few-rows, owner, owner-one, parent-before, All, All-at, all-inside}
 use Rattle.note.specs.Words.{order}
@@ -51,6 +51,34 @@ nodes-extents : (f : File) → extents (nodesOf f) ≡ length (fileBytes f)
 unfolding nodesOf
 nodes-extents f = omega (arith, file-length f, children-total (configurationOf f .body), events-extents (eventsOf f))
 
+-- ---- the parts of which a file's rows are made
+
+-- A configuration's own row, and that of an event at the place `at`.
+abbrev pub configurationRow : Container → Row
+configurationRow c = record { kind = 2; start = 8; whole = 8 + total (childrenOf (c .body)); parent = 0; one = length (c .body); two = 0 }
+
+abbrev pub eventRow : ℕ → Container → Row
+eventRow at e =
+    record { kind = 5; start = at; whole = 8 + total (childrenOf (e .body)); parent = 0; one = e .kind % 65536; two = length (e .body) }
+
+-- Behind a container that has row number i and stands at the place `at`: the next row number, the next place.
+abbrev pub nextRow : ℕ → Container → ℕ
+nextRow i c = i + 1 + length (childrenOf (c .body))
+
+abbrev pub nextPlace : ℕ → Container → ℕ
+nextPlace at c = at + (8 + total (childrenOf (c .body)))
+
+-- The rows of records whose parent has row number i; of events, the first of which has it; the first stands at the place `at`.
+abbrev pub recordRows : ℕ → ℕ → List Record → List Row
+recordRows i at rs = childRows i at (childrenOf rs)
+
+abbrev pub eventRows : ℕ → ℕ → List Container → List Row
+eventRows i at es = rows i at (map eventNode es)
+
+-- The rows of a file's events: behind its configuration, which has row number 2 and stands at byte 8.
+abbrev pub rowsBehind : File → List Row
+rowsBehind f = eventRows (nextRow 2 (configurationOf f)) (nextPlace 8 (configurationOf f)) (eventsOf f)
+
 -- ---- no child is a box
 
 -- the row kinds of records are no boxes, whatever the kind word
@@ -74,7 +102,9 @@ nodes-good f = ((refl, omega arith), (refl, children-good (configurationOf f .bo
 
 pub rows-tile : (f : File) → Tiles isBox 0 (rowsOf f) (length (fileBytes f))
 unfolding rowsOf
-rows-tile f = subst (λ (n : ℕ). Tiles isBox 0 (rows 1 0 (nodesOf f)) n) (omega (arith, nodes-extents f)) (row-tiles isBox 1 0 (nodesOf f) (nodes-good f))
+rows-tile f =
+    subst (λ (n : ℕ). Tiles isBox 0 (rows 1 0 (nodesOf f)) n) (omega (arith, nodes-extents f))
+    (row-tiles isBox 1 0 (nodesOf f) (nodes-good f))
 
 pub rows-inside : (f : File) → All (Placed (rowsOf f)) (rowsOf f)
 unfolding rowsOf
@@ -95,7 +125,8 @@ module _ (bs : List ℕ) (f : File) (h : Bytes bs) (e : readFile bs ≡ ok f) wh
   pub byte-has-row : (i : ℕ) → i < length bs → (j : ℕ) × (j < length (rowsOf f)) × Owns isBox (row (rowsOf f) j) i
   byte-has-row i l = owner isBox 0 (length bs) (rowsOf f) i rows-tile-file (omega arith) l
 
-  pub byte-has-one-row : (i j k : ℕ) → j < length (rowsOf f) → k < length (rowsOf f) → Owns isBox (row (rowsOf f) j) i → Owns isBox (row (rowsOf f) k) i → j ≡ k
+  pub byte-has-one-row : (i j k : ℕ) → j < length (rowsOf f) → k < length (rowsOf f)
+      → Owns isBox (row (rowsOf f) j) i → Owns isBox (row (rowsOf f) k) i → j ≡ k
   byte-has-one-row i j k lj lk oj ok′ = owner-one isBox 0 (length bs) (rowsOf f) i rows-tile-file j k lj lk oj ok′
 
   -- "Each child inside its one parent": after the parent's own eight bytes, within its whole length.

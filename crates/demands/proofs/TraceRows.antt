@@ -1,68 +1,72 @@
 -- A file's traces are its table's rows of kind 7 in their order, each with the number of the administrative row behind its parent's.
 -- The idea: the rows are walked with the rows before them, so that the row behind an event's is known to be its first record's.
 use mathlib.Core.Path.{_≡_, refl, sym, ap, ap₂, _∙_}
-use mathlib.Core.List.{List, [], _∷_, _++_, map, append-assoc}
-use Prim.Native.Nat.{ℕ, suc, _+_, _%_, _≤_, _<_}
+use mathlib.Core.List.{List, [], _∷_, _++_, append-assoc}
+use Prim.Native.Nat.{ℕ, suc, _+_, _≤_, _<_}
 use native.Mathlib.Decide.{ℕ-discrete}
 use native.Mathlib.Omega.{arith}
 use lib.ListN.{length, length-append}
 use lib.Seq.{getD-append-add}
 use borrow.Author.Tests.{ne-eqb}
-use Rattle.theory.specs.Layout.{Row, Child, noRow, total, childRows, rows, row}
+use Rattle.theory.specs.Layout.{Row, Child, noRow, childRows, rows, row}
 use Rattle.theory.proofs.LayoutLaws.{All, All-append, All-at, length-childRows}
 use Rattle.note.specs.Administrative.{administrativeKind, administrativeOf}
 use Rattle.note.specs.Trace.{traceKind, traceOf}
-use Rattle.note.specs.Records.{Record, entry, event, none, behind, recordsBytes, kindOf}
+use Rattle.note.specs.Records.{Record, entry, event, none, behind, recordSize, recordsBytes, kindOf}
 use Rattle.note.specs.Events.{Container, containerSize}
 use Rattle.note.specs.Files.{File, versionOf, configurationOf, eventsOf}
-use Rattle.note.specs.Rows.{childOf, childrenOf, eventNode, nodesOf, rowsOf}
+use Rattle.note.specs.Rows.{childOf, childrenOf, nodesOf, rowsOf}
 use Rattle.note.specs.Calls.{TraceAt, tracesIn, tracesFrom, tracesOf, eventNumber}
 use Rattle.demands.specs.Valid.{ValidRecords, ValidEvent, ValidEvents, Valid}
 use Rattle.demands.specs.RowTraces.{rowTraces}
 use Rattle.demands.proofs.EventLaws.{first-administrative}
-use Rattle.demands.proofs.RowLaws.{children-total}
+use Rattle.demands.proofs.RowLaws.{children-total, configurationRow, eventRow, nextRow, nextPlace, recordRows, eventRows, rowsBehind}
 use Rattle.demands.proofs.SpotLaws.{trace-kind, entry-no-trace}
 
--- An event's first record's row: administrative, with the event's number.
-first-row : (i at : ℕ) (e : Container) (more : List Row) → ValidEvent e
-    → (row (childRows i at (childrenOf (e .body)) ++ more) 0 .kind ≡ administrativeKind .row)
-    × (row (childRows i at (childrenOf (e .body)) ++ more) 0 .one ≡ eventNumber (e .body))
+-- Rows that begin with the row of an event's first record: administrative, with the event's number.
+abbrev Numbered : List Row → List Record → Type 0
+Numbered all rs = (row all 0 .kind ≡ administrativeKind .row) × (row all 0 .one ≡ eventNumber rs)
+
+first-row : (i at : ℕ) (e : Container) (more : List Row) → ValidEvent e → Numbered (recordRows i at (e .body) ++ more) (e .body)
 unfolding childRows childOf kindOf administrativeOf
 first-row i at e more v = go (e .body) (v .not-empty) (v .records-valid)
   where
-    go : (rs : List Record) → 1 ≤ length (recordsBytes rs) → ValidRecords (event none) rs
-        → (row (childRows i at (childrenOf rs) ++ more) 0 .kind ≡ administrativeKind .row) × (row (childRows i at (childrenOf rs) ++ more) 0 .one ≡ eventNumber rs)
+    go : (rs : List Record) → 1 ≤ length (recordsBytes rs) → ValidRecords (event none) rs → Numbered (recordRows i at rs ++ more) rs
     go [] l w = absurd (omega arith)
     go (r ∷ rs) l w = let k : r .kind ≡ administrativeKind .word = first-administrative r (w .0) in (rw k, rw k)
 
 -- The rows of entries tell of no trace.
 no-entries : (all : List Row) (i at : ℕ) (rs : List Record) (more : List Row) → ValidRecords entry rs
-    → rowTraces all (childRows i at (childrenOf rs) ++ more) ≡ rowTraces all more
+    → rowTraces all (recordRows i at rs ++ more) ≡ rowTraces all more
 unfolding rowTraces childRows childOf behind
 no-entries all i at [] more v = refl
 no-entries all i at (r ∷ rs) more v =
-    rw (ne-eqb (kindOf (r .kind) .row) (traceKind .row) (entry-no-trace r (v .0))) (no-entries all i (at + (8 + length (r .body))) rs more (v .1))
+    rw (ne-eqb (kindOf (r .kind) .row) (traceKind .row) (entry-no-trace r (v .0)))
+    (no-entries all i (at + recordSize r) rs more (v .1))
 
 module _ (all : List Row) where
   -- The rows of an event's records, whose parent's row has the number i.
-  children : (i at : ℕ) (rs : List Record) (more : List Row) → rowTraces all (childRows i at (childrenOf rs) ++ more) ≡ tracesIn (row all i .one) at rs ++ rowTraces all more
+  children : (i at : ℕ) (rs : List Record) (more : List Row)
+      → rowTraces all (recordRows i at rs ++ more) ≡ tracesIn (row all i .one) at rs ++ rowTraces all more
   unfolding rowTraces childRows childOf tracesIn traceOf kindOf
   children i at [] more = refl
   children i at (r ∷ rs) more =
-      let rest = children i (at + (8 + length (r .body))) rs more in
+      let rest = children i (at + recordSize r) rs more in
       elim (ℕ-discrete (r .kind) (traceKind .word)) [
         | yes k ↦ rw k (ap (λ (ts : List TraceAt). record { number = row all i .one; code = traceOf (r .body) .code; place = at } ∷ ts) rest)
-        | no d ↦ rw (ne-eqb (kindOf (r .kind) .row) (traceKind .row) (λ q. d (trace-kind (r .kind) q)), ne-eqb (r .kind) (traceKind .word) d) rest
+        | no d ↦
+            let other = ne-eqb (kindOf (r .kind) .row) (traceKind .row) (λ q. d (trace-kind (r .kind) q)) in
+            rw (other, ne-eqb (r .kind) (traceKind .word) d) rest
       ]
 
   -- Where a row is a trace's, the row behind its parent's is administrative.
   abbrev Headed : Row → Type 0
   Headed r = r .kind ≡ traceKind .row → row all (r .parent) .kind ≡ administrativeKind .row
 
-  headed-entries : (i at : ℕ) (rs : List Record) → ValidRecords entry rs → All Headed (childRows i at (childrenOf rs))
+  headed-entries : (i at : ℕ) (rs : List Record) → ValidRecords entry rs → All Headed (recordRows i at rs)
   unfolding childRows childOf behind
   headed-entries i at [] v = tt
-  headed-entries i at (r ∷ rs) v = ((λ k. absurd (entry-no-trace r (v .0) k)), headed-entries i (at + (8 + length (r .body))) rs (v .1))
+  headed-entries i at (r ∷ rs) v = ((λ k. absurd (entry-no-trace r (v .0) k)), headed-entries i (at + recordSize r) rs (v .1))
 
   headed-children : (i at : ℕ) (cs : List Child) → row all i .kind ≡ administrativeKind .row → All Headed (childRows i at cs)
   unfolding childRows
@@ -70,24 +74,27 @@ module _ (all : List Row) where
   headed-children i at (c ∷ cs) h = ((λ k. h), headed-children i (at + c .size) cs h)
 
   -- The rows of events, behind the rows `before`; the first has the number i.
-  events : (before : List Row) (i at : ℕ) (es : List Container) → ValidEvents es → i ≡ suc (length before) → all ≡ before ++ rows i at (map eventNode es)
-      → (rowTraces all (rows i at (map eventNode es)) ≡ tracesFrom at es) × All Headed (rows i at (map eventNode es))
+  events : (before : List Row) (i at : ℕ) (es : List Container) → ValidEvents es
+      → i ≡ suc (length before) → all ≡ before ++ eventRows i at es
+      → (rowTraces all (eventRows i at es) ≡ tracesFrom at es) × All Headed (eventRows i at es)
   unfolding rows rowTraces tracesFrom
   events before i at [] v n q = (refl, tt)
   events before i at (e ∷ es) v n q =
       let ch : List Child = childrenOf (e .body) in
-      let own : Row = record { kind = 5; start = at; whole = 8 + total ch; parent = 0; one = e .kind % 65536; two = length (e .body) } in
+      let own : Row = eventRow at e in
       let kids : List Row = childRows i (at + 8) ch in
-      let more : List Row = rows (i + 1 + length ch) (at + (8 + total ch)) (map eventNode es) in
+      let more : List Row = eventRows (nextRow i e) (nextPlace at e) es in
       let there : row all i ≡ row (kids ++ more) 0 = ap₂ row q (n ∙ omega arith) ∙ getD-append-add before (own ∷ (kids ++ more)) 1 noRow in
       let first = first-row i (at + 8) e more (v .0) in
       let number : row all i .one ≡ eventNumber (e .body) = ap (λ (r : Row). r .one) there ∙ first .1 in
-      let place : at + (8 + total ch) ≡ at + containerSize e = ap (λ (x : ℕ). at + (8 + x)) (children-total (e .body)) in
-      let later = events (before ++ own ∷ kids) (i + 1 + length ch) (at + (8 + total ch)) es (v .1)
+      let place : nextPlace at e ≡ at + containerSize e = ap (λ (x : ℕ). at + (8 + x)) (children-total (e .body)) in
+      let later = events (before ++ own ∷ kids) (nextRow i e) (nextPlace at e) es (v .1)
       (omega (arith, n, length-append before (own ∷ kids), length-childRows i (at + 8) ch))
       (q ∙ sym (append-assoc before (own ∷ kids) more)) in (
         children i (at + 8) (e .body) more
-            ∙ ap₂ (λ (m : ℕ) (ts : List TraceAt). tracesIn m (at + 8) (e .body) ++ ts) number (later .0 ∙ ap (λ (p : ℕ). tracesFrom p es) place),
+            ∙ ap (λ (m : ℕ). tracesIn m (at + 8) (e .body) ++ rowTraces all more) number
+            ∙ ap (λ (ts : List TraceAt). tracesIn (eventNumber (e .body)) (at + 8) (e .body) ++ ts) (later .0)
+            ∙ ap (λ (p : ℕ). tracesIn (eventNumber (e .body)) (at + 8) (e .body) ++ tracesFrom p es) place,
         (
           (λ k. absurd (omega arith)),
           All-append Headed kids more (headed-children i (at + 8) ch (ap (λ (r : Row). r .kind) there ∙ first .0)) (later .1),
@@ -98,35 +105,32 @@ module _ (f : File) (v : Valid f) where
   abbrev c : Container
   c = configurationOf f
 
-  abbrev ch : List Child
-  ch = childrenOf (c .body)
-
+  -- The rows of the header, of the configuration and of its entries.
   abbrev front : List Row
-  front = record { kind = 1; start = 0; whole = 8; parent = 0; one = versionOf f; two = 0 }
-      ∷ (record { kind = 2; start = 8; whole = 8 + total ch; parent = 0; one = length (c .body); two = 0 } ∷ childRows 2 16 ch)
+  front = record { kind = 1; start = 0; whole = 8; parent = 0; one = versionOf f; two = 0 } ∷ (configurationRow c ∷ recordRows 2 16 (c .body))
 
-  walked : (rowTraces (rowsOf f) (rows (3 + length ch) (8 + (8 + total ch)) (map eventNode (eventsOf f))) ≡ tracesFrom (8 + (8 + total ch)) (eventsOf f))
-      × All (Headed (rowsOf f)) (rows (3 + length ch) (8 + (8 + total ch)) (map eventNode (eventsOf f)))
+  walked : (rowTraces (rowsOf f) (rowsBehind f) ≡ tracesFrom (nextPlace 8 c) (eventsOf f)) × All (Headed (rowsOf f)) (rowsBehind f)
   unfolding rowsOf nodesOf rows
-  walked = events (rowsOf f) front (3 + length ch) (8 + (8 + total ch)) (eventsOf f) (v .events-valid) (omega (arith, length-childRows 2 16 ch)) refl
+  walked =
+      let number : nextRow 2 c ≡ suc (length front) = omega (arith, length-childRows 2 16 (childrenOf (c .body))) in
+      events (rowsOf f) front (nextRow 2 c) (nextPlace 8 c) (eventsOf f) (v .events-valid) number refl
 
   -- The traces of a file, from its rows alone.
   pub traces-are-rows : tracesOf f ≡ rowTraces (rowsOf f) (rowsOf f)
   unfolding tracesOf rowsOf nodesOf rows rowTraces
   traces-are-rows =
-      let more : List Row = rows (3 + length ch) (8 + (8 + total ch)) (map eventNode (eventsOf f)) in
       ap (λ (x : ℕ). tracesFrom (8 + (8 + x)) (eventsOf f)) (sym (children-total (c .body)))
       ∙ sym (walked .0)
-      ∙ sym (no-entries (rowsOf f) 2 16 (c .body) more (v .entries-valid))
+      ∙ sym (no-entries (rowsOf f) 2 16 (c .body) (rowsBehind f) (v .entries-valid))
 
   -- Behind the parent's row of a trace's row stands an administrative row.
   pub number-row-administrative : (j : ℕ) → j < length (rowsOf f) → row (rowsOf f) j .kind ≡ traceKind .row
       → row (rowsOf f) (row (rowsOf f) j .parent) .kind ≡ administrativeKind .row
   unfolding rowsOf nodesOf rows
   number-row-administrative j l =
-      let more : List Row = rows (3 + length ch) (8 + (8 + total ch)) (map eventNode (eventsOf f)) in
+      let entries = headed-entries (rowsOf f) 2 16 (c .body) (v .entries-valid) in
       let all : All (Headed (rowsOf f)) (rowsOf f) = (
         (λ k. absurd (omega arith)),
-        ((λ k. absurd (omega arith)), All-append (Headed (rowsOf f)) (childRows 2 16 ch) more (headed-entries (rowsOf f) 2 16 (c .body) (v .entries-valid)) (walked .1)),
+        ((λ k. absurd (omega arith)), All-append (Headed (rowsOf f)) (recordRows 2 16 (c .body)) (rowsBehind f) entries (walked .1)),
       ) in
       All-at (Headed (rowsOf f)) (rowsOf f) all j l
