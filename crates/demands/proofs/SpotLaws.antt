@@ -7,7 +7,7 @@ use mathlib.Core.Option.{Option, some, none}
 use Prim.Native.Nat.{ℕ, suc, _+_, _<_}
 use native.Mathlib.Omega.{arith}
 use lib.ListN.{length, length-append, length-map}
-use Rattle.theory.specs.Layout.{Row, Child, total, childRows, rows, row}
+use Rattle.theory.specs.Layout.{Row, childRows, rows, row}
 use Rattle.theory.proofs.Items.{length-encs}
 use Rattle.theory.proofs.LayoutLaws.{AllFrom, AllFrom-append, AllFrom-at, length-childRows}
 use Rattle.theory.proofs.FreeLaws.{Spot, plug}
@@ -15,12 +15,12 @@ use Rattle.note.specs.Trace.{traceKind}
 use Rattle.note.specs.Records.{Record, entry, isKind, behind, recordSize, recordsBytes, kindOf}
 use Rattle.note.specs.Events.{Container, containerSize, eventsBytes}
 use Rattle.note.specs.Files.{File, configurationOf, eventsOf}
-use Rattle.note.specs.Rows.{childOf, childrenOf, eventNode, nodesOf, rowsOf}
+use Rattle.note.specs.Rows.{childOf, childrenOf, nodesOf, rowsOf}
 use Rattle.note.proofs.KindCases.{kind-cases}
 use Rattle.demands.specs.Valid.{ValidRecord, ValidRecords, Valid}
 use Rattle.demands.specs.RowRecords.{containerRecords, eventsRecords, rowRecords}
 use Rattle.demands.proofs.Bundles.{recordItem, eventItem}
-use Rattle.demands.proofs.RowLaws.{children-total}
+use Rattle.demands.proofs.RowLaws.{children-total, nextRow, nextPlace, recordRows, eventRows, rowsBehind}
 
 -- Only a trace has row kind 7.
 pub trace-kind : (k : ℕ) → kindOf k .row ≡ 7 → k ≡ traceKind .word
@@ -84,60 +84,62 @@ Found f n r = r .kind ≡ 7 → (p : Spot) × (t : Record) × (eventsOf f ≡ pl
 length-records : (rs : List Record) → length (map {B = Option Record} some rs) ≡ length rs
 length-records rs = length-map rs some
 
+rows-of-records : (i at : ℕ) (rs : List Record) → length (recordRows i at rs) ≡ length rs
+rows-of-records i at rs = length-childRows i at (childrenOf rs) ∙ length-map rs childOf
+
 module _ (f : File) where
-  entries-none : (i at n : ℕ) (rs : List Record) → ValidRecords entry rs → AllFrom (Found f) n (childRows i at (childrenOf rs))
+  entries-none : (i at n : ℕ) (rs : List Record) → ValidRecords entry rs → AllFrom (Found f) n (recordRows i at rs)
   unfolding childRows childOf behind
   entries-none i at n [] v = tt
   entries-none i at n (r ∷ rs) v = ((λ k. absurd (entry-no-trace r (v .0) k)), entries-none i (at + recordSize r) (suc n) rs (v .1))
 
-  found-children : (before : List Container) (word : ℕ) (left rs : List Record) (after : List Container) (i at n : ℕ)
-      → eventsOf f ≡ before ++ record { kind = word; body = left ++ rs } ∷ after
-      → at ≡ placeOf (configurationOf f) (record { before = before; word = word; left = left; right = []; after = after })
-      → n ≡ length (recordsBefore (configurationOf f) (record { before = before; word = word; left = left; right = []; after = after }))
-      → AllFrom (Found f) n (childRows i at (childrenOf rs))
-  unfolding childRows childOf
-  found-children before word left [] after i at n e ea en = tt
-  found-children before word left (r ∷ rs) after i at n e ea en =
-      let c : Container = configurationOf f in
-      let more : List Record = left ++ r ∷ [] in
-      let bytes-more : length (recordsBytes more) ≡ length (recordsBytes left) + recordSize r =
-      length-encs recordItem left r [] ∙ omega arith in
-      let rows-more : length (recordsBefore c (record { before = before; word = word; left = more; right = []; after = after }))
-      ≡ suc (length (recordsBefore c (record { before = before; word = word; left = left; right = []; after = after }))) =
-      omega (
-        arith,
-        length-append (containerRecords c) (eventsRecords before ++ (none ∷ map some more)),
-        length-append (eventsRecords before) (none ∷ map some more),
-        length-append (containerRecords c) (eventsRecords before ++ (none ∷ map some left)),
-        length-append (eventsRecords before) (none ∷ map some left),
-        length-records more,
-        length-records left,
-        length-append left (r ∷ []),
-      ) in (
-        (λ k. (
-          record { before = before; word = word; left = left; right = rs; after = after },
-          r,
-          e,
-          en,
-          ea,
-          refl,
-          trace-kind (r .kind) k,
-        )),
-        found-children before word more rs after i (at + recordSize r) (suc n)
-            (e ∙ ap (λ (b : List Record). before ++ record { kind = word; body = b } ∷ after) (sym (append-assoc left (r ∷ []) rs)))
-            (omega arith)
-            (omega arith),
-      )
+  -- An event with the given word, the events before it and after it.
+  module _ (before : List Container) (word : ℕ) (after : List Container) where
+    -- The spot behind the records that were passed.
+    abbrev passed : List Record → Spot
+    passed left = record { before = before; word = word; left = left; right = []; after = after }
 
-  found-events : (before es : List Container) (i at n : ℕ) → eventsOf f ≡ before ++ es → at ≡ 8 + containerSize (configurationOf f) + length (eventsBytes before)
-      → n ≡ suc (length (containerRecords (configurationOf f)) + length (eventsRecords before)) → AllFrom (Found f) n (rows i at (map eventNode es))
+    -- How many rows stand before that spot.
+    rows-before : (left : List Record)
+        → length (recordsBefore (configurationOf f) (passed left))
+        ≡ suc (length (containerRecords (configurationOf f)) + (length (eventsRecords before) + suc (length left)))
+    rows-before left =
+        let here : List (Option Record) = none ∷ map some left in
+        omega (
+          arith,
+          length-append (containerRecords (configurationOf f)) (eventsRecords before ++ here),
+          length-append (eventsRecords before) here,
+          length-records left,
+        )
+
+    -- Its records: those passed, then those to come, the first of them at the place `at` and in row n.
+    found-children : (left rs : List Record) (i at n : ℕ)
+        → eventsOf f ≡ before ++ record { kind = word; body = left ++ rs } ∷ after
+        → at ≡ placeOf (configurationOf f) (passed left) → n ≡ length (recordsBefore (configurationOf f) (passed left))
+        → AllFrom (Found f) n (recordRows i at rs)
+    unfolding childRows childOf
+    found-children left [] i at n e ea en = tt
+    found-children left (r ∷ rs) i at n e ea en =
+        let more : List Record = left ++ r ∷ [] in
+        let bytes-more : length (recordsBytes more) ≡ length (recordsBytes left) + recordSize r =
+        length-encs recordItem left r [] ∙ omega arith in
+        let regroup = ap (λ (b : List Record). before ++ record { kind = word; body = b } ∷ after) (sym (append-assoc left (r ∷ []) rs)) in
+        let spot : Spot = record { before = before; word = word; left = left; right = rs; after = after } in (
+          (λ k. (spot, r, e, en, ea, refl, trace-kind (r .kind) k)),
+          found-children more rs i (at + recordSize r) (suc n) (e ∙ regroup) (omega arith)
+              (omega (arith, rows-before left, rows-before more, length-append left (r ∷ []))),
+        )
+
+  -- The events: those passed, then those to come, the first of them at the place `at` and in row n.
+  found-events : (before es : List Container) (i at n : ℕ) → eventsOf f ≡ before ++ es
+      → at ≡ 8 + containerSize (configurationOf f) + length (eventsBytes before)
+      → n ≡ suc (length (containerRecords (configurationOf f)) + length (eventsRecords before))
+      → AllFrom (Found f) n (eventRows i at es)
   unfolding rows
   found-events before [] i at n e ea en = tt
   found-events before (x ∷ es) i at n e ea en =
-      let c : Container = configurationOf f in
-      let ch : List Child = childrenOf (x .body) in
-      let kids : List Row = childRows i (at + 8) ch in
-      let size : length kids ≡ length (x .body) = length-childRows i (at + 8) ch ∙ length-map (x .body) childOf in
+      let kids : List Row = recordRows i (at + 8) (x .body) in
+      let size : length kids ≡ length (x .body) = rows-of-records i (at + 8) (x .body) in
       let more : List Container = before ++ x ∷ [] in
       let bytes-more : length (eventsBytes more) ≡ length (eventsBytes before) + containerSize x =
       length-encs eventItem before x [] ∙ omega arith in
@@ -149,17 +151,11 @@ module _ (f : File) where
         length-append (containerRecords x) [],
         length-records (x .body),
       ) in
-      let first : length (recordsBefore c (record { before = before; word = x .kind; left = []; right = []; after = es }))
-      ≡ suc (length (containerRecords c) + suc (length (eventsRecords before))) =
-      omega (
-        arith,
-        length-append (containerRecords c) (eventsRecords before ++ (none ∷ [])),
-        length-append (eventsRecords before) (none ∷ []),
-      ) in (
+      let first = rows-before before (x .kind) es [] in (
         (λ k. absurd (omega arith)),
-        AllFrom-append (Found f) (suc n) kids (rows (i + 1 + length ch) (at + (8 + total ch)) (map eventNode es))
-            (found-children before (x .kind) [] (x .body) es i (at + 8) (suc n) e (omega arith) (omega arith))
-            (found-events more es (i + 1 + length ch) (at + (8 + total ch)) (suc n + length kids)
+        AllFrom-append (Found f) (suc n) kids (eventRows (nextRow i x) (nextPlace at x) es)
+            (found-children before (x .kind) es [] (x .body) i (at + 8) (suc n) e (omega arith) (omega arith))
+            (found-events more es (nextRow i x) (nextPlace at x) (suc n + length kids)
             (e ∙ sym (append-assoc before (x ∷ []) es))
             (omega (arith, children-total (x .body)))
             (omega arith)),
@@ -173,18 +169,18 @@ traces-found f v j h = subst (λ (m : ℕ). Found f m (row (rowsOf f) j)) (omega
     c : Container
     c = configurationOf f
 
-    ch : List Child
-    ch = childrenOf (c .body)
+    kids : List Row
+    kids = recordRows 2 16 (c .body)
 
     all : AllFrom (Found f) 0 (rows 1 0 (nodesOf f))
     all =
-        let size : length (childRows 2 16 ch) ≡ length (c .body) = length-childRows 2 16 ch ∙ length-map (c .body) childOf in (
+        let size : length kids ≡ length (c .body) = rows-of-records 2 16 (c .body) in (
           (λ k. absurd (omega arith)),
           (
             (λ k. absurd (omega arith)),
-            AllFrom-append (Found f) 2 (childRows 2 16 ch) (rows (3 + length ch) (8 + (8 + total ch)) (map eventNode (eventsOf f)))
+            AllFrom-append (Found f) 2 kids (rowsBehind f)
                 (entries-none f 2 16 2 (c .body) (v .entries-valid))
-                (found-events f [] (eventsOf f) (3 + length ch) (8 + (8 + total ch)) (2 + length (childRows 2 16 ch)) refl
+                (found-events f [] (eventsOf f) (nextRow 2 c) (nextPlace 8 c) (2 + length kids) refl
                 (omega (arith, children-total (c .body))) (omega (arith, length-records (c .body)))),
           ),
         )
