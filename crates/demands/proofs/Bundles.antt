@@ -5,15 +5,14 @@ use mathlib.Core.Bool.{Bool, true}
 use mathlib.Core.List.{List, [], _∷_}
 use Prim.Native.Nat.{ℕ, suc}
 use native.Mathlib.Omega.{arith}
-use lib.Dec.{leb}
 use lib.ListN.{length}
-use borrow.Author.Tests.{leb-true, le-leb}
 use Rattle.theory.specs.Tests.{unless}
-use Rattle.theory.proofs.TestLaws.{unless-zero}
+use Rattle.theory.proofs.TestLaws.{unless-zero, unless-holds, most-passed, most-passes}
 use Rattle.theory.proofs.Items.{Item, Whole, seqW, Oks}
 use Rattle.theory.proofs.StructureLaws.{structure, ruled, inside, pair, twoWords}
 use Rattle.note.specs.Words.{order}
-use Rattle.note.specs.Records.{Record, Context, entry, event, none, isKind, isAllowed, recordHead, recordLate, recordRule, recordStep, readRecord, readRecords}
+use Rattle.note.specs.Records.{Record, Context, entry, event, none, isKind, isAllowed, recordHead, recordLate, recordRule, recordStep}
+use Rattle.note.specs.Records.{readRecord, readRecords}
 use Rattle.note.specs.Events.{Container, eventHead, eventLate, eventStep, readEvent, readEvents}
 use Rattle.note.specs.Files.{File, fileMark, versionRule, configurationHead, configurationLate, readHeader, readConfiguration, readParts, fileBytes}
 use Rattle.demands.specs.Valid.{ValidRecord, ValidRecords, ValidEvent, ValidEvents}
@@ -66,11 +65,9 @@ same-bytes f = refl
 
 -- ---- valid is what the items ask
 
+-- A test that gave no fault holds.
 from-test : (t : Bool) (c : ℕ) → unless t (suc c) ≡ 0 → t ≡ true
 from-test t c e = unless-zero t (suc c) (omega arith) e
-
-to-test : (t : Bool) (c : ℕ) → t ≡ true → unless t c ≡ 0
-to-test t c e = rw e
 
 pub record-valid : (c : Context) (r : Record) → recordItem .Ok c r → ValidRecord c r
 record-valid c r v = record {
@@ -84,8 +81,8 @@ record-valid c r v = record {
 
 pub record-ok : (c : Context) (r : Record) → ValidRecord c r → recordItem .Ok c r
 record-ok c r v = record {
-  head-ok = to-test (isKind c (r .kind)) 5 (v .kind-allowed);
-  late-ok = to-test (isAllowed c (r .kind)) 9 (v .place-allowed);
+  head-ok = unless-holds (isKind c (r .kind)) 5 (v .kind-allowed);
+  late-ok = unless-holds (isAllowed c (r .kind)) 9 (v .place-allowed);
   kind-word = v .kind-fits;
   length-word = v .length-fits;
   body-ok = (v .body-bytes, v .body-rule);
@@ -103,7 +100,7 @@ pub event-valid : (e : Container) → eventItem .Ok tt e → ValidEvent e
 event-valid e v = record {
   word-rule = v .head-ok;
   word-fits = v .kind-word;
-  not-empty = leb-true 1 (length (records .enc (e .body))) (from-test (leb 1 (length (records .enc (e .body)))) 8 (v .late-ok));
+  not-empty = most-passed 1 (length (records .enc (e .body))) 8 (v .late-ok);
   length-fits = v .length-word;
   records-valid = records-valid (event none) (e .body) (v .body-ok);
 }
@@ -111,7 +108,7 @@ event-valid e v = record {
 pub event-ok : (e : Container) → ValidEvent e → eventItem .Ok tt e
 event-ok e v = record {
   head-ok = v .word-rule;
-  late-ok = to-test (leb 1 (length (records .enc (e .body)))) 9 (le-leb 1 (length (records .enc (e .body))) (v .not-empty));
+  late-ok = most-passes 9 (v .not-empty);
   kind-word = v .word-fits;
   length-word = v .length-fits;
   body-ok = records-ok (event none) (e .body) (v .records-valid);

@@ -113,7 +113,7 @@ valid-configuration c v = record {
   entries = records-valid entry (c .body) (v .body-ok);
 }
 
-length-front : (w n : ℕ) → length (front w n) ≡ 8
+pub length-front : (w n : ℕ) → length (front w n) ≡ 8
 length-front w n = omega (arith, length-append (put order 4 w) (put order 4 n), length-put order 4 w, length-put order 4 n)
 
 length-header : (v : ℕ) → length (headerBytes v) ≡ 8

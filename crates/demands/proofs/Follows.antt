@@ -5,12 +5,11 @@ use mathlib.Core.Logic.{_↔_}
 use mathlib.Core.List.{List, []}
 use Prim.Native.Nat.{ℕ, _≤_}
 use native.Mathlib.Omega.{arith}
-use lib.Dec.{leb, eqb}
+use lib.Dec.{leb}
 use lib.ListN.{length}
-use borrow.Author.Tests.{leb-true, le-leb, eqb-true, eq-eqb}
 use Rattle.theory.specs.Tests.{Res, ok, unless}
 use Rattle.theory.specs.Words.{Bytes}
-use Rattle.theory.proofs.TestLaws.{unless-zero, need-ok}
+use Rattle.theory.proofs.TestLaws.{need-ok, equal-passed, equal-passes, most-passed, most-passes}
 use Rattle.theory.proofs.Items.{unique}
 use Rattle.note.specs.Limits.{fileLimit}
 use Rattle.note.specs.Records.{entry}
@@ -23,8 +22,7 @@ pub parts-valid : (f : File) → parts .Ok tt f → length (fileBytes f) ≤ fil
 parts-valid f v l = record {
   version-rule = v .0 .0;
   version-fits = v .0 .1;
-  configuration-word = eqb-true (configurationOf f .kind) configurationWord
-      (unless-zero (eqb (configurationOf f .kind) configurationWord) 5 (omega arith) (v .1 .0 .head-ok));
+  configuration-word = equal-passed (configurationOf f .kind) configurationWord 4 (v .1 .0 .head-ok);
   configuration-fits = v .1 .0 .length-word;
   entries-valid = records-valid entry (configurationOf f .body) (v .1 .0 .body-ok);
   events-valid = events-valid (eventsOf f) (v .1 .1);
@@ -37,7 +35,7 @@ parts-ok f v =
       (v .version-rule, v .version-fits),
       (
         record {
-          head-ok = rw (eq-eqb (configurationOf f .kind) configurationWord e);
+          head-ok = equal-passes 5 e;
           late-ok = refl;
           kind-word = rw e (omega arith);
           length-word = v .configuration-fits;
@@ -52,11 +50,11 @@ pub within : (bs : List ℕ) (f : File) → readFile bs ≡ ok f → (length bs 
 unfolding readFile
 within bs f e =
     let (l, p) = need-ok (unless (leb (length bs) fileLimit) 1) 0 (readParts bs) e in
-    (leb-true (length bs) fileLimit (unless-zero (leb (length bs) fileLimit) 1 (omega arith) l), sym (same-parts bs) ∙ p)
+    (most-passed (length bs) fileLimit 0 l, sym (same-parts bs) ∙ p)
 
 pub read-within : (bs : List ℕ) (r : Res File) → length bs ≤ fileLimit → parts .read tt 0 bs ≡ r → readFile bs ≡ r
 unfolding readFile
-read-within bs r l e = rw (le-leb (length bs) fileLimit l) (same-parts bs ∙ e)
+read-within bs r l e = rw (most-passes 1 l) (same-parts bs ∙ e)
 
 -- Sound: what was accepted is the bytes of a valid tree.
 pub file-sound : (bs : List ℕ) (f : File) → Bytes bs → readFile bs ≡ ok f → (bs ≡ fileBytes f) × Valid f

@@ -13,7 +13,7 @@ use Rattle.theory.specs.Layout.{Row, total, extents, childRows, rows, row, Tile
 use Rattle.theory.proofs.StructureLaws.{length-structure}
 use Rattle.theory.proofs.LayoutLaws.{GoodChildren, Good, row-tiles, few-rows, owner, owner-one, parent-before, All, All-at, all-inside}
 use Rattle.note.specs.Words.{order}
-use Rattle.note.specs.Records.{Record, recordBytes, recordsBytes, kindOf}
+use Rattle.note.specs.Records.{Record, recordBytes, recordSize, recordsBytes, kindOf}
 use Rattle.note.specs.Events.{Container, containerBytes, containerSize, eventsBytes}
 use Rattle.note.specs.Files.{File, configurationOf, eventsOf, versionOf, headerBytes, fileBytes, readFile}
 use Rattle.note.specs.Rows.{childOf, childrenOf, eventNode, nodesOf, rowsOf, isBox}
@@ -23,11 +23,14 @@ use Rattle.demands.proofs.Follows.{file-sound}
 
 -- ---- sizes
 
+pub record-size : (r : Record) → length (recordBytes r) ≡ recordSize r
+record-size r = length-structure order (λ (b : List ℕ). b) r
+
 pub children-total : (rs : List Record) → total (childrenOf rs) ≡ length (recordsBytes rs)
 unfolding childOf
 children-total [] = refl
 children-total (r ∷ rs) =
-    omega (arith, length-append (recordBytes r) (recordsBytes rs), length-structure order (λ (b : List ℕ). b) r, children-total rs)
+    omega (arith, length-append (recordBytes r) (recordsBytes rs), record-size r, children-total rs)
 
 pub container-size : (c : Container) → length (containerBytes c) ≡ containerSize c
 container-size c = length-structure order recordsBytes c

@@ -20,7 +20,8 @@ use Rattle.note.specs.Calls.{TraceAt, tracesIn, tracesFrom, tracesOf, eventNumb
 use Rattle.demands.specs.Valid.{ValidRecords, ValidEvent, ValidEvents, Valid}
 use Rattle.demands.specs.RowTraces.{rowTraces}
 use Rattle.demands.proofs.EventLaws.{first-administrative}
-use Rattle.demands.proofs.RowLaws.{children-total, configurationRow, eventRow, nextRow, nextPlace, recordRows, eventRows, rowsBehind}
+use Rattle.demands.proofs.RowLaws.{children-total}
+use Rattle.demands.proofs.RowLaws.{configurationRow, eventRow, nextRow, nextPlace, recordRows, eventRows, rowsBehind}
 use Rattle.demands.proofs.SpotLaws.{trace-kind, entry-no-trace}
 
 -- Rows that begin with the row of an event's first record: administrative, with the event's number.
