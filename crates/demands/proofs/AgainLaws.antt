@@ -18,13 +18,15 @@ use Rattle.note.specs.History.{historyKind, historyOf, historyRule}
 use Rattle.note.specs.Gps.{gpsKind, gpsOf, gpsRule}
 use Rattle.note.specs.Trigger.{triggerKind, triggerOf, triggerRule}
 use Rattle.note.specs.Tlb.{tlbKind, tlbOf, tlbRule}
-use Rattle.note.specs.Writers.{Written, wrapped, phononWritten, chargeWritten, administrativeWritten, traceWritten, historyWritten, gpsWritten, triggerWritten, tlbWritten}
+use Rattle.note.specs.Writers.{Written, wrapped, phononWritten, chargeWritten, administrativeWritten, traceWritten}
+use Rattle.note.specs.Writers.{historyWritten, gpsWritten, triggerWritten, tlbWritten}
 use Rattle.note.proofs.SignedLaws.{signed-again}
 use Rattle.note.proofs.FieldLaws.{phonon-restored, charge-restored, administrative-restored, trigger-restored, tlb-restored}
 use Rattle.note.proofs.TraceLaws.{trace-accepted, trace-restored}
 use Rattle.note.proofs.HistoryLaws.{history-faultless, history-restored}
 use Rattle.note.proofs.GpsLaws.{gps-restored}
 
+-- The fields of the body b of kind k, written as w, have no fault, and the bytes are the record.
 pub record Again (k : Kind) (b : List ℕ) (w : Written) : Type 0 where
   pub fine : w .fault ≡ 0
   pub same : w .bytes ≡ wrapped k b
@@ -58,8 +60,10 @@ module _ (b : List ℕ) (h : Bytes b) where
   trace-again e =
       let size : length (drop 48 b) ≡ 2 * word 44 b = omega (arith, length-drop 48 b, trace-accepted b e .size) in
       let book = first-at _ e 1 in
+      let base = first-at _ e 2 in
+      let samples = first-at _ e 3 in
       again traceKind b _ _
-      (first-passes _ (first-at _ book 2, (first-at _ book 3, (first-at _ (first-at _ e 2) 2, (first-at _ (first-at _ e 3) 1, (equal-passes 6 size, tt))))))
+      (first-passes _ (first-at _ book 2, (first-at _ book 3, (first-at _ base 2, (first-at _ samples 1, (equal-passes 6 size, tt))))))
       (trace-restored b h e)
 
   pub history-again : historyRule b ≡ 0 → Again historyKind b (historyWritten (historyOf b))

@@ -8,7 +8,8 @@ use Rattle.theory.specs.Tests.{ok}
 use Rattle.note.specs.Examples.{p14}
 use Rattle.note.proofs.Computing.{computing}
 use Rattle.demands.specs.Pieces.{administrative, tlb, writtenOf, recordOf, PieceFits}
-use Rattle.demands.specs.Assembly.{FilePieces, FileFits, FileFaultless, FilePlaced, recordsAssembled, containerAssembled, eventsAssembled, fileAssembled}
+use Rattle.demands.specs.Assembly.{FilePieces, FileFits, FileFaultless, FilePlaced}
+use Rattle.demands.specs.Assembly.{recordsAssembled, containerAssembled, eventsAssembled, fileAssembled}
 
 abbrev pieces : FilePieces
 pieces = record {

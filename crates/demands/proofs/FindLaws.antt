@@ -5,6 +5,7 @@ use mathlib.Core.Path.{_≡_, refl, sym, ap, _∙_}
 use mathlib.Core.Bool.{Bool, true, false, cond}
 use mathlib.Core.List.{List, [], _∷_, _++_}
 use Prim.Native.Nat.{ℕ}
+use native.Mathlib.Omega.{arith}
 use Rattle.theory.specs.Words.{Bytes}
 use Rattle.theory.specs.Tests.{ok, bad}
 use Rattle.note.specs.Answers.{accepted, refused, counts}
@@ -31,35 +32,36 @@ pub record FirstMatch (number code : ℕ) (ts : List TraceAt) (place : ℕ) : Ty
   pub fits : matches number code trace ≡ true
   pub none-before : NoneMatches number code before
 
-pub found-is-first : (number code : ℕ) (ts : List TraceAt) (place : ℕ) → firstMatch number code ts ≡ place ∷ [] → FirstMatch number code ts place
-unfolding firstMatch
-found-is-first number code [] place e = let z : _≡_ {A = ℕ} 0 1 = cc in absurd (omega native.Mathlib.Omega.arith)
-found-is-first number code (t ∷ ts) place e = go (matches number code t) refl e (found-is-first number code ts place)
-  where
-    go : (b : Bool) → matches number code t ≡ b → cond b (t .place ∷ []) (firstMatch number code ts) ≡ place ∷ []
-        → (firstMatch number code ts ≡ place ∷ [] → FirstMatch number code ts place) → FirstMatch number code (t ∷ ts) place
-    go true m q rest = record { before = []; trace = t; later = ts; splits = refl; here = cc; fits = m; none-before = tt }
-    go false m q rest =
-        let r : FirstMatch number code ts place = rest q in
-        record {
-          before = t ∷ r .before;
-          trace = r .trace;
-          later = r .later;
-          splits = ap (λ (l : List TraceAt). t ∷ l) (r .splits);
-          here = r .here;
-          fits = r .fits;
-          none-before = (m, r .none-before);
-        }
+module _ (number code : ℕ) where
+  pub found-is-first : (ts : List TraceAt) (place : ℕ) → firstMatch number code ts ≡ place ∷ [] → FirstMatch number code ts place
+  unfolding firstMatch
+  found-is-first [] place e = let z : _≡_ {A = ℕ} 0 1 = cc in absurd (omega arith)
+  found-is-first (t ∷ ts) place e = go (matches number code t) refl e (found-is-first ts place)
+    where
+      go : (b : Bool) → matches number code t ≡ b → cond b (t .place ∷ []) (firstMatch number code ts) ≡ place ∷ []
+          → (firstMatch number code ts ≡ place ∷ [] → FirstMatch number code ts place) → FirstMatch number code (t ∷ ts) place
+      go true m q rest = record { before = []; trace = t; later = ts; splits = refl; here = cc; fits = m; none-before = tt }
+      go false m q rest =
+          let r : FirstMatch number code ts place = rest q in
+          record {
+            before = t ∷ r .before;
+            trace = r .trace;
+            later = r .later;
+            splits = ap (λ (l : List TraceAt). t ∷ l) (r .splits);
+            here = r .here;
+            fits = r .fits;
+            none-before = (m, r .none-before);
+          }
 
-pub nothing-matches : (number code : ℕ) (ts : List TraceAt) → firstMatch number code ts ≡ [] → NoneMatches number code ts
-unfolding firstMatch
-nothing-matches number code [] e = tt
-nothing-matches number code (t ∷ ts) e = go (matches number code t) refl e (nothing-matches number code ts)
-  where
-    go : (b : Bool) → matches number code t ≡ b → cond b (t .place ∷ []) (firstMatch number code ts) ≡ []
-        → (firstMatch number code ts ≡ [] → NoneMatches number code ts) → NoneMatches number code (t ∷ ts)
-    go true m q rest = let z : _≡_ {A = ℕ} 0 1 = cc in absurd (omega native.Mathlib.Omega.arith)
-    go false m q rest = (m, rest q)
+  pub nothing-matches : (ts : List TraceAt) → firstMatch number code ts ≡ [] → NoneMatches number code ts
+  unfolding firstMatch
+  nothing-matches [] e = tt
+  nothing-matches (t ∷ ts) e = go (matches number code t) refl e (nothing-matches ts)
+    where
+      go : (b : Bool) → matches number code t ≡ b → cond b (t .place ∷ []) (firstMatch number code ts) ≡ []
+          → (firstMatch number code ts ≡ [] → NoneMatches number code ts) → NoneMatches number code (t ∷ ts)
+      go true m q rest = let z : _≡_ {A = ℕ} 0 1 = cc in absurd (omega arith)
+      go false m q rest = (m, rest q)
 
 -- ---- Find's answer
 
@@ -74,14 +76,18 @@ module _ (bs : List ℕ) (f : File) (e : readFile bs ≡ ok f) (number code : �
   unfolding findAt
   found-in = rw e
 
+  -- What Find gives determines what the search gave.
+  search-gave : (ns : List ℕ) → findAt bs number code ≡ accepted (counts ns) → firstMatch number code (tracesOf f) ≡ ns
+  search-gave ns q = counts-determined (firstMatch number code (tracesOf f)) ns (sym found-in ∙ q)
+
   -- "The place of the first trace in file order whose event carries that number and whose code is that code; or nothing."
   pub find-is-first : (place : ℕ) → findAt bs number code ≡ accepted (counts (place ∷ [])) → FirstMatch number code (tracesOf f) place
-  find-is-first place q =
-      found-is-first number code (tracesOf f) place (counts-determined (firstMatch number code (tracesOf f)) (place ∷ []) (sym found-in ∙ q))
+  find-is-first place q = found-is-first number code (tracesOf f) place (search-gave (place ∷ []) q)
 
   pub find-nothing : findAt bs number code ≡ accepted [] → NoneMatches number code (tracesOf f)
-  find-nothing q = nothing-matches number code (tracesOf f) (counts-determined (firstMatch number code (tracesOf f)) [] (sym found-in ∙ q))
+  find-nothing q = nothing-matches number code (tracesOf f) (search-gave [] q)
 
   -- Find looks at nothing of an accepted file but its rows.
   pub find-by-rows : Bytes bs → findAt bs number code ≡ accepted (counts (firstMatch number code (rowTraces (rowsOf f) (rowsOf f))))
-  find-by-rows h = found-in ∙ ap (λ (ts : List TraceAt). accepted (counts (firstMatch number code ts))) (traces-are-rows f (file-sound bs f h e .1))
+  find-by-rows h =
+      found-in ∙ ap (λ (ts : List TraceAt). accepted (counts (firstMatch number code ts))) (traces-are-rows f (file-sound bs f h e .1))

@@ -17,7 +17,8 @@ use Rattle.note.specs.Writers.{wrote, written, contentsOf}
 use Rattle.demands.specs.Outputs.{Laid}
 
 -- A structure's bytes in front of others: its two words, its body, the others.
-pub structure-apart : {B : Type 0} (bodyBytes : B → List ℕ) (c : Structure B) (rest : List ℕ) → structureBytes order bodyBytes c ++ rest
+pub structure-apart : {B : Type 0} (bodyBytes : B → List ℕ) (c : Structure B) (rest : List ℕ)
+    → structureBytes order bodyBytes c ++ rest
     ≡ put order 4 (c .kind) ++ (put order 4 (length (bodyBytes (c .body))) ++ (bodyBytes (c .body) ++ rest))
 structure-apart bodyBytes c rest = simp append-assoc
 
@@ -27,8 +28,8 @@ module _ (old new : List ℕ) (place next : ℕ) (bytes : List ℕ) (l : Laid ol
   -- From the place on: the bytes, and what stood behind.
   pub laid-from : drop place new ≡ bytes ++ drop next old
   laid-from =
-      sym (take-append-drop (length bytes) (drop place new))
-      ∙ ap₂ (λ (x y : List ℕ). x ++ y) (l .here) (drop-drop (length bytes) place new ∙ ap (λ (n : ℕ). drop n new) (sym (l .ends)) ∙ l .behind)
+      let past = drop-drop (length bytes) place new ∙ ap (λ (n : ℕ). drop n new) (sym (l .ends)) ∙ l .behind in
+      sym (take-append-drop (length bytes) (drop place new)) ∙ ap₂ (λ (x y : List ℕ). x ++ y) (l .here) past
 
   pub laid-is : new ≡ take place old ++ (bytes ++ drop next old)
   laid-is = sym (take-append-drop place new) ∙ ap₂ (λ (x y : List ℕ). x ++ y) (l .before) laid-from
@@ -56,31 +57,36 @@ pub none-laid : (old : List ℕ) (place : ℕ) → Laid old old place place []
 none-laid old place = record { before = refl; here = refl; behind = refl; ends = omega arith; size = refl }
 
 -- Bytes behind bytes.
-pub both-laid : (old mid new a b : List ℕ) (p q r : ℕ) → q ≤ length old → Laid old mid p q a → Laid mid new q r b → Laid old new p r (a ++ b)
+pub both-laid : (old mid new a b : List ℕ) (p q r : ℕ) → q ≤ length old → Laid old mid p q a → Laid mid new q r b
+    → Laid old new p r (a ++ b)
 both-laid old mid new a b p q r room x y =
     let ends : q ≡ p + length a = x .ends in
     let last : r ≡ q + length b = y .ends in
     let sum : length (a ++ b) ≡ length a + length b = length-append a b in
     let low : p ≤ q = omega arith in
     let past : drop r mid ≡ drop r old =
-    ap (λ (n : ℕ). drop n mid) last ∙ sym (drop-drop (length b) q mid) ∙ ap (drop (length b)) (x .behind) ∙ drop-drop (length b) q old ∙ ap (λ (n : ℕ). drop n old) (sym last) in
+    ap (λ (n : ℕ). drop n mid) last
+    ∙ sym (drop-drop (length b) q mid) ∙ ap (drop (length b)) (x .behind) ∙ drop-drop (length b) q old
+    ∙ ap (λ (n : ℕ). drop n old) (sym last) in
+    let front : length (take p old) ≡ p = length-take-le p old (omega arith) in
     let kept : take q mid ≡ take p old ++ a =
     ap (take q) (laid-is old mid p q a x ∙ sym (append-assoc (take p old) a (drop q old)))
-    ∙ take-at (take p old ++ a) (drop q old) q (omega (arith, length-append (take p old) a, length-take-le p old (omega arith))) in
-    let is : new ≡ take p old ++ ((a ++ b) ++ drop r old) =
+    ∙ take-at (take p old ++ a) (drop q old) q (omega (arith, length-append (take p old) a, front)) in
+    let rest : List ℕ = drop r old in
+    let is : new ≡ take p old ++ ((a ++ b) ++ rest) =
     laid-is mid new q r b y ∙ ap₂ (λ (s t : List ℕ). s ++ (b ++ t)) kept past ∙ simp append-assoc in
-    let from : drop p new ≡ (a ++ b) ++ drop r old =
-    ap (drop p) is ∙ drop-at (take p old) ((a ++ b) ++ drop r old) p (length-take-le p old (omega arith)) in
+    let from : drop p new ≡ (a ++ b) ++ rest = ap (drop p) is ∙ drop-at (take p old) ((a ++ b) ++ rest) p front in
     record {
-      before = ap (take p) is ∙ take-at (take p old) ((a ++ b) ++ drop r old) p (length-take-le p old (omega arith));
-      here = ap (take (length (a ++ b))) from ∙ take-at (a ++ b) (drop r old) (length (a ++ b)) refl;
+      before = ap (take p) is ∙ take-at (take p old) ((a ++ b) ++ rest) p front;
+      here = ap (take (length (a ++ b))) from ∙ take-at (a ++ b) rest (length (a ++ b)) refl;
       behind = y .behind ∙ past;
       ends = omega arith;
       size = y .size ∙ x .size;
     }
 
 -- Bytes that begin before others and end with them, as a closed container around its contents.
-pub around-laid : (old mid new a b : List ℕ) (p q r : ℕ) → p ≤ q → Laid old mid q r a → Laid mid new p r b → Laid old new p r b
+pub around-laid : (old mid new a b : List ℕ) (p q r : ℕ) → p ≤ q → Laid old mid q r a → Laid mid new p r b
+    → Laid old new p r b
 around-laid old mid new a b p q r low x y = record {
   before = y .before ∙ sym (take-take p q mid low) ∙ ap (take p) (x .before) ∙ take-take p q old low;
   here = y .here;

@@ -16,7 +16,8 @@ use Rattle.note.specs.Files.{File, readFile}
 use Rattle.note.specs.Rows.{rowsOf, rowNumbers, flat, tableAnswer, tableBuffer, yieldAt}
 
 -- six numbers from row k on are row k's
-flat-at : (rs : List Row) (rest : List ℕ) (k : ℕ) → k < length rs → take rowWidth (drop (rowWidth * k) (flat rs ++ rest)) ≡ rowNumbers (row rs k)
+flat-at : (rs : List Row) (rest : List ℕ) (k : ℕ) → k < length rs
+    → take rowWidth (drop (rowWidth * k) (flat rs ++ rest)) ≡ rowNumbers (row rs k)
 unfolding flat
 flat-at [] rest k h = absurd (not-suc-le-zero h)
 flat-at (r ∷ rs) rest zero h = refl
