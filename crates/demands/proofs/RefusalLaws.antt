@@ -29,42 +29,47 @@ bind-numbered : {A B : Type 0} (r : Res A) (k : A → Res B) → Numbered r → 
 bind-numbered (ok a) k h g = g a
 bind-numbered (bad c p) k h g = h
 
+-- A reader that gives nothing else.
+module _ {S A : Type 0} where
+  abbrev Numbers : (S → ℕ → List ℕ → Res A) → Type 0
+  Numbers read = (s : S) (at : ℕ) (bs : List ℕ) → Numbered (read s at bs)
+
 -- ---- the readers of the theory
 
-module _ (o : Order) {S B : Type 0} (head : S → ℕ → ℕ) (late : S → ℕ → ℕ → ℕ) (body : S × ℕ → ℕ → List ℕ → Res B)
-    (numbered : (s : S × ℕ) (at : ℕ) (bs : List ℕ) → Numbered (body s at bs)) where
-  structure-numbered : (s : S) (at : ℕ) (bs : List ℕ) → Numbered (readStructure o head late body s at bs)
+module _ (o : Order) {S B : Type 0} (head : S → ℕ → ℕ) (late : S → ℕ → ℕ → ℕ)
+    (body : S × ℕ → ℕ → List ℕ → Res B) (numbered : Numbers body) where
+  structure-numbered : Numbers (readStructure o head late body)
   structure-numbered s at bs =
       let w : ℕ = wordAt o 4 0 bs in
       let n : ℕ = wordAt o 4 4 bs in
-      let inner : Res (Structure B) = bind (body (s, w) at (take n (drop 8 bs))) (λ b. ok (record { kind = w; body = b })) in
+      let part : List ℕ = take n (drop 8 bs) in
+      let made : B → Res (Structure B) = λ b. ok (record { kind = w; body = b }) in
+      let inner : Res (Structure B) = bind (body (s, w) at part) made in
       let late-on : Res (Structure B) = need (late s w n) at inner in
       let fits-on : Res (Structure B) = need (unless (leb (8 + n) (length bs)) 2) at late-on in
       need-numbered (unless (leb 8 (length bs)) 2) at (need (head s w) at fits-on)
       (need-numbered (head s w) at fits-on
       (need-numbered (unless (leb (8 + n) (length bs)) 2) at late-on
       (need-numbered (late s w n) at inner
-      (bind-numbered (body (s, w) at (take n (drop 8 bs))) (λ b. ok (record { kind = w; body = b })) (numbered (s, w) at (take n (drop 8 bs))) (λ b. tt)))))
+      (bind-numbered (body (s, w) at part) made (numbered (s, w) at part) (λ b. tt)))))
 
-module _ {S A : Type 0} (step : S → A → S) (size : A → ℕ) (read : S → ℕ → List ℕ → Res A)
-    (numbered : (s : S) (at : ℕ) (bs : List ℕ) → Numbered (read s at bs)) where
-  sequence-numbered : (n : ℕ) (s : S) (at : ℕ) (bs : List ℕ) → Numbered (readSequence step size read n s at bs)
+module _ {S A : Type 0} (step : S → A → S) (size : A → ℕ) (read : S → ℕ → List ℕ → Res A) (numbered : Numbers read) where
+  sequence-numbered : (n : ℕ) → Numbers (readSequence step size read n)
   sequence-numbered zero s at bs = tt
   sequence-numbered (suc n) s at [] = tt
   sequence-numbered (suc n) s at (b ∷ bs) =
-      bind-numbered (read s at (b ∷ bs)) (λ a. bind (readSequence step size read n (step s a) (at + size a) (drop (size a) (b ∷ bs))) (λ xs. ok (a ∷ xs)))
-      (numbered s at (b ∷ bs))
-      (λ a. bind-numbered (readSequence step size read n (step s a) (at + size a) (drop (size a) (b ∷ bs))) (λ xs. ok (a ∷ xs))
+      let later : A → Res (List A) = λ a. readSequence step size read n (step s a) (at + size a) (drop (size a) (b ∷ bs)) in
+      bind-numbered (read s at (b ∷ bs)) (λ a. bind (later a) (λ xs. ok (a ∷ xs))) (numbered s at (b ∷ bs))
+      (λ a. bind-numbered (later a) (λ xs. ok (a ∷ xs))
       (sequence-numbered n (step s a) (at + size a) (drop (size a) (b ∷ bs))) (λ xs. tt))
 
-pair-numbered : {S A B : Type 0} (step : S → A → S) (size : A → ℕ) (one : S → ℕ → List ℕ → Res A) (rest : S → ℕ → List ℕ → Res B)
-    → ((s : S) (at : ℕ) (bs : List ℕ) → Numbered (one s at bs)) → ((s : S) (at : ℕ) (bs : List ℕ) → Numbered (rest s at bs))
-    → (s : S) (at : ℕ) (bs : List ℕ) → Numbered (readPair step size one rest s at bs)
-pair-numbered step size one rest h g s at bs =
-    bind-numbered (one s at bs) (λ a. bind (rest (step s a) (at + size a) (drop (size a) bs)) (λ b. ok (a, b))) (h s at bs)
-    (λ a. bind-numbered (rest (step s a) (at + size a) (drop (size a) bs)) (λ b. ok (a, b)) (g (step s a) (at + size a) (drop (size a) bs)) (λ b. tt))
+  pair-numbered : {B : Type 0} (rest : S → ℕ → List ℕ → Res B) → Numbers rest → Numbers (readPair step size read rest)
+  pair-numbered {B = B} rest g s at bs =
+      let later : A → Res B = λ a. rest (step s a) (at + size a) (drop (size a) bs) in
+      bind-numbered (read s at bs) (λ a. bind (later a) (λ b. ok (a, b))) (numbered s at bs)
+      (λ a. bind-numbered (later a) (λ b. ok (a, b)) (g (step s a) (at + size a) (drop (size a) bs)) (λ b. tt))
 
-words-numbered : (o : Order) (fixed wrong : ℕ) (rule : ℕ → ℕ) (s : Unit {0}) (at : ℕ) (bs : List ℕ) → Numbered (readWords o fixed wrong rule s at bs)
+words-numbered : (o : Order) (fixed wrong : ℕ) (rule : ℕ → ℕ) → Numbers (readWords o fixed wrong rule)
 words-numbered o fixed wrong rule s at bs =
     let last : Res ℕ = need (rule (wordAt o 4 4 bs)) at (ok (wordAt o 4 4 bs)) in
     need-numbered (unless (leb 8 (length bs)) 2) at (need (unless (eqb (wordAt o 4 0 bs) fixed) wrong) at last)
@@ -73,39 +78,43 @@ words-numbered o fixed wrong rule s at bs =
 
 -- ---- the readers of the note
 
-record-numbered : (c : Context) (at : ℕ) (bs : List ℕ) → Numbered (readRecord c at bs)
+record-numbered : Numbers readRecord
 unfolding readRecord
-record-numbered c at bs =
+record-numbered =
     structure-numbered order recordHead recordLate (λ s at b. need (recordRule (s .1) b) at (ok b))
-    (λ s at b. need-numbered (recordRule (s .1) b) at (ok b) tt) c at bs
+    (λ s at b. need-numbered (recordRule (s .1) b) at (ok b) tt)
 
-records-numbered : (c : Context) (at : ℕ) (bs : List ℕ) → Numbered (readRecords c at bs)
+records-numbered : Numbers readRecords
 unfolding readRecords
 records-numbered c at bs = sequence-numbered recordStep recordSize readRecord record-numbered (length bs) c at bs
 
-configuration-numbered : (s : Unit {0}) (at : ℕ) (bs : List ℕ) → Numbered (readConfiguration s at bs)
+-- Any container of records.
+container-numbered : (head : Unit {0} → ℕ → ℕ) (late : Unit {0} → ℕ → ℕ → ℕ) (c : Context)
+    → Numbers (readStructure order head late (λ s at bs. readRecords c (at + 8) bs))
+container-numbered head late c =
+    structure-numbered order head late (λ s at bs. readRecords c (at + 8) bs) (λ s at bs. records-numbered c (at + 8) bs)
+
+configuration-numbered : Numbers readConfiguration
 unfolding readConfiguration
-configuration-numbered s at bs =
-    structure-numbered order configurationHead configurationLate (λ s at bs. readRecords entry (at + 8) bs) (λ s at bs. records-numbered entry (at + 8) bs) s at bs
+configuration-numbered = container-numbered configurationHead configurationLate entry
 
-event-numbered : (s : Unit {0}) (at : ℕ) (bs : List ℕ) → Numbered (readEvent s at bs)
+event-numbered : Numbers readEvent
 unfolding readEvent
-event-numbered s at bs =
-    structure-numbered order eventHead eventLate (λ s at bs. readRecords (event none) (at + 8) bs) (λ s at bs. records-numbered (event none) (at + 8) bs) s at bs
+event-numbered = container-numbered eventHead eventLate (event none)
 
-events-numbered : (s : Unit {0}) (at : ℕ) (bs : List ℕ) → Numbered (readEvents s at bs)
+events-numbered : Numbers readEvents
 unfolding readEvents
 events-numbered s at bs = sequence-numbered eventStep containerSize readEvent event-numbered (length bs) s at bs
 
-header-numbered : (s : Unit {0}) (at : ℕ) (bs : List ℕ) → Numbered (readHeader s at bs)
+header-numbered : Numbers readHeader
 unfolding readHeader
-header-numbered s at bs = words-numbered order fileMark 3 versionRule s at bs
+header-numbered = words-numbered order fileMark 3 versionRule
 
 parts-numbered : (bs : List ℕ) → Numbered (readParts bs)
 unfolding readParts
 parts-numbered bs =
-    pair-numbered (λ s v. tt) (λ v. 8) readHeader (readPair (λ s c. tt) containerSize readConfiguration readEvents) header-numbered
-    (pair-numbered (λ s c. tt) containerSize readConfiguration readEvents configuration-numbered events-numbered) tt 0 bs
+    pair-numbered (λ s v. tt) (λ v. 8) readHeader header-numbered (readPair (λ s c. tt) containerSize readConfiguration readEvents)
+    (pair-numbered (λ s c. tt) containerSize readConfiguration configuration-numbered readEvents events-numbered) tt 0 bs
 
 file-numbered : (bs : List ℕ) → Numbered (readFile bs)
 unfolding readFile

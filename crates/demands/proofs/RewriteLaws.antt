@@ -3,18 +3,17 @@
 use mathlib.Core.Path.{_≡_, refl, sym, ap, ap₂, _∙_, subst}
 use mathlib.Core.Bool.{Bool, true, false}
 use mathlib.Core.List.{List, [], _∷_, _++_, map}
-use Prim.Native.Nat.{ℕ, _+_, _≤_, _<_}
+use Prim.Native.Nat.{ℕ, _+_, _≤_}
 use native.Mathlib.Omega.{arith}
 use lib.Dec.{leb}
 use lib.ListN.{length, drop}
 use borrow.Author.Tests.{le-leb, leb-true, leb-false}
 use Rattle.theory.specs.Words.{Bytes}
 use Rattle.theory.specs.Tests.{Res, ok, bad, need, bind, unless}
-use Rattle.theory.specs.Structures.{structureBytes}
+use Rattle.theory.specs.Structures.{sequenceBytes}
 use Rattle.theory.proofs.TestLaws.{ok-bad}
 use Rattle.note.specs.Limits.{fileLimit}
-use Rattle.note.specs.Words.{order}
-use Rattle.note.specs.Records.{Record, Context, entry, event, none, behind, recordsBytes}
+use Rattle.note.specs.Records.{Record, Context, entry, event, none, behind}
 use Rattle.note.specs.Events.{Container, containerBytes, eventsBytes}
 use Rattle.note.specs.Files.{File, versionOf, configurationOf, eventsOf, headerBytes, fileBytes, readFile}
 use Rattle.note.specs.Writers.{recordAgain, containerRewritten, fileRewritten, written, rewritten, rewriteWrote, rewriteOutput}
@@ -31,59 +30,73 @@ record-restored c r v = λ i. record { kind = r .kind; body = again-restores (r 
 
 records-restored : (c : Context) (rs : List Record) → ValidRecords c rs → map recordAgain rs ≡ rs
 records-restored c [] v = refl
-records-restored c (r ∷ rs) v = ap₂ (λ (x : Record) (xs : List Record). x ∷ xs) (record-restored c r (v .0)) (records-restored (behind c (r .kind)) rs (v .1))
+records-restored c (r ∷ rs) v =
+    ap₂ (λ (x : Record) (xs : List Record). x ∷ xs) (record-restored c r (v .0)) (records-restored (behind c (r .kind)) rs (v .1))
 
 container-restored : (c : Context) (x : Container) → ValidRecords c (x .body) → containerRewritten x ≡ containerBytes x
-container-restored c x v = ap (λ (rs : List Record). structureBytes order recordsBytes (record { kind = x .kind; body = rs })) (records-restored c (x .body) v)
+container-restored c x v =
+    ap (λ (rs : List Record). containerBytes (record { kind = x .kind; body = rs })) (records-restored c (x .body) v)
 
-events-restored : (es : List Container) → ValidEvents es → Rattle.theory.specs.Structures.sequenceBytes containerRewritten es ≡ eventsBytes es
+events-restored : (es : List Container) → ValidEvents es → sequenceBytes containerRewritten es ≡ eventsBytes es
 events-restored [] v = refl
-events-restored (e ∷ es) v = ap₂ (λ (a b : List ℕ). a ++ b) (container-restored (event none) e (v .0 .records-valid)) (events-restored es (v .1))
+events-restored (e ∷ es) v =
+    ap₂ (λ (a b : List ℕ). a ++ b) (container-restored (event none) e (v .0 .records-valid)) (events-restored es (v .1))
 
 -- A valid tree, written again from its fields, has its own bytes.
 pub fields-restore : (f : File) → Valid f → fileRewritten f ≡ fileBytes f
 unfolding fileRewritten
 fields-restore f v =
-    ap₂ (λ (a b : List ℕ). headerBytes (versionOf f) ++ (a ++ b)) (container-restored entry (configurationOf f) (v .entries-valid)) (events-restored (eventsOf f) (v .events-valid))
+    ap₂ (λ (a b : List ℕ). headerBytes (versionOf f) ++ (a ++ b))
+    (container-restored entry (configurationOf f) (v .entries-valid)) (events-restored (eventsOf f) (v .events-valid))
+
+-- So an accepted file, written again from its fields, is its bytes.
+bytes-restored : (bs : List ℕ) (f : File) → Bytes bs → readFile bs ≡ ok f → fileRewritten f ≡ bs
+bytes-restored bs f h e = let (is, valid) = file-sound bs f h e in fields-restore f valid ∙ sym is
 
 -- Rewrite of an accepted file, given room: the next place is the file's length; the output is the file, and behind it as it was.
 pub rewrite-restores : (bs out : List ℕ) (f : File) → Bytes bs → readFile bs ≡ ok f → length bs ≤ length out → length out ≤ fileLimit
     → (rewriteWrote bs out ≡ ok (length bs)) × (rewriteOutput bs out ≡ bs ++ drop (length bs) out)
 unfolding rewriteWrote rewriteOutput written
 rewrite-restores bs out f h e room limit =
-    let (is, valid) = file-sound bs f h e in
-    let same : fileRewritten f ≡ bs = fields-restore f valid ∙ sym is in
+    let same : fileRewritten f ≡ bs = bytes-restored bs f h e in
     let l : leb (length out) fileLimit ≡ true = le-leb (length out) fileLimit limit in
     let r : leb (length bs) (length out) ≡ true = le-leb (length bs) (length out) room in
     let z : 0 + length bs ≡ length bs = omega arith in
     (rw (l, e, same, r), rw (l, e, same, r, z))
 
 -- A refusal of Rewrite says which it is, and leaves the output as it was.
-pub rewrite-refused : (bs out : List ℕ) (c p : ℕ) → Bytes bs → rewriteWrote bs out ≡ bad c p → RewriteRefused bs out c p × (rewriteOutput bs out ≡ out)
-unfolding rewriteWrote rewriteOutput
-rewrite-refused bs out c p h e = (over (leb (length out) fileLimit) refl e, refusal-keeps (rewriteWrote bs out) out (rewritten (readFile bs)) 0 c p e)
-  where
-    room : (f : File) → length out ≤ fileLimit → readFile bs ≡ ok f → (t : Bool) → leb (length (fileRewritten f)) (length out) ≡ t
-        → need (unless t 13) 0 (ok (length (fileRewritten f))) ≡ bad c p → RewriteRefused bs out c p
-    room f l r true q z = absurd (ok-bad z)
-    room f l r false q z =
-        let (is, valid) = file-sound bs f h r in
-        let same : fileRewritten f ≡ bs = fields-restore f valid ∙ sym is in
-        let short : length out < length bs = leb-false (length bs) (length out) (subst (λ (x : List ℕ). leb (length x) (length out) ≡ false) same q) in
-        let number : c ≡ 13 = cc in
-        let place : p ≡ 0 = cc in
-        no-room f l r short number place
+module _ (bs out : List ℕ) (c p : ℕ) (h : Bytes bs) where
+  -- What Rewrite answers for an accepted file, by whether it has room.
+  abbrev answered : File → Bool → Res ℕ
+  answered f t = need (unless t 13) 0 (ok (length (fileRewritten f)))
 
-    file : length out ≤ fileLimit → (r : Res File) → readFile bs ≡ r
-        → bind r (λ f. need (unless (leb (length (fileRewritten f)) (length out)) 13) 0 (ok (length (fileRewritten f)))) ≡ bad c p → RewriteRefused bs out c p
-    file l (ok f) r z = room f l r (leb (length (fileRewritten f)) (length out)) refl z
-    file l (bad c′ p′) r z = let same : _≡_ {A = Res File} (bad c′ p′) (bad c p) = cc in file-refused l (r ∙ same)
+  abbrev hasRoom : File → Bool
+  hasRoom f = leb (length (fileRewritten f)) (length out)
 
-    over : (t : Bool) → leb (length out) fileLimit ≡ t
-        → need (unless t 1) 0 (bind (readFile bs) (λ f. need (unless (leb (length (fileRewritten f)) (length out)) 13) 0 (ok (length (fileRewritten f))))) ≡ bad c p
-        → RewriteRefused bs out c p
-    over true q z = file (leb-true (length out) fileLimit q) (readFile bs) refl z
-    over false q z =
-        let number : c ≡ 1 = cc in
-        let place : p ≡ 0 = cc in
-        output-over (leb-false (length out) fileLimit q) number place
+  room-refused : (f : File) → length out ≤ fileLimit → readFile bs ≡ ok f → (t : Bool) → hasRoom f ≡ t
+      → answered f t ≡ bad c p → RewriteRefused bs out c p
+  room-refused f l r true q z = absurd (ok-bad z)
+  room-refused f l r false q z =
+      let less : leb (length bs) (length out) ≡ false =
+      subst (λ (x : List ℕ). leb (length x) (length out) ≡ false) (bytes-restored bs f h r) q in
+      let number : c ≡ 13 = cc in
+      let place : p ≡ 0 = cc in
+      no-room f l r (leb-false (length bs) (length out) less) number place
+
+  read-refused : length out ≤ fileLimit → (r : Res File) → readFile bs ≡ r → bind r (λ f. answered f (hasRoom f)) ≡ bad c p
+      → RewriteRefused bs out c p
+  read-refused l (ok f) r z = room-refused f l r (hasRoom f) refl z
+  read-refused l (bad c′ p′) r z = let same : _≡_ {A = Res File} (bad c′ p′) (bad c p) = cc in file-refused l (r ∙ same)
+
+  limit-refused : (t : Bool) → leb (length out) fileLimit ≡ t
+      → need (unless t 1) 0 (bind (readFile bs) (λ f. answered f (hasRoom f))) ≡ bad c p → RewriteRefused bs out c p
+  limit-refused true q z = read-refused (leb-true (length out) fileLimit q) (readFile bs) refl z
+  limit-refused false q z =
+      let number : c ≡ 1 = cc in
+      let place : p ≡ 0 = cc in
+      output-over (leb-false (length out) fileLimit q) number place
+
+  pub rewrite-refused : rewriteWrote bs out ≡ bad c p → RewriteRefused bs out c p × (rewriteOutput bs out ≡ out)
+  unfolding rewriteWrote rewriteOutput
+  rewrite-refused e =
+      (limit-refused (leb (length out) fileLimit) refl e, refusal-keeps (rewriteWrote bs out) out (rewritten (readFile bs)) 0 c p e)
