@@ -13,21 +13,29 @@ use Rattle.theory.proofs.StructureLaws.{structure, ruled, inside, pair, twoWord
 use Rattle.note.specs.Words.{order}
 use Rattle.note.specs.Records.{Record, Context, entry, event, none, isKind, isAllowed, recordHead, recordLate, recordRule, recordStep}
 use Rattle.note.specs.Records.{readRecord, readRecords}
-use Rattle.note.specs.Events.{Container, eventHead, eventLate, eventStep, readEvent, readEvents}
+use Rattle.note.specs.Events.{Container, eventHead, eventLate, readEvent, readEvents}
 use Rattle.note.specs.Files.{File, fileMark, versionRule, configurationHead, configurationLate, readHeader, readConfiguration, readParts, fileBytes}
 use Rattle.demands.specs.Valid.{ValidRecord, ValidRecords, ValidEvent, ValidEvents}
 
+-- A record's body, by the rule of the kind that its first word names.
+abbrev pub recordBody : Whole (Context × ℕ) (List ℕ)
+recordBody = ruled (λ s. recordRule (s .1))
+
 abbrev pub recordItem : Item Context Record
-recordItem = structure order recordHead recordLate (ruled (λ s. recordRule (s .1))) recordStep
+recordItem = structure order recordHead recordLate recordBody recordStep
 
 abbrev pub records : Whole Context (List Record)
 records = seqW recordItem
 
+-- A container of records with any tests of its own, its records read in the context c.
+abbrev pub box : (Unit {0} → ℕ → ℕ) → (Unit {0} → ℕ → ℕ → ℕ) → Context → Item (Unit {0}) Container
+box head late c = structure order head late (inside (λ s. c) records) (λ s x. tt)
+
 abbrev pub configurationItem : Item (Unit {0}) Container
-configurationItem = structure order configurationHead configurationLate (inside (λ s. entry) records) (λ s c. tt)
+configurationItem = box configurationHead configurationLate entry
 
 abbrev pub eventItem : Item (Unit {0}) Container
-eventItem = structure order eventHead eventLate (inside (λ s. event none) records) eventStep
+eventItem = box eventHead eventLate (event none)
 
 abbrev pub events : Whole (Unit {0}) (List Container)
 events = seqW eventItem
