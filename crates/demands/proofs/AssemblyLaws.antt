@@ -23,11 +23,11 @@ use Rattle.note.specs.Writers.{Written, written, recordWrote, recordOutput, con
 use Rattle.demands.specs.Pieces.{Piece, writtenOf, recordOf}
 use Rattle.demands.specs.Outputs.{Laid}
 use Rattle.demands.specs.Assembly.{AllFitting, EventPieces, FilePieces, containerOf, Built, recordsAssembled, containerAssembled, configurationAssembled, eventAssembled, eventsAssembled, fileAssembled, EventsFitting, FileFits, eventOf, fileOf, Assembled}
-use Rattle.demands.proofs.Bundles.{recordItem, eventItem, parts, same-records}
+use Rattle.demands.proofs.Bundles.{box, recordItem, eventItem, parts, same-records}
 use Rattle.demands.proofs.Follows.{read-within}
 use Rattle.demands.proofs.OutputLaws.{structure-apart, none-laid, both-laid, around-laid, laid-within, laid-contents, granted}
 use Rattle.demands.proofs.WriterLaws.{record-granted, record-laid, header-laid, piece-writes}
-use Rattle.demands.proofs.ClosingLaws.{box, Checked, container-ok, container-laid, configuration-checked, event-checked}
+use Rattle.demands.proofs.ClosingLaws.{Checked, container-ok, container-laid, configuration-checked, event-checked}
 
 -- ---- what is read from the bytes of records is those records
 

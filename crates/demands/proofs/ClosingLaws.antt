@@ -1,8 +1,9 @@
 -- A closing that is accepted leaves a container: read at the place, it has the first word that was asked for and the records of the contents.
 -- The idea: the closing's checks are the reader's tests in another order; one law over any container's tests, then two lines for each kind.
 use mathlib.Core.Path.{_≡_, refl, sym, ap, ap₂, _∙_}
+use mathlib.Core.Bool.{true}
 use mathlib.Core.List.{List, [], _∷_, _++_, append-assoc, append-nil}
-use Prim.Native.Nat.{ℕ, _+_, _-_, _/_, _≤_}
+use Prim.Native.Nat.{ℕ, suc, _+_, _-_, _/_, _≤_}
 use native.Mathlib.Omega.{arith}
 use lib.Dec.{leb}
 use lib.ListN.{length, take, drop, length-drop, take-append-drop}
@@ -11,30 +12,28 @@ use Rattle.theory.specs.Words.{Bytes, Fits, put, puts}
 use Rattle.theory.specs.Tests.{Res, ok, bad, unless, among}
 use Rattle.theory.specs.Structures.{readStructure}
 use Rattle.theory.proofs.WordLaws.{Bytes-take, Bytes-drop, length-puts}
-use Rattle.theory.proofs.TestLaws.{need-ok, bind-ok, ok-inj, most-passed, most-passes, equal-passes, first-at, first-passes, holds-at}
-use Rattle.theory.proofs.Items.{Item}
-use Rattle.theory.proofs.StructureLaws.{structure, inside, length-structure}
+use Rattle.theory.proofs.TestLaws.{need-ok, bind-ok, ok-inj, unless-zero, most-passed, most-passes, equal-passes, first-at, first-passes}
 use Rattle.note.specs.Limits.{fileLimit}
 use Rattle.note.specs.Words.{order}
 use Rattle.note.specs.Records.{Record, Context, entry, event, none, recordsBytes, readRecord, readRecords}
-use Rattle.note.specs.Events.{Container, containerBytes, classOf, categoryOf, eventTypeOf, eventWord, eventMark, eventFault, eventWordRule, eventHead, eventLate, readEvent}
+use Rattle.note.specs.Events.{Container, containerBytes, eventWord, eventMark, eventFault, eventWordRule}
+use Rattle.note.specs.Events.{classOf, categoryOf, eventTypeOf, eventHead, eventLate, readEvent}
 use Rattle.note.specs.Files.{configurationWord, configurationHead, configurationLate, readConfiguration}
-use Rattle.note.specs.Writers.{written, contentsOf, ended, within, closingBytes, configurationClosed, configurationOutput, eventClosed, eventOutput}
-use Rattle.note.proofs.BoolLaws.{among-tells, one-up-to}
+use Rattle.note.specs.Writers.{written, contentsOf, ended, within, closingBytes}
+use Rattle.note.specs.Writers.{configurationClosed, configurationOutput, eventClosed, eventOutput}
+use Rattle.note.proofs.BoolLaws.{among-tells, upTo, one-up-to}
 use Rattle.demands.specs.Outputs.{Laid, Closed}
-use Rattle.demands.proofs.Bundles.{records, same-records}
+use Rattle.demands.proofs.Bundles.{records, box, same-records}
+use Rattle.demands.proofs.RowLaws.{container-size}
 use Rattle.demands.proofs.OutputLaws.{structure-apart, laid-from, put-laid, refusal-keeps}
 
 -- ---- any container
 
 module _ (head : Unit {0} → ℕ → ℕ) (late : Unit {0} → ℕ → ℕ → ℕ) (c : Context) where
-  abbrev pub box : Item (Unit {0}) Container
-  box = structure order head late (inside (λ s. c) records) (λ s x. tt)
-
   abbrev pub reader : Unit {0} → ℕ → List ℕ → Res Container
   reader = readStructure order head late (λ s at bs. readRecords c (at + 8) bs)
 
-  same-box : (s : Unit {0}) (at : ℕ) (bs : List ℕ) → reader s at bs ≡ box .read s at bs
+  same-box : (s : Unit {0}) (at : ℕ) (bs : List ℕ) → reader s at bs ≡ box head late c .read s at bs
   unfolding readRecords readRecord
   same-box s at bs = refl
 
@@ -51,17 +50,20 @@ module _ (head : Unit {0} → ℕ → ℕ) (late : Unit {0} → ℕ → ℕ → 
     pub is : end ≡ next
 
   module _ (out : List ℕ) (place end next word : ℕ) (k : Checked out place end next word) (h : Bytes (contentsOf out place end)) where
-    inner-size : length (contentsOf out place end) ≡ end - (place + 8)
+    abbrev held : List ℕ
+    held = contentsOf out place end
+
+    inner-size : length held ≡ end - (place + 8)
     inner-size = length-take-le (end - (place + 8)) (drop (place + 8) out) (omega (arith, length-drop (place + 8) out, k .room, k .wide))
 
     -- The contents are the records that were read from them, and the container is valid.
-    inner : (contentsOf out place end ≡ recordsBytes (k .read)) × records .Ok c (k .read)
-    inner = records .sound c (place + 8) (contentsOf out place end) (k .read) h (sym (same-records c (place + 8) (contentsOf out place end)) ∙ k .contents)
+    inner : (held ≡ recordsBytes (k .read)) × records .Ok c (k .read)
+    inner = records .sound c (place + 8) held (k .read) h (sym (same-records c (place + 8) held) ∙ k .contents)
 
     size : length (recordsBytes (k .read)) ≡ end - (place + 8)
     size = sym (ap length (inner .0)) ∙ inner-size
 
-    pub container-ok : box .Ok tt (record { kind = word; body = k .read })
+    pub container-ok : box head late c .Ok tt (record { kind = word; body = k .read })
     container-ok = record {
       head-ok = k .head-ok;
       late-ok = ap (late tt word) size ∙ k .late-ok;
@@ -109,9 +111,10 @@ module _ (head : Unit {0} → ℕ → ℕ) (late : Unit {0} → ℕ → ℕ → 
 
     whole-size : length (containerBytes whole) ≡ end - place
     unfolding whole
-    whole-size = omega (arith, length-structure order recordsBytes whole, size, k .wide)
+    whole-size = omega (arith, container-size whole, size, k .wide)
 
-    pub container-laid : Laid out (written (ok next) out place (closingBytes word place end)) place end (containerBytes (record { kind = word; body = k .read }))
+    pub container-laid : Laid out (written (ok next) out place (closingBytes word place end)) place end
+        (containerBytes (record { kind = word; body = k .read }))
     unfolding eight new whole
     container-laid =
         let rest : List ℕ = drop end out in
@@ -120,7 +123,10 @@ module _ (head : Unit {0} → ℕ → ℕ) (late : Unit {0} → ℕ → ℕ → 
         record {
           before = eight-laid .before;
           here = ap (take (length all)) new-from ∙ take-at all rest (length all) refl;
-          behind = ap (λ (m : ℕ). drop m new) (sym last) ∙ sym (drop-drop (end - place) place new) ∙ ap (drop (end - place)) new-from ∙ drop-at all rest (end - place) whole-size;
+          behind = ap (λ (m : ℕ). drop m new) (sym last)
+              ∙ sym (drop-drop (end - place) place new)
+              ∙ ap (drop (end - place)) new-from
+              ∙ drop-at all rest (end - place) whole-size;
           ends = omega (arith, whole-size, k .wide);
           size = eight-laid .size;
         }
@@ -134,11 +140,13 @@ module _ (head : Unit {0} → ℕ → ℕ) (late : Unit {0} → ℕ → ℕ → 
           contents = k .contents;
           ends = sym (k .is);
           reads = same-box tt place (take (end - place) (drop place new))
-              ∙ ap (λ (x : List ℕ). box .read tt place (take (end - place) x)) new-from
-              ∙ ap (box .read tt place) (take-at all (drop end out) (end - place) whole-size ∙ sym (append-nil all))
-              ∙ box .complete tt place whole [] container-ok;
+              ∙ ap (λ (x : List ℕ). box head late c .read tt place (take (end - place) x)) new-from
+              ∙ ap (box head late c .read tt place) (take-at all (drop end out) (end - place) whole-size ∙ sym (append-nil all))
+              ∙ box head late c .complete tt place whole [] container-ok;
           stands = container-laid;
-          contents-stay = ap (λ (m : ℕ). drop (place + m) new) (sym eight-size) ∙ eight-laid .behind ∙ ap (λ (m : ℕ). drop (place + m) out) eight-size;
+          contents-stay = ap (λ (m : ℕ). drop (place + m) new) (sym eight-size)
+              ∙ eight-laid .behind
+              ∙ ap (λ (m : ℕ). drop (place + m) out) eight-size;
         }
 
 -- ---- the two kinds of container
@@ -161,28 +169,49 @@ within-grants n place end r limit room wide =
 ended-ok : (end next : ℕ) (r : Res (List Record)) → ended end r ≡ ok next → (rs : List Record) × (r ≡ ok rs) × (end ≡ next)
 ended-ok end next r e = let (rs, is, q) = bind-ok r (λ rs. ok end) e in (rs, is, ok-inj q)
 
-pub configuration-checked : (out : List ℕ) (place end next : ℕ) → configurationClosed out place end ≡ ok next
-    → Checked configurationHead configurationLate entry out place end next configurationWord
-unfolding configurationClosed
-configuration-checked out place end next e =
-    let (limit, room, wide, q) = within-ok (length out) place end _ next e in
-    let (rs, read, is) = ended-ok end next _ q in
-    record { limit = limit; room = room; wide = wide; fits = omega arith; head-ok = refl; late-ok = refl; read = rs; contents = read; is = is }
+-- The contents of an output of bytes are bytes.
+contents-bytes : (out : List ℕ) (place end : ℕ) → Bytes out → Bytes (contentsOf out place end)
+contents-bytes out place end h = Bytes-take (end - (place + 8)) (drop (place + 8) out) (Bytes-drop (place + 8) out h)
 
--- And what a closing asks is no more.
-pub configuration-grants : (out : List ℕ) (place end : ℕ) → Checked configurationHead configurationLate entry out place end end configurationWord
-    → configurationClosed out place end ≡ ok end
-unfolding configurationClosed
-configuration-grants out place end k =
-    within-grants (length out) place end _ (k .limit) (k .room) (k .wide) ∙ ap (ended end) (k .contents)
+-- A configuration.
+module _ (out : List ℕ) (place end : ℕ) where
+  pub configuration-checked : (next : ℕ) → configurationClosed out place end ≡ ok next
+      → Checked configurationHead configurationLate entry out place end next configurationWord
+  unfolding configurationClosed
+  configuration-checked next e =
+      let (limit, room, wide, q) = within-ok (length out) place end _ next e in
+      let (rs, read, is) = ended-ok end next _ q in
+      record { limit = limit; room = room; wide = wide; fits = omega arith; head-ok = refl; late-ok = refl; read = rs; contents = read; is = is }
+
+  -- And what a closing asks is no more.
+  pub configuration-grants : Checked configurationHead configurationLate entry out place end end configurationWord
+      → configurationClosed out place end ≡ ok end
+  unfolding configurationClosed
+  configuration-grants k = within-grants (length out) place end _ (k .limit) (k .room) (k .wide) ∙ ap (ended end) (k .contents)
+
+  pub configuration-closes : (next : ℕ) → Bytes out → configurationClosed out place end ≡ ok next
+      → Closed readConfiguration entry out (configurationOutput out place end) place end next configurationWord
+  unfolding readConfiguration configurationOutput
+  configuration-closes next h e =
+      rw e (closes configurationHead configurationLate entry out place end next configurationWord
+      (configuration-checked next e) (contents-bytes out place end h))
+
+  -- A refusal leaves the output as it was.
+  pub configuration-refused : (c p : ℕ) → configurationClosed out place end ≡ bad c p → configurationOutput out place end ≡ out
+  unfolding configurationOutput
+  configuration-refused c p e = refusal-keeps (configurationClosed out place end) out (closingBytes configurationWord place end) place c p e
+
+-- A number among those listed is at most the largest of them.
+most-among : (m : ℕ) (xs : List ℕ) (n c : ℕ) → upTo m xs ≡ true → unless (among n xs) (suc c) ≡ 0 → n ≤ m
+most-among m xs n c u e = one-up-to m xs n u (among-tells xs n .0 (unless-zero (among n xs) (suc c) (omega arith) e))
 
 -- The word of an admitted class, category and type is an event's first word.
 module _ (class category type : ℕ) (e : eventFault class category type ≡ 0) where
   pub admitted : (class ≤ 2) × (category ≤ 6) × (type ≤ 10)
   unfolding eventFault
   admitted = (
-    one-up-to 2 (0 ∷ 2 ∷ []) class refl (among-tells (0 ∷ 2 ∷ []) class .0 (holds-at _ e 0 (among class (0 ∷ 2 ∷ [])) 6 refl)),
-    one-up-to 6 (0 ∷ 1 ∷ 6 ∷ []) category refl (among-tells (0 ∷ 1 ∷ 6 ∷ []) category .0 (holds-at _ e 1 (among category (0 ∷ 1 ∷ 6 ∷ [])) 6 refl)),
+    most-among 2 (0 ∷ 2 ∷ []) class 6 refl (first-at _ e 0),
+    most-among 6 (0 ∷ 1 ∷ 6 ∷ []) category 6 refl (first-at _ e 1),
     most-passed type 0xA 6 (first-at _ e 2),
   )
 
@@ -200,63 +229,53 @@ module _ (class category type : ℕ) (e : eventFault class category type ≡ 0) 
       let it : eventTypeOf w ≡ type = omega arith in
       first-passes _ (equal-passes 5 mark, ((λ i. eventFault (is i) (ic i) (it i)) ∙ e, tt))
 
-pub event-checked : (out : List ℕ) (place end class category type next : ℕ) → eventClosed out place end class category type ≡ ok next
-    → Checked eventHead eventLate (event none) out place end next (eventWord class category type)
-unfolding eventClosed
-event-checked out place end class category type next e =
-    let (limit, room, wide, q) = within-ok (length out) place end _ next e in
-    let (fault, q1) = need-ok (eventFault class category type) place _ q in
-    let (some, q2) = need-ok (unless (leb (place + 9) end) 9) place _ q1 in
-    let (rs, read, is) = ended-ok end next _ q2 in
-    let least : 1 ≤ end - (place + 8) = omega (arith, most-passed (place + 9) end 8 some) in
-    record {
-      limit = limit;
-      room = room;
-      wide = wide;
-      fits = event-word-fits class category type fault;
-      head-ok = event-word-admitted class category type fault;
-      late-ok = most-passes 9 least;
-      read = rs;
-      contents = read;
-      is = is;
-    }
+-- An event.
+module _ (out : List ℕ) (place end class category type : ℕ) where
+  abbrev closedEvent : Res ℕ
+  closedEvent = eventClosed out place end class category type
 
-pub event-faultless : (out : List ℕ) (place end class category type next : ℕ) → eventClosed out place end class category type ≡ ok next
-    → eventFault class category type ≡ 0
-unfolding eventClosed
-event-faultless out place end class category type next e = need-ok (eventFault class category type) place _ (within-ok (length out) place end _ next e .3) .0
+  abbrev firstWord : ℕ
+  firstWord = eventWord class category type
 
--- And what a closing asks is no more than that and a class, category and type without fault.
-pub event-grants : (out : List ℕ) (place end class category type : ℕ) → eventFault class category type ≡ 0
-    → Checked eventHead eventLate (event none) out place end end (eventWord class category type) → eventClosed out place end class category type ≡ ok end
-unfolding eventClosed
-event-grants out place end class category type fault k =
-    let some : place + 9 ≤ end = omega (arith, most-passed 1 (end - (place + 8)) 8 (k .late-ok)) in
-    within-grants (length out) place end _ (k .limit) (k .room) (k .wide) ∙ rw (fault, most-passes 9 some) (ap (ended end) (k .contents))
+  pub event-checked : (next : ℕ) → closedEvent ≡ ok next → Checked eventHead eventLate (event none) out place end next firstWord
+  unfolding eventClosed
+  event-checked next e =
+      let (limit, room, wide, q) = within-ok (length out) place end _ next e in
+      let (fault, q1) = need-ok (eventFault class category type) place _ q in
+      let (some, q2) = need-ok (unless (leb (place + 9) end) 9) place _ q1 in
+      let (rs, read, is) = ended-ok end next _ q2 in
+      let least : 1 ≤ end - (place + 8) = omega (arith, most-passed (place + 9) end 8 some) in
+      record {
+        limit = limit;
+        room = room;
+        wide = wide;
+        fits = event-word-fits class category type fault;
+        head-ok = event-word-admitted class category type fault;
+        late-ok = most-passes 9 least;
+        read = rs;
+        contents = read;
+        is = is;
+      }
 
--- The contents of an output of bytes are bytes.
-contents-bytes : (out : List ℕ) (place end : ℕ) → Bytes out → Bytes (contentsOf out place end)
-contents-bytes out place end h = Bytes-take (end - (place + 8)) (drop (place + 8) out) (Bytes-drop (place + 8) out h)
+  pub event-faultless : (next : ℕ) → closedEvent ≡ ok next → eventFault class category type ≡ 0
+  unfolding eventClosed
+  event-faultless next e = need-ok (eventFault class category type) place _ (within-ok (length out) place end _ next e .3) .0
 
-pub configuration-closes : (out : List ℕ) (place end next : ℕ) → Bytes out → configurationClosed out place end ≡ ok next
-    → Closed readConfiguration entry out (configurationOutput out place end) place end next configurationWord
-unfolding readConfiguration configurationOutput
-configuration-closes out place end next h e =
-    rw e (closes configurationHead configurationLate entry out place end next configurationWord (configuration-checked out place end next e) (contents-bytes out place end h))
+  -- And what a closing asks is no more than that and a class, category and type without fault.
+  pub event-grants : eventFault class category type ≡ 0 → Checked eventHead eventLate (event none) out place end end firstWord
+      → closedEvent ≡ ok end
+  unfolding eventClosed
+  event-grants fault k =
+      let some : place + 9 ≤ end = omega (arith, most-passed 1 (end - (place + 8)) 8 (k .late-ok)) in
+      within-grants (length out) place end _ (k .limit) (k .room) (k .wide) ∙ rw (fault, most-passes 9 some) (ap (ended end) (k .contents))
 
-pub event-closes : (out : List ℕ) (place end class category type next : ℕ) → Bytes out → eventClosed out place end class category type ≡ ok next
-    → Closed readEvent (event none) out (eventOutput out place end class category type) place end next (eventWord class category type)
-unfolding readEvent eventOutput
-event-closes out place end class category type next h e =
-    rw e (closes eventHead eventLate (event none) out place end next (eventWord class category type) (event-checked out place end class category type next e) (contents-bytes out place end h))
+  pub event-closes : (next : ℕ) → Bytes out → closedEvent ≡ ok next
+      → Closed readEvent (event none) out (eventOutput out place end class category type) place end next firstWord
+  unfolding readEvent eventOutput
+  event-closes next h e =
+      rw e (closes eventHead eventLate (event none) out place end next firstWord (event-checked next e) (contents-bytes out place end h))
 
--- A refusal leaves the output as it was.
-pub configuration-refused : (out : List ℕ) (place end c p : ℕ) → configurationClosed out place end ≡ bad c p → configurationOutput out place end ≡ out
-unfolding configurationOutput
-configuration-refused out place end c p e = refusal-keeps (configurationClosed out place end) out (closingBytes configurationWord place end) place c p e
-
-pub event-refused : (out : List ℕ) (place end class category type c p : ℕ) → eventClosed out place end class category type ≡ bad c p
-    → eventOutput out place end class category type ≡ out
-unfolding eventOutput
-event-refused out place end class category type c p e =
-    refusal-keeps (eventClosed out place end class category type) out (closingBytes (eventWord class category type) place end) place c p e
+  -- A refusal leaves the output as it was.
+  pub event-refused : (c p : ℕ) → closedEvent ≡ bad c p → eventOutput out place end class category type ≡ out
+  unfolding eventOutput
+  event-refused c p e = refusal-keeps closedEvent out (closingBytes firstWord place end) place c p e

@@ -22,11 +22,11 @@ use Rattle.note.specs.Writers.{Written, recordWrote, recordOutput, headerWrote,
 use Rattle.demands.specs.Pieces.{Piece, writtenOf, recordOf}
 use Rattle.demands.specs.Valid.{ValidRecords, ValidEvents, Valid}
 use Rattle.demands.specs.Assembly.{EventPieces, FilePieces, AllFitting, EventsFitting, FileFits, AllFaultless, EventsFaultless, FileFaultless, AllPlaced, EventsPlaced, FilePlaced, containerOf, eventOf, fileOf, Built, recordsAssembled, containerAssembled, configurationAssembled, eventAssembled, eventsAssembled, fileAssembled, Assembled}
-use Rattle.demands.proofs.Bundles.{headerItem, eventItem, records, same-records}
+use Rattle.demands.proofs.Bundles.{box, headerItem, eventItem, records, same-records}
 use Rattle.demands.proofs.Follows.{parts-valid, parts-ok, file-sound}
 use Rattle.demands.proofs.OutputLaws.{laid-within, laid-contents, grants}
 use Rattle.demands.proofs.WriterLaws.{record-granted, record-laid, header-laid, piece-writes}
-use Rattle.demands.proofs.ClosingLaws.{box, Checked, configuration-grants, event-grants, event-faultless, event-word-fits, event-word-admitted}
+use Rattle.demands.proofs.ClosingLaws.{Checked, configuration-grants, event-grants, event-faultless, event-word-fits, event-word-admitted}
 use Rattle.demands.proofs.AssemblyLaws.{structure-bytes, pieces-bytes, records-laid, container-calls, configuration-stands, event-stands, version-ok, file-calls, file-stands, assembled-accepted}
 
 -- ---- pieces without fault, each where it may stand, make a valid tree
