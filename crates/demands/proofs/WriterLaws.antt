@@ -12,7 +12,7 @@ use borrow.Author.Tests.{le-leb}
 use Rattle.theory.specs.Words.{Bytes, Fits}
 use Rattle.theory.specs.Tests.{Res, ok, bad}
 use Rattle.theory.proofs.WordLaws.{Bytes-puts, Bytes-append}
-use Rattle.theory.proofs.StructureLaws.{length-structure, drop-two}
+use Rattle.theory.proofs.StructureLaws.{drop-two}
 use Rattle.note.specs.Limits.{fileLimit}
 use Rattle.note.specs.Words.{order, word, words}
 use Rattle.note.specs.Kinds.{Kind}
@@ -20,13 +20,16 @@ use Rattle.note.specs.Phonon.{Phonon, phononKind, phononBytes}
 use Rattle.note.specs.Charge.{Charge, chargeKind, chargeBytes}
 use Rattle.note.specs.Administrative.{Administrative, administrativeKind, administrativeBytes}
 use Rattle.note.specs.Trace.{Trace, TraceFits, traceKind, traceWords, traceBytes, traceOf}
-use Rattle.note.specs.History.{Section, History, historyKind, widthAt, widthOf, after, triggerAt, sectionOf, historyOf, sectionBytes, historyBytes, historyFault, sectionValues}
+use Rattle.note.specs.History.{Section, History, historyKind, widthAt, widthOf, after, triggerAt, sectionOf, historyOf}
+use Rattle.note.specs.History.{sectionBytes, historyBytes, historyFault, sectionValues}
 use Rattle.note.specs.Gps.{Gps, gpsKind, gpsBytes}
 use Rattle.note.specs.Trigger.{Trigger, triggerKind, triggerBytes}
 use Rattle.note.specs.Tlb.{Tlb, tlbKind, tlbBytes}
 use Rattle.note.specs.Records.{Record, alone, isKind, isAllowed, kindOf, recordBytes, recordRule, readRecord}
 use Rattle.note.specs.Files.{versionWord, headerBytes}
-use Rattle.note.specs.Writers.{Written, wrapped, recordWrote, recordOutput, headerWrote, headerOutput, phononWritten, chargeWritten, administrativeWritten, traceWritten, historyWritten, gpsWritten, triggerWritten, tlbWritten}
+use Rattle.note.specs.Writers.{Written, wrapped, recordWrote, recordOutput, headerWrote, headerOutput}
+use Rattle.note.specs.Writers.{phononWritten, chargeWritten, administrativeWritten, traceWritten, historyWritten}
+use Rattle.note.specs.Writers.{gpsWritten, triggerWritten, tlbWritten}
 use Rattle.note.specs.Answers.{Value, accepted, count, counts}
 use Rattle.note.specs.Calls.{recordFound, recordGiven, recordAt, partGiven, samplesPart, samplesAt}
 use Rattle.note.proofs.FieldLaws.{phonon-read-back, charge-read-back, administrative-read-back, trigger-read-back, tlb-read-back}
@@ -34,9 +37,12 @@ use Rattle.note.proofs.TraceLaws.{trace-read-back, trace-length}
 use Rattle.note.proofs.HistoryLaws.{history-read-back}
 use Rattle.note.proofs.GpsLaws.{gps-read-back}
 use Rattle.demands.specs.Valid.{ValidRecord}
-use Rattle.demands.specs.Pieces.{Piece, phonon, charge, administrative, trace, history, gps, trigger, tlb, writtenOf, ofKind, recordOf, SectionFits, PieceFits, timesFrom, masksFrom, sectionAnswer, sectionSize, vetoFrom, triggerFrom, answerOf}
+use Rattle.demands.specs.Pieces.{Piece, phonon, charge, administrative, trace, history, gps, trigger, tlb}
+use Rattle.demands.specs.Pieces.{writtenOf, ofKind, recordOf, SectionFits, PieceFits, timesFrom, masksFrom}
+use Rattle.demands.specs.Pieces.{sectionAnswer, sectionSize, vetoFrom, triggerFrom, answerOf}
 use Rattle.demands.specs.Outputs.{Laid, SectionStands}
 use Rattle.demands.proofs.Bundles.{headerItem}
+use Rattle.demands.proofs.RowLaws.{record-size}
 use Rattle.demands.proofs.RecordLaws.{reads-record}
 use Rattle.demands.proofs.OutputLaws.{structure-apart, laid-from, put-laid, Granted, granted, refusal-keeps}
 
@@ -55,13 +61,15 @@ module _ (out : List ℕ) (place next : ℕ) (w : Written) (e : recordWrote out 
       rw (e, ← g .is) (put-laid out (w .bytes) place (place + length (w .bytes)) (g .room))
 
 -- A refusal leaves the output as it was.
-pub record-refused : (out : List ℕ) (place : ℕ) (w : Written) (c p : ℕ) → recordWrote out place w ≡ bad c p → recordOutput out place w ≡ out
+pub record-refused : (out : List ℕ) (place : ℕ) (w : Written) (c p : ℕ) → recordWrote out place w ≡ bad c p
+    → recordOutput out place w ≡ out
 unfolding recordOutput
 record-refused out place w c p e = refusal-keeps (recordWrote out place w) out (w .bytes) place c p e
 
 -- ---- the header
 
-pub header-laid : (out : List ℕ) (major minor next : ℕ) → headerWrote out ≡ ok next → Laid out (headerOutput out major minor) 0 next (headerBytes (versionWord major minor))
+pub header-laid : (out : List ℕ) (major minor next : ℕ) → headerWrote out ≡ ok next
+    → Laid out (headerOutput out major minor) 0 next (headerBytes (versionWord major minor))
 unfolding headerWrote headerOutput
 header-laid out major minor next e =
     let g = granted (length out) 0 0 8 next e in
@@ -90,7 +98,7 @@ module _ (out : List ℕ) (place next : ℕ) (w : Written) (r : Record) (h : Wri
   unfolding isAllowed
   written-valid =
       let g = record-granted out place next w e in
-      let size : length (w .bytes) ≡ 8 + length (r .body) = ap length (h .bytes-are) ∙ length-structure order (λ (b : List ℕ). b) r in
+      let size : length (w .bytes) ≡ 8 + length (r .body) = ap length (h .bytes-are) ∙ record-size r in
       record {
         kind-allowed = h .kind-known;
         place-allowed = refl;
@@ -101,7 +109,8 @@ module _ (out : List ℕ) (place next : ℕ) (w : Written) (r : Record) (h : Wri
       }
 
   pub written-from : drop place (recordOutput out place w) ≡ recordBytes r ++ drop next out
-  written-from = laid-from out _ place next (w .bytes) (record-laid out place next w e) ∙ ap (λ (x : List ℕ). x ++ drop next out) (h .bytes-are)
+  written-from =
+      laid-from out _ place next (w .bytes) (record-laid out place next w e) ∙ ap (λ (x : List ℕ). x ++ drop next out) (h .bytes-are)
 
   pub record-found : recordFound (recordOutput out place w) place ≡ ok r
   unfolding recordFound
@@ -123,8 +132,8 @@ module _ (out : List ℕ) (place next : ℕ) (w : Written) (r : Record) (h : Wri
 -- ---- the eight kinds
 
 -- A kind that its word names, around a body.
-writes : (k : Kind) (body : List ℕ) (fault : ℕ) → kindOf (k .word) ≡ k → isKind alone (k .word) ≡ true → Fits 4 (k .word) → Bytes body
-    → (fault ≡ 0 → k .rule body ≡ 0) → Writes (record { fault = fault; bytes = wrapped k body }) (ofKind k body)
+writes : (k : Kind) (body : List ℕ) (fault : ℕ) → kindOf (k .word) ≡ k → isKind alone (k .word) ≡ true → Fits 4 (k .word)
+    → Bytes body → (fault ≡ 0 → k .rule body ≡ 0) → Writes (record { fault = fault; bytes = wrapped k body }) (ofKind k body)
 writes k body fault named known fits bytes follows = record {
   bytes-are = refl;
   kind-known = known;
@@ -146,9 +155,12 @@ unfolding writtenOf recordOf PieceFits kindOf isKind
     phononBytes chargeBytes administrativeBytes traceBytes historyBytes gpsBytes triggerBytes tlbBytes
 piece-writes (phonon f) h = writes phononKind (phononBytes f) _ refl refl (omega arith) (Bytes-puts order 4 _) (λ e. phonon-read-back f h e .0)
 piece-writes (charge f) h = writes chargeKind (chargeBytes f) _ refl refl (omega arith) (Bytes-puts order 4 _) (λ e. charge-read-back f h e .0)
-piece-writes (administrative f) h = writes administrativeKind (administrativeBytes f) _ refl refl (omega arith) (Bytes-puts order 4 _) (λ e. administrative-read-back f h e .0)
+piece-writes (administrative f) h =
+    writes administrativeKind (administrativeBytes f) _ refl refl (omega arith) (Bytes-puts order 4 _)
+    (λ e. administrative-read-back f h e .0)
 piece-writes (trace f) h =
-    writes traceKind (traceBytes f) _ refl refl (omega arith) (Bytes-append (words (traceWords f)) (f .samples) (Bytes-puts order 4 _) (h .1)) (λ e. trace-read-back f (h .0) e .0)
+    writes traceKind (traceBytes f) _ refl refl (omega arith)
+    (Bytes-append (words (traceWords f)) (f .samples) (Bytes-puts order 4 _) (h .1)) (λ e. trace-read-back f (h .0) e .0)
 piece-writes (history f) h =
     writes historyKind (historyBytes f) _ refl refl (omega arith)
     (Bytes-append (sectionBytes (f .veto)) _ (section-bytes (f .veto) (h .0)) (section-bytes (f .trigger) (h .1))) (λ e. history-read-back f e .0)
@@ -175,18 +187,29 @@ after-section p b s e =
     let wide : widthOf p b ≡ s .width = ap (λ (x : Section). x .width) e in
     rw (counted, wide) (omega arith)
 
-history-answer : (place : ℕ) (f : History) → historyFault f ≡ 0 → historyKind .values place (historyBytes f)
-    ≡ counts (sectionAnswer (vetoFrom place f) (f .veto) ++ sectionAnswer (triggerFrom place f) (f .trigger))
-unfolding historyOf
-history-answer place f e =
-    let b : List ℕ = historyBytes f in
-    let same : historyOf b ≡ f = history-read-back f e .1 in
-    let veto : sectionOf 0 b ≡ f .veto = ap (λ (g : History). g .veto) same in
-    let first : place + 8 + 0 ≡ vetoFrom place f = omega arith in
-    let second : place + 8 + triggerAt b ≡ triggerFrom place f = omega (arith, after-section 0 b (f .veto) veto) in
-    ap₂ (λ (x y : List ℕ). counts (x ++ y))
-    (section-answer (place + 8) 0 b (f .veto) veto ∙ ap (λ (n : ℕ). sectionAnswer n (f .veto)) first)
-    (section-answer (place + 8) (triggerAt b) b (f .trigger) (ap (λ (g : History). g .trigger) same) ∙ ap (λ (n : ℕ). sectionAnswer n (f .trigger)) second)
+-- The two sections of the body of a history without fault at the place: what they are, and where they stand.
+module _ (place : ℕ) (f : History) (e : historyFault f ≡ 0) where
+  veto-is : sectionOf 0 (historyBytes f) ≡ f .veto
+  unfolding historyOf
+  veto-is = ap (λ (g : History). g .veto) (history-read-back f e .1)
+
+  trigger-is : sectionOf (triggerAt (historyBytes f)) (historyBytes f) ≡ f .trigger
+  unfolding historyOf
+  trigger-is = ap (λ (g : History). g .trigger) (history-read-back f e .1)
+
+  veto-place : place + 8 + 0 ≡ vetoFrom place f
+  veto-place = omega arith
+
+  trigger-place : place + 8 + triggerAt (historyBytes f) ≡ triggerFrom place f
+  trigger-place = omega (arith, after-section 0 (historyBytes f) (f .veto) veto-is)
+
+  history-answer : historyKind .values place (historyBytes f)
+      ≡ counts (sectionAnswer (vetoFrom place f) (f .veto) ++ sectionAnswer (triggerFrom place f) (f .trigger))
+  history-answer =
+      let b : List ℕ = historyBytes f in
+      ap₂ (λ (x y : List ℕ). counts (x ++ y))
+      (section-answer (place + 8) 0 b (f .veto) veto-is ∙ ap (λ (n : ℕ). sectionAnswer n (f .veto)) veto-place)
+      (section-answer (place + 8) (triggerAt b) b (f .trigger) trigger-is ∙ ap (λ (n : ℕ). sectionAnswer n (f .trigger)) trigger-place)
 
 -- The fields of the body of fields are the fields.
 fields-are : (place : ℕ) (p : Piece) → PieceFits p → writtenOf p .fault ≡ 0 → recordGiven place (ok (recordOf p)) ≡ answerOf place p
@@ -219,17 +242,22 @@ module _ (out : List ℕ) (place next : ℕ) where
       let new : List ℕ = recordOutput out place w in
       let body : List ℕ = traceBytes f in
       let rest : List ℕ = drop next out in
-      let made : Writes w (ofKind traceKind body) = piece-writes (trace f) (h, b) in
+      let r : Record = ofKind traceKind body in
+      let made : Writes w r = piece-writes (trace f) (h, b) in
       let (rule, fields) = trace-read-back f h (record-granted out place next w e .fine) in
       let same : drop 48 body ≡ f .samples = ap (λ (g : Trace). g .samples) fields in
       let long : 48 ≤ length body = omega (arith, trace-length body rule .0) in
       let size : length (f .samples) ≡ length body - 48 = sym (ap length same) ∙ length-drop 48 body in
       let at : place + 8 + 48 ≡ place + 56 = omega arith in
       let from : drop (place + 56) new ≡ f .samples ++ rest =
-      ap (λ (n : ℕ). drop n new) (sym at) ∙ sym (drop-drop 48 (place + 8) new) ∙ ap (drop 48) (body-from out place next w (ofKind traceKind body) made e)
-      ∙ drop-append-le 48 body rest long ∙ ap (λ (x : List ℕ). x ++ rest) same in
-      ap (λ (x : Res Record). take (partGiven place x .1) (drop (partGiven place x .0) new)) (record-found out place next w (ofKind traceKind body) made e)
-      ∙ ap (take (length body - 48)) from ∙ take-at (f .samples) rest (length body - 48) size
+      ap (λ (n : ℕ). drop n new) (sym at)
+      ∙ sym (drop-drop 48 (place + 8) new)
+      ∙ ap (drop 48) (body-from out place next w r made e)
+      ∙ drop-append-le 48 body rest long
+      ∙ ap (λ (x : List ℕ). x ++ rest) same in
+      ap (λ (x : Res Record). take (partGiven place x .1) (drop (partGiven place x .0) new)) (record-found out place next w r made e)
+      ∙ ap (take (length body - 48)) from
+      ∙ take-at (f .samples) rest (length body - 48) size
 
 -- A part of a body, where the body stands in front of something.
 part-within : (b rest x : List ℕ) (q n : ℕ) → take n (drop q b) ≡ x → take (length x) (drop q (b ++ rest)) ≡ x
@@ -238,7 +266,8 @@ part-within b rest x q n e = elim (decLe q (length b)) [ yes l ↦ inside l | no
     inside : q ≤ length b → take (length x) (drop q (b ++ rest)) ≡ x
     inside l =
         let y : List ℕ = drop n (drop q b) in
-        ap (take (length x)) (drop-append-le q b rest l ∙ ap (λ (z : List ℕ). z ++ rest) (sym (take-append-drop n (drop q b)) ∙ ap (λ (z : List ℕ). z ++ y) e) ∙ append-assoc x y rest)
+        let split : drop q b ≡ x ++ y = sym (take-append-drop n (drop q b)) ∙ ap (λ (z : List ℕ). z ++ y) e in
+        ap (take (length x)) (drop-append-le q b rest l ∙ ap (λ (z : List ℕ). z ++ rest) split ∙ append-assoc x y rest)
         ∙ take-at x (y ++ rest) (length x) refl
 
     beyond : length b ≤ q → take (length x) (drop q (b ++ rest)) ≡ x
@@ -262,20 +291,20 @@ module _ (bs b rest : List ℕ) (from p : ℕ) (s : Section) (stands : drop from
       }
 
 -- A history's lists stand where Record's answer says.
-pub lists-stand : (out : List ℕ) (place next : ℕ) (f : History) → SectionFits (f .veto) → SectionFits (f .trigger) → recordWrote out place (historyWritten f) ≡ ok next
+pub lists-stand : (out : List ℕ) (place next : ℕ) (f : History) → SectionFits (f .veto) → SectionFits (f .trigger)
+    → recordWrote out place (historyWritten f) ≡ ok next
     → SectionStands (recordOutput out place (historyWritten f)) (vetoFrom place f) (f .veto)
     × SectionStands (recordOutput out place (historyWritten f)) (triggerFrom place f) (f .trigger)
-unfolding writtenOf recordOf PieceFits historyWritten historyOf
+unfolding writtenOf recordOf PieceFits historyWritten
 lists-stand out place next f v t e =
     let w : Written = historyWritten f in
     let b : List ℕ = historyBytes f in
+    let rest : List ℕ = drop next out in
     let new : List ℕ = recordOutput out place w in
-    let same : historyOf b ≡ f = history-read-back f (record-granted out place next w e .fine) .1 in
-    let veto : sectionOf 0 b ≡ f .veto = ap (λ (g : History). g .veto) same in
-    let first : place + 8 + 0 ≡ vetoFrom place f = omega arith in
-    let second : place + 8 + triggerAt b ≡ triggerFrom place f = omega (arith, after-section 0 b (f .veto) veto) in
-    let from : drop (place + 8) new ≡ b ++ drop next out = body-from out place next w (ofKind historyKind b) (piece-writes (history f) (v, t)) e in (
-      subst (λ (n : ℕ). SectionStands new n (f .veto)) first (section-stands new b (drop next out) (place + 8) 0 (f .veto) from veto),
-      subst (λ (n : ℕ). SectionStands new n (f .trigger)) second
-          (section-stands new b (drop next out) (place + 8) (triggerAt b) (f .trigger) from (ap (λ (g : History). g .trigger) same)),
+    let fine : historyFault f ≡ 0 = record-granted out place next w e .fine in
+    let from : drop (place + 8) new ≡ b ++ rest = body-from out place next w (ofKind historyKind b) (piece-writes (history f) (v, t)) e in (
+      subst (λ (n : ℕ). SectionStands new n (f .veto)) (veto-place place f fine)
+          (section-stands new b rest (place + 8) 0 (f .veto) from (veto-is place f fine)),
+      subst (λ (n : ℕ). SectionStands new n (f .trigger)) (trigger-place place f fine)
+          (section-stands new b rest (place + 8) (triggerAt b) (f .trigger) from (trigger-is place f fine)),
     )
