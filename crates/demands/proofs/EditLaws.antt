@@ -20,16 +20,17 @@ use Rattle.theory.proofs.Items.{Oks, steps, Oks-append}
 use Rattle.theory.proofs.FreeLaws.{Spot, boxAt, plug, edited, Free, free-bytes, free-valid}
 use Rattle.note.specs.Limits.{fileLimit}
 use Rattle.note.specs.Words.{order, word}
-use Rattle.note.specs.Answers.{accepted, refused, counts}
+use Rattle.note.specs.Answers.{Given, accepted, refused, counts}
 use Rattle.note.specs.Trace.{traceKind, traceOf, traceRule, sampleIn}
-use Rattle.note.specs.Records.{Record, event, none as nothing, recordHead, recordLate, recordRule, recordStep, recordsBytes, kindOf}
+use Rattle.note.specs.Records.{Record, event, none as nothing, recordHead, recordLate, recordRule, recordStep, recordSize, recordsBytes, kindOf}
 use Rattle.note.specs.Events.{Container, containerBytes, containerSize, eventHead, eventLate, eventStep, eventsBytes}
-use Rattle.note.specs.Files.{File, headerBytes, fileBytes, readFile}
+use Rattle.note.specs.Files.{File, configurationOf, headerBytes, fileBytes, readFile}
 use Rattle.note.specs.Rows.{childOf, childrenOf, eventNode, nodesOf, rowsOf}
 use Rattle.note.specs.Calls.{recordFound, recordAt, settingAt, sampleAt}
 use Rattle.note.proofs.TraceLaws.{trace-length, trace-blind, trace-row-blind, trace-values-blind, sample-changed, sample-stays}
 use Rattle.demands.specs.Valid.{ValidRecord, Valid}
 use Rattle.demands.specs.RowRecords.{rowRecords, foundAs}
+use Rattle.demands.specs.Edited.{startOf}
 use Rattle.demands.proofs.Bundles.{recordItem, eventItem, headerItem, record-valid}
 use Rattle.demands.proofs.Follows.{parts-ok, parts-valid, file-complete}
 use Rattle.demands.proofs.RowLaws.{container-size}
@@ -45,64 +46,106 @@ elsewhere d a b [] ys (suc k) h = refl
 elsewhere d a b (x ∷ xs) ys zero h = refl
 elsewhere d a b (x ∷ xs) ys (suc k) h = elsewhere d a b xs ys k (λ e. h (ap suc e))
 
+-- Beside the rows of a file that has the record r at the spot p: what stands at row k.
+abbrev beside : Container → Spot → Record → ℕ → Option Record
+beside c p r k = getD (recordsBefore c p ++ (some r ∷ recordsAfter p)) k none
+
+-- And that is what Record finds there.
+found-at : (v : ℕ) (c : Container) (p : Spot) (r : Record) (bs : List ℕ) → Bytes bs → readFile bs ≡ ok (v, (c, plug p r))
+    → (k : ℕ) → k < length (rowsOf (v, (c, plug p r)))
+    → recordFound bs (startOf (v, (c, plug p r)) k) ≡ foundAs (startOf (v, (c, plug p r)) k) (beside c p r k)
+found-at v c p r bs h e k l =
+    let f : File = (v, (c, plug p r)) in
+    Reads-at bs (rowsOf f) (rowRecords f) (rows-read bs f h e) k l
+    ∙ ap (λ (ls : List (Option Record)). foundAs (startOf f k) (getD ls k none)) (records-split v c p r)
+
 -- ---- the file with the byte changed
 
--- The spot of a trace in a valid file; byte m of its body, inside the samples, becomes x.
-module _ (v : ℕ) (c : Container) (p : Spot) (t : Record) (m x : ℕ)
-    (kind : t .kind ≡ traceKind .word) (lo : 48 ≤ m) (hi : m < length (t .body)) (byte : x < 256) (valid : Valid (v, (c, plug p t))) where
+-- Row j of the valid file f, whose bytes are bs, is the trace t of the spot p; byte m of its body, inside the samples, becomes the byte x.
+pub record Edit (bs : List ℕ) (f : File) (p : Spot) (t : Record) (j m x : ℕ) : Type 0 where
+  pub valid : Valid f
+  pub is : bs ≡ fileBytes f
+  pub bytes : Bytes bs
+  pub below : j < length (rowsOf f)
+  pub trace : row (rowsOf f) j .kind ≡ 7
+  pub here : j ≡ length (recordsBefore (configurationOf f) p)
+  pub start : startOf f j ≡ placeOf (configurationOf f) p
+  pub whole : row (rowsOf f) j .whole ≡ recordSize t
+  pub kind : t .kind ≡ traceKind .word
+  pub from : 48 ≤ m
+  pub inside : m < length (t .body)
+  pub byte : x < 256
+
+module _ {bs : List ℕ} {v : ℕ} {c : Container} {p : Spot} {t : Record} {j m x : ℕ} (d : Edit bs (v, (c, plug p t)) p t j m x) where
   abbrev pub old : File
   old = (v, (c, plug p t))
 
+  -- The trace afterwards, and the file with it.
+  abbrev pub t′ : Record
+  t′ = edited t m x
+
   abbrev pub new : File
-  new = (v, (c, plug p (edited t m x)))
+  new = (v, (c, plug p t′))
+
+  -- The byte's place in the file, and the bytes afterwards.
+  abbrev pub i : ℕ
+  i = placeOf c p + (8 + m)
+
+  abbrev pub bs′ : List ℕ
+  bs′ = set bs i x
 
   rule-blind : recordRule (t .kind) (set (t .body) m x) ≡ recordRule (t .kind) (t .body)
   unfolding kindOf
-  rule-blind = rw kind (trace-blind (t .body) m x lo)
+  rule-blind = rw (d .kind) (trace-blind (t .body) m x (d .from))
 
   free : Free order recordHead recordLate (λ s. recordRule (s .1)) recordStep eventHead eventLate (λ s. event nothing) eventStep tt p t m x
-  free = record { inside-body = hi; byte = byte; rule-blind = rule-blind; step-blind = refl; box-blind = refl }
+  free = record { inside-body = d .inside; byte = d .byte; rule-blind = rule-blind; step-blind = refl; box-blind = refl }
 
-  events-ok′ : Oks eventItem tt (plug p (edited t m x))
+  events-ok′ : Oks eventItem tt (plug p t′)
   events-ok′ =
-      free-valid order recordHead recordLate (λ s. recordRule (s .1)) recordStep eventHead eventLate (λ s. event nothing) eventStep tt p t m x free
-      (parts-ok old valid .1 .1)
+      free-valid order recordHead recordLate (λ s. recordRule (s .1)) recordStep eventHead eventLate (λ s. event nothing) eventStep
+      tt p t m x free (parts-ok old (d .valid) .1 .1)
 
   -- the bytes
-  pub edited-bytes : set (fileBytes old) (placeOf c p + (8 + m)) x ≡ fileBytes new
+  edited-bytes : set (fileBytes old) i x ≡ fileBytes new
   edited-bytes =
       let front : List ℕ = headerBytes v ++ containerBytes c in
       let q : ℕ = length (eventsBytes (p .before)) + (8 + length (recordsBytes (p .left))) + (8 + m) in
       let size : length front ≡ 8 + containerSize c =
       length-append (headerBytes v) (containerBytes c) ∙ ap₂ (λ (a b : ℕ). a + b) (sym (headerItem .sizes v)) (container-size c) in
-      let at : placeOf c p + (8 + m) ≡ length front + q = omega arith in
-      ap₂ (λ (s : List ℕ) (i : ℕ). set s i x) (sym (append-assoc (headerBytes v) (containerBytes c) (eventsBytes (plug p t)))) at
+      let at : i ≡ length front + q = omega arith in
+      ap₂ (λ (s : List ℕ) (z : ℕ). set s z x) (sym (append-assoc (headerBytes v) (containerBytes c) (eventsBytes (plug p t)))) at
       ∙ set-append-add front (eventsBytes (plug p t)) q x
       ∙ ap (λ (s : List ℕ). front ++ s)
-      (free-bytes order recordHead recordLate (λ s. recordRule (s .1)) recordStep eventHead eventLate (λ s. event nothing) eventStep tt p t m x free)
-      ∙ append-assoc (headerBytes v) (containerBytes c) (eventsBytes (plug p (edited t m x)))
+      (free-bytes order recordHead recordLate (λ s. recordRule (s .1)) recordStep eventHead eventLate (λ s. event nothing) eventStep
+      tt p t m x free)
+      ∙ append-assoc (headerBytes v) (containerBytes c) (eventsBytes (plug p t′))
 
   -- valid again
-  pub edited-valid : Valid new
+  edited-valid : Valid new
   edited-valid =
-      parts-valid new (parts-ok old valid .0, (parts-ok old valid .1 .0, events-ok′))
-      (subst (λ (s : List ℕ). length s ≤ fileLimit) edited-bytes (rw (length-set (fileBytes old) (placeOf c p + (8 + m)) x) (valid .within-limit)))
+      let (header, (configuration, events)) = parts-ok old (d .valid) in
+      parts-valid new (header, (configuration, events-ok′))
+      (subst (λ (s : List ℕ). length s ≤ fileLimit) edited-bytes (rw (length-set (fileBytes old) i x) (d .valid .within-limit)))
 
   -- the rows
-  child-same : childOf (edited t m x) ≡ childOf t
+  child-same : childOf t′ ≡ childOf t
   unfolding childOf kindOf
-  child-same = rw (kind, trace-row-blind (t .body) m x lo .0, trace-row-blind (t .body) m x lo .1, length-set (t .body) m x)
+  child-same =
+      let same = trace-row-blind (t .body) m x (d .from) in
+      rw (d .kind, same .0, same .1, length-set (t .body) m x)
 
-  children-same : (xs ys : List Record) → childrenOf (xs ++ edited t m x ∷ ys) ≡ childrenOf (xs ++ t ∷ ys)
+  children-same : (xs ys : List Record) → childrenOf (xs ++ t′ ∷ ys) ≡ childrenOf (xs ++ t ∷ ys)
   children-same [] ys = ap (λ (k : Child). k ∷ childrenOf ys) child-same
   children-same (y ∷ xs) ys = ap (λ (l : List Child). childOf y ∷ l) (children-same xs ys)
 
-  counts-same : (xs ys : List Record) → length (xs ++ edited t m x ∷ ys) ≡ length (xs ++ t ∷ ys)
-  counts-same xs ys = length-append xs (edited t m x ∷ ys) ∙ sym (length-append xs (t ∷ ys))
+  counts-same : (xs ys : List Record) → length (xs ++ t′ ∷ ys) ≡ length (xs ++ t ∷ ys)
+  counts-same xs ys = length-append xs (t′ ∷ ys) ∙ sym (length-append xs (t ∷ ys))
 
-  nodes-same : (es : List Container) → map eventNode (es ++ boxAt p (edited t m x) ∷ p .after) ≡ map eventNode (es ++ boxAt p t ∷ p .after)
+  nodes-same : (es : List Container) → map eventNode (es ++ boxAt p t′ ∷ p .after) ≡ map eventNode (es ++ boxAt p t ∷ p .after)
   nodes-same [] =
-      ap₂ (λ (n : ℕ) (l : List Child). box 5 (p .word % 65536) n l ∷ map eventNode (p .after)) (counts-same (p .left) (p .right)) (children-same (p .left) (p .right))
+      ap₂ (λ (n : ℕ) (l : List Child). box 5 (p .word % 65536) n l ∷ map eventNode (p .after))
+      (counts-same (p .left) (p .right)) (children-same (p .left) (p .right))
   nodes-same (e ∷ es) = ap (λ (l : List Node). eventNode e ∷ l) (nodes-same es)
 
   pub edited-rows : rowsOf new ≡ rowsOf old
@@ -111,58 +154,61 @@ module _ (v : ℕ) (c : Container) (p : Spot) (t : Record) (m x : ℕ)
 
   -- ---- what is read at a row
 
-  abbrev pub at : ℕ → ℕ
-  at k = row (rowsOf old) k .start
+  abbrev at : ℕ → ℕ
+  at k = startOf old k
 
-  module _ (bs : List ℕ) (is : bs ≡ fileBytes old) (h : Bytes bs) where
-    abbrev pub i : ℕ
-    i = placeOf c p + (8 + m)
+  pub read-old : readFile bs ≡ ok old
+  read-old = subst (λ (s : List ℕ). readFile s ≡ ok old) (sym (d .is)) (file-complete old (d .valid))
 
-    pub read-old : readFile bs ≡ ok old
-    read-old = subst (λ (s : List ℕ). readFile s ≡ ok old) (sym is) (file-complete old valid)
+  pub read-new : readFile bs′ ≡ ok new
+  read-new =
+      let is : bs′ ≡ fileBytes new = ap (λ (s : List ℕ). set s i x) (d .is) ∙ edited-bytes in
+      subst (λ (s : List ℕ). readFile s ≡ ok new) (sym is) (file-complete new edited-valid)
 
-    pub read-new : readFile (set bs i x) ≡ ok new
-    read-new = subst (λ (s : List ℕ). readFile s ≡ ok new) (sym (ap (λ (s : List ℕ). set s i x) is ∙ edited-bytes)) (file-complete new edited-valid)
+  module _ (k : ℕ) (l : k < length (rowsOf old)) where
+    found-old : recordFound bs (at k) ≡ foundAs (at k) (beside c p t k)
+    found-old = found-at v c p t bs (d .bytes) read-old k l
 
-    found-old : (k : ℕ) → k < length (rowsOf old) → recordFound bs (at k) ≡ foundAs (at k) (getD (recordsBefore c p ++ (some t ∷ recordsAfter p)) k none)
-    found-old k l =
-        Reads-at bs (rowsOf old) (rowRecords old) (rows-read bs old h read-old) k l
-        ∙ ap (λ (ls : List (Option Record)). foundAs (at k) (getD ls k none)) (records-split v c p t)
-
-    found-new : (k : ℕ) → k < length (rowsOf old)
-        → recordFound (set bs i x) (at k) ≡ foundAs (at k) (getD (recordsBefore c p ++ (some (edited t m x) ∷ recordsAfter p)) k none)
-    found-new k l =
-        subst (λ (rs : List Row). recordFound (set bs i x) (row rs k .start) ≡ foundAs (row rs k .start) (getD (recordsBefore c p ++ (some (edited t m x) ∷ recordsAfter p)) k none)) edited-rows
-        (Reads-at (set bs i x) (rowsOf new) (rowRecords new) (rows-read (set bs i x) new (Bytes-set bs i x byte h) read-new) k (rw edited-rows l)
-        ∙ ap (λ (ls : List (Option Record)). foundAs (row (rowsOf new) k .start) (getD ls k none)) (records-split v c p (edited t m x)))
+    found-new : recordFound bs′ (at k) ≡ foundAs (at k) (beside c p t′ k)
+    found-new =
+        subst (λ (rs : List Row). recordFound bs′ (row rs k .start) ≡ foundAs (row rs k .start) (beside c p t′ k)) edited-rows
+        (found-at v c p t′ bs′ (Bytes-set bs i x (d .byte) (d .bytes)) read-new k (rw edited-rows l))
 
     -- at another row the same is found
-    pub other-row : (k : ℕ) → k < length (rowsOf old) → k ≢ length (recordsBefore c p) → recordFound (set bs i x) (at k) ≡ recordFound bs (at k)
-    other-row k l d = found-new k l ∙ ap (foundAs (at k)) (elsewhere none (some (edited t m x)) (some t) (recordsBefore c p) (recordsAfter p) k d) ∙ sym (found-old k l)
+    pub other-row : k ≢ j → recordFound bs′ (at k) ≡ recordFound bs (at k)
+    other-row e =
+        let away = elsewhere none (some t′) (some t) (recordsBefore c p) (recordsAfter p) k (λ q. e (q ∙ sym (d .here))) in
+        found-new ∙ ap (foundAs (at k)) away ∙ sym found-old
 
     -- at the trace's own row the trace, before and after
-    module _ (k : ℕ) (l : k < length (rowsOf old)) (here : k ≡ length (recordsBefore c p)) where
+    module _ (own : k ≡ j) where
+      there : (r : Record) → beside c p r k ≡ some r
+      there r = getD-at (recordsBefore c p) (some r) (recordsAfter p) none k (sym (own ∙ d .here))
+
       pub trace-old : recordFound bs (at k) ≡ ok t
-      trace-old = found-old k l ∙ ap (foundAs (at k)) (getD-at (recordsBefore c p) (some t) (recordsAfter p) none k (sym here))
+      trace-old = found-old ∙ ap (foundAs (at k)) (there t)
 
-      trace-new : recordFound (set bs i x) (at k) ≡ ok (edited t m x)
-      trace-new = found-new k l ∙ ap (foundAs (at k)) (getD-at (recordsBefore c p) (some (edited t m x)) (recordsAfter p) none k (sym here))
+      trace-new : recordFound bs′ (at k) ≡ ok t′
+      trace-new = found-new ∙ ap (foundAs (at k)) (there t′)
 
-      pub same-fields : recordAt (set bs i x) (at k) ≡ recordAt bs (at k)
+      pub same-fields : recordAt bs′ (at k) ≡ recordAt bs (at k)
       unfolding recordAt kindOf
-      same-fields = rw (trace-new, trace-old, kind, trace-values-blind (t .body) m x lo (at k))
+      same-fields = rw (trace-new, trace-old, d .kind, trace-values-blind (t .body) m x (d .from) (at k))
 
-      pub same-setting : settingAt (set bs i x) (at k) ≡ settingAt bs (at k)
+      pub same-setting : settingAt bs′ (at k) ≡ settingAt bs (at k)
       unfolding settingAt
-      same-setting = rw (trace-new, trace-old, kind)
+      same-setting = rw (trace-new, trace-old, d .kind)
 
-      -- the samples, as a part
+      -- the samples, as a part, before and after
       abbrev part : List ℕ
       part = drop 48 (t .body)
 
-      part-edited : drop 48 (set (t .body) m x) ≡ set part (m - 48) x
+      abbrev part′ : List ℕ
+      part′ = set part (m - 48) x
+
+      part-edited : drop 48 (set (t .body) m x) ≡ part′
       part-edited =
-          let e : m ≡ 48 + (m - 48) = omega arith in
+          let e : m ≡ 48 + (m - 48) = omega (arith, d .from) in
           ap (λ (q : ℕ). drop 48 (set (t .body) q x)) e ∙ drop-set-add 48 (t .body) (m - 48) x
 
       n : ℕ
@@ -170,54 +216,58 @@ module _ (v : ℕ) (c : Container) (p : Spot) (t : Record) (m x : ℕ)
 
       is-valid : ValidRecord (steps recordItem (event nothing) (p .left)) t
       is-valid =
-          let all : Oks eventItem tt (p .before) × Oks eventItem tt (boxAt p t ∷ p .after) = Oks-append eventItem tt (p .before) (boxAt p t ∷ p .after) .0 (parts-ok old valid .1 .1) in
+          let oks : Oks eventItem tt (plug p t) = parts-ok old (d .valid) .1 .1 in
+          let (before, (box-ok, after)) = Oks-append eventItem tt (p .before) (boxAt p t ∷ p .after) .0 oks in
           record-valid (steps recordItem (event nothing) (p .left)) t
-          (Oks-append recordItem (event nothing) (p .left) (t ∷ p .right) .0 (all .1 .0 .body-ok) .1 .0)
+          (Oks-append recordItem (event nothing) (p .left) (t ∷ p .right) .0 (box-ok .body-ok) .1 .0)
 
       rule-passes : traceRule (t .body) ≡ 0
       unfolding kindOf
-      rule-passes = subst (λ (w : ℕ). recordRule w (t .body) ≡ 0) kind (is-valid .body-rule)
+      rule-passes = subst (λ (w : ℕ). recordRule w (t .body) ≡ 0) (d .kind) (is-valid .body-rule)
 
       sizes : (length part ≡ 2 * n) × (n % 2 ≡ 0)
       unfolding n
       sizes = let s = trace-length (t .body) rule-passes in (omega (arith, s .0, length-drop 48 (t .body)), s .1)
 
-      sample-old : (q : ℕ) → sampleAt bs (at k) q ≡ cond (leb 1 q && leb q n) (accepted (counts (sampleIn part q ∷ []))) (refused 11 (at k))
+      -- What Sample gives for the number q of the part s; a says whether q is at least 1, b whether it is at most the count.
+      abbrev given : Bool → Bool → List ℕ → ℕ → Given
+      given a b s q = cond (a && b) (accepted (counts (sampleIn s q ∷ []))) (refused 11 (at k))
+
+      sample-old : (q : ℕ) → sampleAt bs (at k) q ≡ given (leb 1 q) (leb q n) part q
       unfolding sampleAt traceOf n
-      sample-old q = rw (trace-old, kind)
+      sample-old q = rw (trace-old, d .kind)
 
       same-count : word 44 (set (t .body) m x) ≡ word 44 (t .body)
-      same-count = trace-row-blind (t .body) m x lo .1
+      same-count = trace-row-blind (t .body) m x (d .from) .1
 
-      sample-new : (q : ℕ) → sampleAt (set bs i x) (at k) q ≡ cond (leb 1 q && leb q n) (accepted (counts (sampleIn (set part (m - 48) x) q ∷ []))) (refused 11 (at k))
+      sample-new : (q : ℕ) → sampleAt bs′ (at k) q ≡ given (leb 1 q) (leb q n) part′ q
       unfolding sampleAt traceOf n
-      sample-new q = rw (trace-new, kind, same-count, part-edited)
+      sample-new q = rw (trace-new, d .kind, same-count, part-edited)
 
       body-bytes : Bytes part
       body-bytes = Bytes-drop 48 (t .body) (is-valid .body-bytes)
 
-      pub other-sample : (q : ℕ) → q ≢ (m - 48) / 2 + 1 → sampleAt (set bs i x) (at k) q ≡ sampleAt bs (at k) q
-      other-sample q d = go (leb 1 q) (leb q n) refl refl (sample-new q) (sample-old q)
+      pub other-sample : (q : ℕ) → q ≢ (m - 48) / 2 + 1 → sampleAt bs′ (at k) q ≡ sampleAt bs (at k) q
+      other-sample q e = sample-new q ∙ go (leb 1 q) (leb q n) refl refl ∙ sym (sample-old q)
         where
-          go : (a b : Bool) → leb 1 q ≡ a → leb q n ≡ b
-              → sampleAt (set bs i x) (at k) q ≡ cond (a && b) (accepted (counts (sampleIn (set part (m - 48) x) q ∷ []))) (refused 11 (at k))
-              → sampleAt bs (at k) q ≡ cond (a && b) (accepted (counts (sampleIn part q ∷ []))) (refused 11 (at k))
-              → sampleAt (set bs i x) (at k) q ≡ sampleAt bs (at k) q
-          go true true ea eb sn so =
-              sn ∙ ap (λ (z : ℕ). accepted (counts (z ∷ [])))
-              (sample-stays part n body-bytes (sizes .0) (sizes .1) (m - 48) x byte q (leb-true 1 q ea) (leb-true q n eb) d) ∙ sym so
-          go true false ea eb sn so = sn ∙ sym so
-          go false b ea eb sn so = sn ∙ sym so
+          go : (a b : Bool) → leb 1 q ≡ a → leb q n ≡ b → given a b part′ q ≡ given a b part q
+          go true true ea eb =
+              ap (λ (z : ℕ). accepted (counts (z ∷ [])))
+              (sample-stays part n body-bytes (sizes .0) (sizes .1) (m - 48) x (d .byte) q (leb-true 1 q ea) (leb-true q n eb) e)
+          go true false ea eb = refl
+          go false b ea eb = refl
 
-      pub held-sample : x ≢ getD (t .body) m 0 → sampleAt (set bs i x) (at k) ((m - 48) / 2 + 1) ≢ sampleAt bs (at k) ((m - 48) / 2 + 1)
-      held-sample d e =
+      pub held-sample : x ≢ getD (t .body) m 0 → sampleAt bs′ (at k) ((m - 48) / 2 + 1) ≢ sampleAt bs (at k) ((m - 48) / 2 + 1)
+      held-sample differs e =
           let q : ℕ = (m - 48) / 2 + 1 in
           let size : length part ≡ length (t .body) - 48 = length-drop 48 (t .body) in
-          let in-part : m - 48 < length part = omega arith in
+          let in-part : m - 48 < length part = omega (arith, d .from, d .inside) in
           let a : leb 1 q ≡ true = le-leb 1 q (omega arith) in
           let b : leb q n ≡ true = le-leb q n (omega (arith, sizes .0)) in
-          let new′ : sampleAt (set bs i x) (at k) q ≡ accepted (counts (sampleIn (set part (m - 48) x) q ∷ [])) = sample-new q ∙ rw (a, b) in
+          let new′ : sampleAt bs′ (at k) q ≡ accepted (counts (sampleIn part′ q ∷ [])) = sample-new q ∙ rw (a, b) in
           let old′ : sampleAt bs (at k) q ≡ accepted (counts (sampleIn part q ∷ [])) = sample-old q ∙ rw (a, b) in
-          let same : accepted (counts (sampleIn (set part (m - 48) x) q ∷ [])) ≡ accepted (counts (sampleIn part q ∷ [])) = sym new′ ∙ e ∙ old′ in
-          let byte-there : getD part (m - 48) 0 ≡ getD (t .body) m 0 = getD-drop 48 (t .body) (m - 48) 0 ∙ ap (λ (z : ℕ). getD (t .body) z 0) (omega arith) in
-          sample-changed part n body-bytes (sizes .0) (sizes .1) (m - 48) x byte in-part (λ w. d (w ∙ byte-there)) (cc)
+          let same : accepted (counts (sampleIn part′ q ∷ [])) ≡ accepted (counts (sampleIn part q ∷ [])) = sym new′ ∙ e ∙ old′ in
+          let there : 48 + (m - 48) ≡ m = omega (arith, d .from) in
+          let byte-there : getD part (m - 48) 0 ≡ getD (t .body) m 0 =
+          getD-drop 48 (t .body) (m - 48) 0 ∙ ap (λ (z : ℕ). getD (t .body) z 0) there in
+          sample-changed part n body-bytes (sizes .0) (sizes .1) (m - 48) x (d .byte) in-part (λ w. differs (w ∙ byte-there)) (cc)
