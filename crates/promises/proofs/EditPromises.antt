@@ -23,51 +23,31 @@ use Rattle.promises.specs.Buffers.{tableCount, tableRows, tableRow}
 use Rattle.promises.specs.EditedCalls.{SampleByte, EditedCalls}
 use Rattle.promises.proofs.TablePromises.{table-has-rows, row-in-table}
 
--- Bytes of one length whose files have the same rows have the same table and the same yields.
-same-table : (bs cs : List ℕ) (f g : File) → length cs ≡ length bs → readFile bs ≡ ok f → readFile cs ≡ ok g → rowsOf g ≡ rowsOf f
-    → ((capacity : ℕ) → tableAnswer cs capacity ≡ tableAnswer bs capacity) × ((old : List ℕ) → tableBuffer cs old ≡ tableBuffer bs old)
-    × ((k : ℕ) → yieldAt cs k ≡ yieldAt bs k)
-unfolding tableAnswer tableBuffer yieldAt
-same-table bs cs f g n e q same = (λ capacity. rw (e, q, same, n), λ old. rw (e, q, same), λ k. rw (e, q, same))
-
--- Accepted files with the same rows give the same to Find.
-same-found : (bs cs : List ℕ) (f g : File) → Bytes bs → Bytes cs → readFile bs ≡ ok f → readFile cs ≡ ok g → rowsOf g ≡ rowsOf f
-    → (number code : ℕ) → findAt cs number code ≡ findAt bs number code
-same-found bs cs f g hb hc e q same number code =
-    find-by-rows cs g q number code hc
-    ∙ ap (λ (rs : List Row). accepted (counts (firstMatch number code (rowTraces rs rs)))) same
-    ∙ sym (find-by-rows bs f e number code hb)
-
 -- In an accepted file, row j is a trace, and byte i, inside its samples, becomes the byte x.
-module _ (bs : List ℕ) (f : File) (h : Bytes bs) (e : readFile bs ≡ ok f) (j : ℕ) (below : j < length (rowsOf f)) (kind : row (rowsOf f) j .kind ≡ 7)
-    (i x : ℕ) (lo : startOf f j + 56 ≤ i) (hi : i < startOf f j + row (rowsOf f) j .whole) (byte : x < 256) where
-  edited : Edited bs f j i x
-  edited = edit-in-full bs f h e j below kind i x lo hi byte
-
-  kept : ((capacity : ℕ) → tableAnswer (set bs i x) capacity ≡ tableAnswer bs capacity) × ((old : List ℕ) → tableBuffer (set bs i x) old ≡ tableBuffer bs old)
-      × ((k : ℕ) → yieldAt (set bs i x) k ≡ yieldAt bs k)
-  kept = same-table bs (set bs i x) f (edited .file) (length-set bs i x) e (edited .accepted) (edited .same-rows)
-
+module _ (bs : List ℕ) (f : File) (h : Bytes bs) (e : readFile bs ≡ ok f) {j i x : ℕ} (byte : x < 256) (d : Edited bs f j i x) where
   -- "still accepted, same rows": Table answers the same for every capacity and leaves the same in every buffer; the walker yields the
   -- same, and Find gives the same for every number and code.
   pub edit-keeps-answer : (capacity : ℕ) → tableAnswer (set bs i x) capacity ≡ tableAnswer bs capacity
-  edit-keeps-answer = kept .0
+  unfolding tableAnswer
+  edit-keeps-answer capacity = rw (e, d .accepted, d .same-rows, length-set bs i x)
 
   pub edit-keeps-buffer : (old : List ℕ) → tableBuffer (set bs i x) old ≡ tableBuffer bs old
-  edit-keeps-buffer = kept .1
+  unfolding tableBuffer
+  edit-keeps-buffer old = rw (e, d .accepted, d .same-rows)
 
   pub edit-keeps-yields : (k : ℕ) → yieldAt (set bs i x) k ≡ yieldAt bs k
-  edit-keeps-yields = kept .2
+  unfolding yieldAt
+  edit-keeps-yields k = rw (e, d .accepted, d .same-rows)
 
   pub edit-keeps-finds : (number code : ℕ) → findAt (set bs i x) number code ≡ findAt bs number code
-  edit-keeps-finds = same-found bs (set bs i x) f (edited .file) h (Bytes-set bs i x byte h) e (edited .accepted) (edited .same-rows)
-
-  -- "every other .. field reads as before": Record answers the same at each row's place.
-  pub edit-keeps-records : (k : ℕ) → k < length (rowsOf f) → recordAt (set bs i x) (startOf f k) ≡ recordAt bs (startOf f k)
-  edit-keeps-records k l = edited .fields-stay k l
+  edit-keeps-finds number code =
+      find-by-rows (set bs i x) (d .file) (d .accepted) number code (Bytes-set bs i x byte h)
+      ∙ ap (λ (rs : List Row). accepted (counts (firstMatch number code (rowTraces rs rs)))) (d .same-rows)
+      ∙ sym (find-by-rows bs f e number code h)
 
 -- ---- the same, with the rows taken from the buffer
 
+-- Row k of the buffer is row k of the file.
 table-row-is : (bs old : List ℕ) (given : tableAnswer bs (length old) .number ≡ 0) (f : File) → tableRows bs old ≡ rowsOf f
     → (k : ℕ) → k < tableCount bs old → tableRow bs old k ≡ row (rowsOf f) k
 table-row-is bs old given f same k l = sym (row-in-table bs old given k l) ∙ ap (λ (rs : List Row). row rs k) same
@@ -79,17 +59,18 @@ edit-seen-by-calls bs old j i x h s =
     let is : (k : ℕ) → k < tableCount bs old → tableRow bs old k ≡ row (rowsOf f) k = table-row-is bs old (s .answered) f same in
     let mine : tableRow bs old j ≡ row (rowsOf f) j = is j (s .counted) in
     let inside : (k : ℕ) → k < tableCount bs old → k < length (rowsOf f) = λ k l. subst (λ (m : ℕ). k < m) n l in
-    let start : (k : ℕ) → k < tableCount bs old → startOf f k ≡ tableRow bs old k .start = λ k l. ap (λ (r : Row). r .start) (sym (is k l)) in
+    let start : (k : ℕ) → k < tableCount bs old → startOf f k ≡ tableRow bs old k .start =
+    λ k l. ap (λ (r : Row). r .start) (sym (is k l)) in
     let here : j < length (rowsOf f) = inside j (s .counted) in
     let trace : row (rowsOf f) j .kind ≡ 7 = subst (λ (r : Row). r .kind ≡ 7) mine (s .trace) in
     let lo : startOf f j + 56 ≤ i = subst (λ (r : Row). r .start + 56 ≤ i) mine (s .from) in
     let hi : i < startOf f j + row (rowsOf f) j .whole = subst (λ (r : Row). i < r .start + r .whole) mine (s .below) in
     let new : Edited bs f j i x = edit-in-full bs f h e j here trace i x lo hi (s .byte) in
     record {
-      same-answer = edit-keeps-answer bs f h e j here trace i x lo hi (s .byte);
-      same-buffer = edit-keeps-buffer bs f h e j here trace i x lo hi (s .byte);
-      same-yields = edit-keeps-yields bs f h e j here trace i x lo hi (s .byte);
-      same-finds = edit-keeps-finds bs f h e j here trace i x lo hi (s .byte);
+      same-answer = edit-keeps-answer bs f h e (s .byte) new;
+      same-buffer = edit-keeps-buffer bs f h e (s .byte) new;
+      same-yields = edit-keeps-yields bs f h e (s .byte) new;
+      same-finds = edit-keeps-finds bs f h e (s .byte) new;
       same-records = λ k l. subst (λ (p : ℕ). recordAt (set bs i x) p ≡ recordAt bs p) (start k l) (new .fields-stay k (inside k l));
       same-settings = λ k l. subst (λ (p : ℕ). settingAt (set bs i x) p ≡ settingAt bs p) (start k l) (new .settings-stay k (inside k l));
       sample-changes = λ d.

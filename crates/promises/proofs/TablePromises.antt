@@ -72,12 +72,13 @@ row-from buffer j (suc n) (suc k) h =
 
 read-back : (rs : List Row) (rest : List ℕ) → rowsFrom (flat rs ++ rest) 0 (length rs) ≡ rs
 read-back rs rest =
-    let n : length (rowsFrom (flat rs ++ rest) 0 (length rs)) ≡ length rs = length-rowsFrom (flat rs ++ rest) 0 (length rs) in
-    ext-getD noRow (rowsFrom (flat rs ++ rest) 0 (length rs)) rs n
+    let buffer : List ℕ = flat rs ++ rest in
+    let n : length (rowsFrom buffer 0 (length rs)) ≡ length rs = length-rowsFrom buffer 0 (length rs) in
+    ext-getD noRow (rowsFrom buffer 0 (length rs)) rs n
     (λ k l.
     let below : k < length rs = omega (arith, n) in
     let e : 0 + k ≡ k = omega arith in
-    row-from (flat rs ++ rest) 0 (length rs) k below ∙ ap (rowAt (flat rs ++ rest)) e ∙ flat-row rs rest k below)
+    row-from buffer 0 (length rs) k below ∙ ap (rowAt buffer) e ∙ flat-row rs rest k below)
 
 -- ---- what the answer says
 
@@ -120,32 +121,32 @@ refusal-keeps-buffer bs old d = filled-refused bs old (readFile bs) d
 -- ---- the buffer of an accepted file
 
 module _ (bs old : List ℕ) (f : File) (e : readFile bs ≡ ok f) (room : rowWidth * length (rowsOf f) ≤ length old) where
-  filled-with : tableBuffer bs old ≡ flat (rowsOf f) ++ drop (rowWidth * length (rowsOf f)) old
+  -- How many numbers the file's rows have, and what stands behind them.
+  abbrev filled : ℕ
+  filled = rowWidth * length (rowsOf f)
+
+  abbrev behind : List ℕ
+  behind = drop filled old
+
+  filled-with : tableBuffer bs old ≡ flat (rowsOf f) ++ behind
   unfolding tableBuffer
-  filled-with = rw (e, le-leb (rowWidth * length (rowsOf f)) (length old) room)
+  filled-with = rw (e, le-leb filled (length old) room)
 
   counted : tableCount bs old ≡ length (rowsOf f)
   counted = ap (λ a. a .count) (accepted-means-zero bs old f e room)
 
   filled-length : length (tableBuffer bs old) ≡ length old
   filled-length =
-      omega (
-        arith,
-        ap length filled-with,
-        length-append (flat (rowsOf f)) (drop (rowWidth * length (rowsOf f)) old),
-        length-flat (rowsOf f),
-        length-drop (rowWidth * length (rowsOf f)) old,
-      )
+      omega (arith, ap length filled-with, length-append (flat (rowsOf f)) behind, length-flat (rowsOf f), length-drop filled old)
 
   filled-rest : drop (rowWidth * tableCount bs old) (tableBuffer bs old) ≡ drop (rowWidth * tableCount bs old) old
   filled-rest =
       ap₂ (λ (n : ℕ) (x : List ℕ). drop (rowWidth * n) x) counted filled-with
-      ∙ drop-at (flat (rowsOf f)) (drop (rowWidth * length (rowsOf f)) old) (rowWidth * length (rowsOf f)) (length-flat (rowsOf f))
+      ∙ drop-at (flat (rowsOf f)) behind filled (length-flat (rowsOf f))
       ∙ ap (λ (n : ℕ). drop (rowWidth * n) old) (sym counted)
 
   filled-rows : tableRows bs old ≡ rowsOf f
-  filled-rows =
-      ap₂ (λ (x : List ℕ) (n : ℕ). rowsFrom x 0 n) filled-with counted ∙ read-back (rowsOf f) (drop (rowWidth * length (rowsOf f)) old)
+  filled-rows = ap₂ (λ (x : List ℕ) (n : ℕ). rowsFrom x 0 n) filled-with counted ∙ read-back (rowsOf f) behind
 
 -- A buffer keeps its length, whatever the answer.
 pub buffer-keeps-length : (bs old : List ℕ) → length (tableBuffer bs old) ≡ length old
@@ -168,11 +169,19 @@ module _ (bs old : List ℕ) (zero-given : tableAnswer bs (length old) .number �
 
   -- The rows that stand in the buffer are the file's, as many as the count says.
   pub table-has-rows : (f : File) × (readFile bs ≡ ok f) × (tableCount bs old ≡ length (rowsOf f)) × (tableRows bs old ≡ rowsOf f)
-  table-has-rows = let (f, e, room) = zero-means-accepted bs old zero-given in (f, e, counted bs old f e room, filled-rows bs old f e room)
+  table-has-rows =
+      let (f, e, room) = zero-means-accepted bs old zero-given in
+      (f, e, counted bs old f e room, filled-rows bs old f e room)
 
   -- Row j among them is row j of the buffer.
   pub row-in-table : (j : ℕ) → j < tableCount bs old → row (tableRows bs old) j ≡ tableRow bs old j
-  row-in-table j l = let e : 0 + j ≡ j = omega arith in row-from (tableBuffer bs old) 0 (tableCount bs old) j l ∙ ap (rowAt (tableBuffer bs old)) e
+  row-in-table j l =
+      let e : 0 + j ≡ j = omega arith in
+      row-from (tableBuffer bs old) 0 (tableCount bs old) j l ∙ ap (rowAt (tableBuffer bs old)) e
+
+  -- They are as many as the count says.
+  table-length : length (tableRows bs old) ≡ tableCount bs old
+  table-length = length-rowsFrom (tableBuffer bs old) 0 (tableCount bs old)
 
   -- "Each child inside its one parent": each row that has a parent lies behind that row's own eight bytes, within its whole length.
   pub table-rows-inside : All (Placed (tableRows bs old)) (tableRows bs old)
@@ -197,21 +206,20 @@ module _ (bs old : List ℕ) (zero-given : tableAnswer bs (length old) .number �
     pub byte-has-table-row : (i : ℕ) → i < length bs → (j : ℕ) × (j < tableCount bs old) × Owns isBox (tableRow bs old j) i
     byte-has-table-row i l =
         let (j, below, owns) = owner isBox 0 (length bs) (tableRows bs old) i table-tiles (omega arith) l in
-        let counts : j < tableCount bs old = omega (arith, length-rowsFrom (tableBuffer bs old) 0 (tableCount bs old)) in
+        let counts : j < tableCount bs old = omega (arith, table-length) in
         (j, counts, subst (λ (r : Row). Owns isBox r i) (row-in-table j counts) owns)
 
     pub byte-has-one-table-row : (i j k : ℕ) → j < tableCount bs old → k < tableCount bs old
         → Owns isBox (tableRow bs old j) i → Owns isBox (tableRow bs old k) i → j ≡ k
     byte-has-one-table-row i j k lj lk oj ok′ =
-        let n : length (tableRows bs old) ≡ tableCount bs old = length-rowsFrom (tableBuffer bs old) 0 (tableCount bs old) in
-        owner-one isBox 0 (length bs) (tableRows bs old) i table-tiles j k (omega (arith, n)) (omega (arith, n))
+        owner-one isBox 0 (length bs) (tableRows bs old) i table-tiles j k (omega (arith, table-length)) (omega (arith, table-length))
         (subst (λ (r : Row). Owns isBox r i) (sym (row-in-table j lj)) oj)
         (subst (λ (r : Row). Owns isBox r i) (sym (row-in-table k lk)) ok′)
 
     -- "A parent before its children": the parent's row number, from 1, is at most the number of rows before the child.
     pub table-parent-before : (j : ℕ) → j < tableCount bs old → tableRow bs old j .parent ≤ j
     table-parent-before j l =
-        let n : length (tableRows bs old) ≡ tableCount bs old = length-rowsFrom (tableBuffer bs old) 0 (tableCount bs old) in
-        let below : j < length (tableRows bs old) = omega (arith, n) in
+        let rs : List Row = tableRows bs old in
+        let below : j < length rs = omega (arith, table-length) in
         subst (λ (r : Row). r .parent ≤ j) (row-in-table j l)
-        (parent-before isBox (length bs) (tableRows bs old) table-tiles j below (All-at (Placed (tableRows bs old)) (tableRows bs old) table-rows-inside j below))
+        (parent-before isBox (length bs) rs table-tiles j below (All-at (Placed rs) rs table-rows-inside j below))
