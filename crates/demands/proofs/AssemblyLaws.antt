@@ -54,6 +54,7 @@ abbrev KindsFit : List Record → Type 0
 KindsFit [] = Unit {0}
 KindsFit (r ∷ rs) = Fits 4 (r .kind) × KindsFit rs
 
+-- With fuel f for as many records.
 sequence-exact : (f : ℕ) (c : Context) (at : ℕ) (rs xs : List Record) → KindsFit rs
     → length (recordsBytes rs) ≤ f → Fits 4 (length (recordsBytes rs)) → seqs recordItem f c at (recordsBytes rs) ≡ ok xs → xs ≡ rs
 sequence-exact zero c at [] xs k l s e = sym (ok-inj e)
@@ -74,6 +75,7 @@ sequence-exact (suc f) c at (r ∷ rs) xs k l s e =
     (sym (ap later rest) ∙ ey) in
     sym (ok-inj e2) ∙ ap (λ (zs : List Record). r ∷ zs) tail
 
+-- Whatever the context, what is accepted from the bytes of records is those records.
 records-exact : (c : Context) (at : ℕ) (rs xs : List Record) → KindsFit rs → Fits 4 (length (recordsBytes rs))
     → readRecords c at (recordsBytes rs) ≡ ok xs → xs ≡ rs
 records-exact c at rs xs k s e =
@@ -88,6 +90,7 @@ piecesBytes ps = recordsBytes (map recordOf ps)
 abbrev pub eventPiecesBytes : List EventPieces → List ℕ
 eventPiecesBytes es = eventsBytes (map eventOf es)
 
+-- What the caller's types say makes each kind word fit, and all bytes bytes.
 pieces-kinds : (ps : List Piece) → AllFitting ps → KindsFit (map recordOf ps)
 pieces-kinds [] h = tt
 pieces-kinds (p ∷ ps) h = (piece-writes p (h .0) .kind-fits, pieces-kinds ps (h .1))
@@ -160,6 +163,7 @@ module _ (head : Unit {0} → ℕ → ℕ) (late : Unit {0} → ℕ → ℕ → 
     (closed : List ℕ → ℕ → ℕ → Res ℕ) (output : List ℕ → ℕ → ℕ → List ℕ)
     (checked : (out : List ℕ) (place end next : ℕ) → closed out place end ≡ ok next → Checked head late c out place end next word)
     (is : (o : List ℕ) (place end : ℕ) → output o place end ≡ written (closed o place end) o place (closingBytes word place end)) where
+  -- A closing over pieces that were laid behind eight free bytes.
   closed-stands : (b filled : Built) (ps : List Piece) (next : ℕ) → AllFitting ps → Lays (contentsFrom b) filled (piecesBytes ps)
       → closed (filled .out) (b .next) (filled .next) ≡ ok next
       → Stood head late c b (closedWith output b filled next) (containerOf word ps)
@@ -186,6 +190,7 @@ module _ (head : Unit {0} → ℕ → ℕ) (late : Unit {0} → ℕ → ℕ → 
         valid = container-ok head late c old place end next word k bytes;
       })
 
+  -- All of a container's calls.
   container-stands : (b : Built) (ps : List Piece) (after : Built) → AllFitting ps → containerAssembled closed output b ps ≡ ok after
       → Stood head late c b after (containerOf word ps)
   container-stands b ps after h e =
@@ -221,6 +226,7 @@ events-stand b (e ∷ es) after h q =
 
 -- ---- the file
 
+-- The version word of two DAQ bytes is admitted.
 pub version-ok : (f : FilePieces) → FileFits f
     → (versionRule (versionWord (f .major) (f .minor)) ≡ 0) × Fits 4 (versionWord (f .major) (f .minor))
 version-ok f h =
@@ -260,6 +266,7 @@ module _ (out : List ℕ) (f : FilePieces) (h : FileFits f) where
         (version-ok f h, (configuration .valid, oks)),
       )
 
+  -- So what then stands from byte 0 on is accepted as the tree of the pieces.
   pub assembled-accepted : (b : Built) → fileAssembled out f ≡ ok b → Assembled out f b
   assembled-accepted b e =
       let (l, limit, valid) = file-stands b e in

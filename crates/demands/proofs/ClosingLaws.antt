@@ -50,6 +50,7 @@ module _ (head : Unit {0} → ℕ → ℕ) (late : Unit {0} → ℕ → ℕ → 
     pub is : end ≡ next
 
   module _ (out : List ℕ) (place end next word : ℕ) (k : Checked out place end next word) (h : Bytes (contentsOf out place end)) where
+    -- What stands between the eight bytes and the end.
     abbrev held : List ℕ
     held = contentsOf out place end
 
@@ -131,6 +132,7 @@ module _ (head : Unit {0} → ℕ → ℕ) (late : Unit {0} → ℕ → ℕ → 
           size = eight-laid .size;
         }
 
+    -- So a closing that has checked all this leaves a closed container.
     pub closes : Closed reader c out (written (ok next) out place (closingBytes word place end)) place end next word
     unfolding eight new whole
     closes =
@@ -231,6 +233,7 @@ module _ (class category type : ℕ) (e : eventFault class category type ≡ 0) 
 
 -- An event.
 module _ (out : List ℕ) (place end class category type : ℕ) where
+  -- The closing's answer, and the event's first word.
   abbrev closedEvent : Res ℕ
   closedEvent = eventClosed out place end class category type
 

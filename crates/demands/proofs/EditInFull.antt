@@ -45,6 +45,7 @@ module _ {bs : List ℕ} {v : ℕ} {c : Container} {p : Spot} {t : Record} {j m 
   abbrev i : ℕ
   i = placeOf c p + (8 + m)
 
+  -- The number of the sample that holds the byte.
   same-holder : holder (startOf f j) i ≡ (m - 48) / 2 + 1
   same-holder =
       ap (λ (s : ℕ). (placeOf c p + (8 + m) - (s + 56)) / 2 + 1) (d .start) ∙ ap (λ (z : ℕ). z / 2 + 1) (omega (arith, d .from))
@@ -57,6 +58,7 @@ module _ {bs : List ℕ} {v : ℕ} {c : Container} {p : Spot} {t : Record} {j m 
       let owns-j : Owns isBox (row (rowsOf f) j) i = (omega (arith, d .start), omega (arith, mine, d .start, d .inside)) in
       other (byte-has-one-row bs f (d .bytes) (read-old d) i k j l (d .below) owns-k owns-j)
 
+  -- The demand, of a trace at its spot.
   edit-spot : Edited bs f j i x
   unfolding recordAt settingAt sampleAt
   edit-spot = record {

@@ -94,6 +94,7 @@ module _ {bs : List ℕ} {v : ℕ} {c : Container} {p : Spot} {t : Record} {j m 
   abbrev pub bs′ : List ℕ
   bs′ = set bs i x
 
+  -- The trace's rule doesn't look at the byte, so that the byte is free.
   rule-blind : recordRule (t .kind) (set (t .body) m x) ≡ recordRule (t .kind) (t .body)
   unfolding kindOf
   rule-blind = rw (d .kind) (trace-blind (t .body) m x (d .from))
@@ -101,6 +102,7 @@ module _ {bs : List ℕ} {v : ℕ} {c : Container} {p : Spot} {t : Record} {j m 
   free : Free order recordHead recordLate (λ s. recordRule (s .1)) recordStep eventHead eventLate (λ s. event nothing) eventStep tt p t m x
   free = record { inside-body = d .inside; byte = d .byte; rule-blind = rule-blind; step-blind = refl; box-blind = refl }
 
+  -- The events are valid again.
   events-ok′ : Oks eventItem tt (plug p t′)
   events-ok′ =
       free-valid order recordHead recordLate (λ s. recordRule (s .1)) recordStep eventHead eventLate (λ s. event nothing) eventStep
@@ -128,7 +130,7 @@ module _ {bs : List ℕ} {v : ℕ} {c : Container} {p : Spot} {t : Record} {j m 
       parts-valid new (header, (configuration, events-ok′))
       (subst (λ (s : List ℕ). length s ≤ fileLimit) edited-bytes (rw (length-set (fileBytes old) i x) (d .valid .within-limit)))
 
-  -- the rows
+  -- the rows: the trace's own says the same
   child-same : childOf t′ ≡ childOf t
   unfolding childOf kindOf
   child-same =
@@ -154,6 +156,7 @@ module _ {bs : List ℕ} {v : ℕ} {c : Container} {p : Spot} {t : Record} {j m 
 
   -- ---- what is read at a row
 
+  -- Row k's first byte.
   abbrev at : ℕ → ℕ
   at k = startOf old k
 
@@ -166,6 +169,7 @@ module _ {bs : List ℕ} {v : ℕ} {c : Container} {p : Spot} {t : Record} {j m 
       subst (λ (s : List ℕ). readFile s ≡ ok new) (sym is) (file-complete new edited-valid)
 
   module _ (k : ℕ) (l : k < length (rowsOf old)) where
+    -- What is found at row k, before and after.
     found-old : recordFound bs (at k) ≡ foundAs (at k) (beside c p t k)
     found-old = found-at v c p t bs (d .bytes) read-old k l
 
@@ -214,6 +218,7 @@ module _ {bs : List ℕ} {v : ℕ} {c : Container} {p : Spot} {t : Record} {j m 
       n : ℕ
       n = word 44 (t .body)
 
+      -- The trace is valid where it stands, so its rule gives the size of its samples.
       is-valid : ValidRecord (steps recordItem (event nothing) (p .left)) t
       is-valid =
           let oks : Oks eventItem tt (plug p t) = parts-ok old (d .valid) .1 .1 in
@@ -247,6 +252,7 @@ module _ {bs : List ℕ} {v : ℕ} {c : Container} {p : Spot} {t : Record} {j m 
       body-bytes : Bytes part
       body-bytes = Bytes-drop 48 (t .body) (is-valid .body-bytes)
 
+      -- Another sample than the one that holds the byte reads as before.
       pub other-sample : (q : ℕ) → q ≢ (m - 48) / 2 + 1 → sampleAt bs′ (at k) q ≡ sampleAt bs (at k) q
       other-sample q e = sample-new q ∙ go (leb 1 q) (leb q n) refl refl ∙ sym (sample-old q)
         where
@@ -257,6 +263,7 @@ module _ {bs : List ℕ} {v : ℕ} {c : Container} {p : Spot} {t : Record} {j m 
           go true false ea eb = refl
           go false b ea eb = refl
 
+      -- The one that holds it changes with it.
       pub held-sample : x ≢ getD (t .body) m 0 → sampleAt bs′ (at k) ((m - 48) / 2 + 1) ≢ sampleAt bs (at k) ((m - 48) / 2 + 1)
       held-sample differs e =
           let q : ℕ = (m - 48) / 2 + 1 in

@@ -40,6 +40,7 @@ record-fault-here c at bs k p e = elim (refused order recordHead recordLate (rec
     inner zero b q = absurd (ok-bad q)
     inner (suc f) b q = cc
 
+-- The context behind records that were read is the definition's.
 steps-past : (c : Context) (rs : List Record) → steps recordItem c rs ≡ past c rs
 steps-past c [] = refl
 steps-past c (r ∷ rs) = steps-past (recordStep c r) rs
@@ -98,6 +99,7 @@ module _ (head : Unit {0} → ℕ → ℕ) (late : Unit {0} → ℕ → ℕ → 
               ∙ q;
         }
 
+    -- A container that is refused has its fault in one of the two ways.
     pub container-refused : box head late start .read tt at bs ≡ bad c p → ContainerFault at bs c p
     container-refused e = elim (refused order head late (inside (λ s. start) records .read) tt at bs c p e) [
       | inl o ↦ inl (o .place, λ contents. o .whatever contents ∙ ap (λ (m : ℕ). bad c m) (o .place))
@@ -113,6 +115,7 @@ valid-configuration c v = record {
   entries = records-valid entry (c .body) (v .body-ok);
 }
 
+-- The two words in front of a container's contents, and those of the header, are eight bytes.
 pub length-front : (w n : ℕ) → length (front w n) ≡ 8
 length-front w n = omega (arith, length-append (put order 4 w) (put order 4 n), length-put order 4 w, length-put order 4 n)
 
@@ -131,6 +134,7 @@ module _ (bs : List ℕ) (c p : ℕ) (v : ℕ) (hv : ValidHeader v) (conf : Cont
   abbrev placeBehind : List Container → ℕ
   placeBehind xs = length before + length (eventsBytes xs)
 
+  -- The event at fault, behind the events xs.
   event-fault : (xs : List Container) (part : List ℕ) → bs ≡ upTo xs ++ part → placeBehind xs ≡ length (upTo xs) → Oks eventItem tt xs
       → ContainerFault eventHead eventLate (event none) (placeBehind xs) part c p → FirstFault bs c p
   event-fault xs part whole at os (inl (here, own)) =
@@ -155,6 +159,7 @@ module _ (bs : List ℕ) (c p : ℕ) (v : ℕ) (hv : ValidHeader v) (conf : Cont
       })
       (w .fault)
 
+  -- Events that are refused: the valid ones before, then the one at fault.
   events-fault : (rest : List ℕ) → Bytes rest → bs ≡ before ++ rest → events .read tt (length before) rest ≡ bad c p → FirstFault bs c p
   events-fault rest h is q =
       let (xs, part, ep, os, r) = seq-refused eventItem (length rest) tt (length before) rest c p (omega arith) h q in
@@ -170,6 +175,7 @@ module _ (bs : List ℕ) (c p : ℕ) (v : ℕ) (hv : ValidHeader v) (conf : Cont
 
 -- The configuration and the events, behind the header.
 module _ (bs : List ℕ) (c p : ℕ) (v : ℕ) (hv : ValidHeader v) (rest : List ℕ) (eb : bs ≡ headerBytes v ++ rest) where
+  -- The configuration at fault, itself or at an entry.
   configuration-fault : ContainerFault configurationHead configurationLate entry 8 rest c p → FirstFault bs c p
   configuration-fault (inl (here, own)) =
       at-configuration v rest hv
@@ -196,6 +202,7 @@ module _ (bs : List ℕ) (c p : ℕ) (v : ℕ) (hv : ValidHeader v) (rest : List
       })
       (w .fault)
 
+  -- A refusal behind the header is the configuration's or, that being valid, the events'.
   rest-fault : Bytes rest → pair configurationItem events .read tt 8 rest ≡ bad c p → FirstFault bs c p
   rest-fault h q = elim (pair-refused configurationItem events tt 8 rest c p h q) [
     | inl r ↦ configuration-fault (container-refused configurationHead configurationLate entry 8 rest c p h r)

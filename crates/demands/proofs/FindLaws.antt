@@ -33,6 +33,7 @@ pub record FirstMatch (number code : ℕ) (ts : List TraceAt) (place : ℕ) : Ty
   pub none-before : NoneMatches number code before
 
 module _ (number code : ℕ) where
+  -- What the search gave, by induction on the list.
   pub found-is-first : (ts : List TraceAt) (place : ℕ) → firstMatch number code ts ≡ place ∷ [] → FirstMatch number code ts place
   unfolding firstMatch
   found-is-first [] place e = let z : _≡_ {A = ℕ} 0 1 = cc in absurd (omega arith)

@@ -37,6 +37,7 @@ use Rattle.demands.proofs.AssemblyLaws.{headed, version-ok, file-calls,
 
 -- ---- pieces without fault, each where it may stand, make a valid tree
 
+-- The first piece's bytes and those of the others; the first event's and those of the others.
 first-piece : (p : Piece) (ps : List Piece) → length (piecesBytes (p ∷ ps)) ≡ recordSize (recordOf p) + length (piecesBytes ps)
 first-piece p ps = omega (arith, length-append (recordBytes (recordOf p)) (piecesBytes ps), record-size (recordOf p))
 
@@ -61,6 +62,7 @@ pieces-valid c (p ∷ ps) h f k l =
       pieces-valid (behind c (recordOf p .kind)) ps (h .1) (f .1) (k .2) (omega arith),
     )
 
+-- Some pieces have some bytes.
 some-bytes : (ps : List Piece) → 1 ≤ length ps → 1 ≤ length (piecesBytes ps)
 some-bytes [] l = l
 some-bytes (p ∷ ps) l = omega (arith, first-piece p ps)
@@ -91,6 +93,7 @@ pub record Room (b : Built) (bytes : List ℕ) : Type 0 where
 abbrev Answers : Res Built → Type 0
 Answers r = (after : Built) × (r ≡ ok after)
 
+-- Records without fault are written where they have room.
 records-granted : (b : Built) (ps : List Piece) → AllFitting ps → AllFaultless ps → Room b (piecesBytes ps) → Answers (recordsAssembled b ps)
 unfolding recordsAssembled recordWrote
 records-granted b [] h f r = (b, refl)
@@ -109,6 +112,7 @@ records-granted b (p ∷ ps) h f r =
 module _ (head : Unit {0} → ℕ → ℕ) (late : Unit {0} → ℕ → ℕ → ℕ) (c : Context) (word : ℕ)
     (closed : List ℕ → ℕ → ℕ → Res ℕ) (output : List ℕ → ℕ → ℕ → List ℕ)
     (closing-grants : (out : List ℕ) (place end : ℕ) → Checked head late c out place end end word → closed out place end ≡ ok end) where
+  -- Then a valid container of them is closed.
   container-granted : (b : Built) (ps : List Piece) → AllFitting ps → AllFaultless ps → box head late c .Ok tt (containerOf word ps)
       → Room b (containerBytes (containerOf word ps)) → Answers (containerAssembled closed output b ps)
   unfolding containerAssembled
@@ -166,6 +170,7 @@ events-granted b (e ∷ es) h f v r =
 
 -- ---- what granted calls say of the pieces
 
+-- A granted writer or closing found no fault.
 records-faultless : (b : Built) (ps : List Piece) (after : Built) → recordsAssembled b ps ≡ ok after → AllFaultless ps
 unfolding recordsAssembled
 records-faultless b [] after e = tt
@@ -188,6 +193,7 @@ events-faultless b (e ∷ es) after q =
       events-faultless mid es after q2,
     )
 
+-- In a valid tree each piece stands where it may.
 pieces-placed : (c : Context) (ps : List Piece) → ValidRecords c (map recordOf ps) → AllPlaced c ps
 pieces-placed c [] v = tt
 pieces-placed c (p ∷ ps) v = (v .0 .kind-allowed, v .0 .place-allowed, pieces-placed (behind c (recordOf p .kind)) ps (v .1))
@@ -227,6 +233,7 @@ module _ (f : FilePieces) (h : FileFits f) where
       Bytes-append (headerBytes version) _ header
       (Bytes-append (containerBytes configuration) _ entries (events-bytes (f .events) (h .events)))
 
+  -- The file's length, by its parts.
   file-size : length (fileBytes (fileOf f)) ≡ 8 + length (containerBytes configuration) + length (eventPiecesBytes (f .events))
   unfolding fileOf
   file-size =
@@ -254,12 +261,14 @@ module _ (f : FilePieces) (h : FileFits f) where
   file-placed v = record { entries = pieces-placed entry (f .entries) (v .entries-valid); events = events-placed (f .events) (v .events-valid) }
 
 module _ (out : List ℕ) (f : FilePieces) (h : FileFits f) where
+  -- Calls that were granted have found no fault.
   file-faultless : (b : Built) → fileAssembled out f ≡ ok b → FileFaultless f
   file-faultless b e =
       let (next, mid, header, configuration, events) = file-calls out f b e in
       let (filled, end, inner, closed, is) = container-calls _ _ _ (f .entries) mid configuration in
       record { entries = records-faultless _ (f .entries) filled inner; events = events-faultless mid (f .events) b events }
 
+  -- And they are granted where the tree is valid and has room.
   file-granted : FileFaultless f → Valid (fileOf f) → length out ≤ fileLimit → length (fileBytes (fileOf f)) ≤ length out
       → (b : Built) × (fileAssembled out f ≡ ok b)
   unfolding fileAssembled fileOf headerWrote
@@ -281,6 +290,7 @@ module _ (out : List ℕ) (f : FilePieces) (h : FileFits f) where
             ∙ events,
       )
 
+  -- They end where the file does.
   file-ends : (b : Built) → fileAssembled out f ≡ ok b → b .next ≡ length (fileBytes (fileOf f))
   file-ends b e = omega (arith, file-stands out f h b e .0 .ends)
 

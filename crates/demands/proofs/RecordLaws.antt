@@ -109,6 +109,7 @@ no-header : isKind alone fileMark ≡ false
 unfolding isKind
 no-header = refl
 
+-- So Record finds no record at a container.
 reads-container : (at : ℕ) (c : Container) (rest : List ℕ) → Fits 4 (c .kind) → isKind alone (c .kind) ≡ false
     → readRecord alone at (containerBytes c ++ rest) ≡ bad 5 at
 reads-container at c rest f k =
@@ -129,6 +130,7 @@ reads-append bs (x ∷ xs) ys [] ms a b = absurd a
 reads-append bs (x ∷ xs) ys (l ∷ ls) ms a b = (a .0, reads-append bs xs ys ls ms (a .1) b)
 
 module _ (bs : List ℕ) (limit : length bs ≤ fileLimit) where
+  -- The rows of records, whose bytes stand behind `before`.
   reads-children : (c : Context) (p at : ℕ) (rs : List Record) (before rest : List ℕ) → ValidRecords c rs
       → bs ≡ before ++ (recordsBytes rs ++ rest) → at ≡ length before → Reads bs (recordRows p at rs) (map some rs)
   unfolding childRows childOf
@@ -158,6 +160,7 @@ module _ (bs : List ℕ) (limit : length bs ≤ fileLimit) where
         reads-children c i (at + 8) (e .body) (before ++ two) rest v inner (omega (arith, length-append before two)),
       )
 
+  -- The rows of events, whose bytes stand behind `before`.
   reads-events : (i at : ℕ) (es : List Container) (before : List ℕ) → ValidEvents es
       → bs ≡ before ++ eventsBytes es → at ≡ length before → Reads bs (eventRows i at es) (eventsRecords es)
   unfolding rows

@@ -88,6 +88,7 @@ rows-of-records : (i at : ℕ) (rs : List Record) → length (recordRows i at rs
 rows-of-records i at rs = length-childRows i at (childrenOf rs) ∙ length-map rs childOf
 
 module _ (f : File) where
+  -- No entry's row is a trace's.
   entries-none : (i at n : ℕ) (rs : List Record) → ValidRecords entry rs → AllFrom (Found f) n (recordRows i at rs)
   unfolding childRows childOf behind
   entries-none i at n [] v = tt

@@ -64,6 +64,7 @@ module _ (all : List Row) where
   abbrev Headed : Row → Type 0
   Headed r = r .kind ≡ traceKind .row → row all (r .parent) .kind ≡ administrativeKind .row
 
+  -- Among the rows of entries there is no trace's; those of an event's records have the event's first record behind their parent.
   headed-entries : (i at : ℕ) (rs : List Record) → ValidRecords entry rs → All Headed (recordRows i at rs)
   unfolding childRows childOf behind
   headed-entries i at [] v = tt
@@ -110,6 +111,7 @@ module _ (f : File) (v : Valid f) where
   abbrev front : List Row
   front = record { kind = 1; start = 0; whole = 8; parent = 0; one = versionOf f; two = 0 } ∷ (configurationRow c ∷ recordRows 2 16 (c .body))
 
+  -- The rows of the file's events.
   walked : (rowTraces (rowsOf f) (rowsBehind f) ≡ tracesFrom (nextPlace 8 c) (eventsOf f)) × All (Headed (rowsOf f)) (rowsBehind f)
   unfolding rowsOf nodesOf rows
   walked =
