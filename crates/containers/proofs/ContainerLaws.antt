@@ -10,7 +10,7 @@ use borrow.Author.Tests.{le-leb, lt-leb}
 use Rattle.theory.specs.Words.{Bytes}
 use Rattle.theory.specs.Tests.{Res, ok, bad, bind}
 use Rattle.theory.specs.Structures.{readStructure}
-use Rattle.theory.proofs.WordLaws.{Bytes-drop, Bytes-take}
+use Rattle.theory.proofs.WordLaws.{Bytes-part}
 use Rattle.theory.proofs.TestLaws.{positive}
 use Rattle.theory.proofs.StructureLaws.{opens, length-is, inside}
 use Rattle.note.specs.Words.{order, word}
@@ -114,7 +114,7 @@ module _ {head : Unit {0} → ℕ → ℕ} {late : Unit {0} → ℕ → ℕ → 
       let (xs, q, size) = count-good (readRecords inner (at + 8) (take (8 + n - 8) (drop 8 bs))) m e in
       let r : records .read inner (at + 8) contents ≡ ok xs =
       sym (same-records inner (at + 8) contents) ∙ ap (readRecords inner (at + 8)) (sym (cut n bs)) ∙ q in
-      let by : Bytes contents = Bytes-take n (drop 8 bs) (Bytes-drop 8 bs (b .bytes)) in
+      let by : Bytes contents = Bytes-part n 8 bs (b .bytes) in
       let is : contents ≡ recordsBytes xs = records .sound inner (at + 8) contents xs by r .0 in
       let len : length (recordsBytes xs) ≡ n = ap length (sym is) ∙ length-take-le n (drop 8 bs) (omega (arith, length-drop 8 bs, b .fits)) in
       rw (begun-reads (ok xs) q, len, size)

@@ -11,7 +11,7 @@ use lib.Seq.{take-at, drop-at, drop-drop, length-take-le}
 use Rattle.theory.specs.Words.{Bytes, Fits, put, puts}
 use Rattle.theory.specs.Tests.{Res, ok, bad, unless, among}
 use Rattle.theory.specs.Structures.{readStructure}
-use Rattle.theory.proofs.WordLaws.{Bytes-take, Bytes-drop, length-puts}
+use Rattle.theory.proofs.WordLaws.{Bytes-part, length-puts}
 use Rattle.theory.proofs.TestLaws.{need-ok, bind-ok, ok-inj, unless-zero, most-passed, most-passes, equal-passes, first-at, first-passes}
 use Rattle.note.specs.Limits.{fileLimit}
 use Rattle.note.specs.Words.{order}
@@ -173,7 +173,7 @@ ended-ok end next r e = let (rs, is, q) = bind-ok r (λ rs. ok end) e in (rs, is
 
 -- The contents of an output of bytes are bytes.
 contents-bytes : (out : List ℕ) (place end : ℕ) → Bytes out → Bytes (contentsOf out place end)
-contents-bytes out place end h = Bytes-take (end - (place + 8)) (drop (place + 8) out) (Bytes-drop (place + 8) out h)
+contents-bytes out place end h = Bytes-part (end - (place + 8)) (place + 8) out h
 
 -- A configuration.
 module _ (out : List ℕ) (place end : ℕ) where

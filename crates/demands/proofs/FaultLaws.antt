@@ -11,7 +11,7 @@ use lib.Seq.{length-take-le}
 use borrow.Author.Tests.{lt-leb}
 use Rattle.theory.specs.Words.{Bytes, wordAt, put}
 use Rattle.theory.specs.Tests.{ok, bad, need, unless}
-use Rattle.theory.proofs.WordLaws.{Bytes-drop, Bytes-take, Bytes-right, length-put}
+use Rattle.theory.proofs.WordLaws.{Bytes-part, Bytes-drop, Bytes-right, length-put}
 use Rattle.theory.proofs.TestLaws.{ok-bad, need-pass, equal-passed, most-passes}
 use Rattle.theory.proofs.Items.{Oks, steps, seq-refused}
 use Rattle.theory.proofs.StructureLaws.{BodyFault, refused, restore-two, inside, pair, pair-refused, words-refused}
@@ -74,7 +74,7 @@ module _ (head : Unit {0} → ℕ → ℕ) (late : Unit {0} → ℕ → ℕ → 
         let beyond : List ℕ = drop n (drop 8 bs) in
         let fits : 8 + n ≤ length bs = b .fits in
         let size : length content ≡ n = length-take-le n (drop 8 bs) (omega (arith, length-drop 8 bs)) in
-        let bytes : Bytes content = Bytes-take n (drop 8 bs) (Bytes-drop 8 bs h) in
+        let bytes : Bytes content = Bytes-part n 8 bs h in
         let (xs, rest, es, os, q) = seq-refused recordItem (length content) start (at + 8) content c p (omega arith) bytes (b .body-is) in
         let passed : Context = steps recordItem start xs in
         let here : p ≡ at + 8 + length (recordsBytes xs) = record-fault-here passed (at + 8 + length (recordsBytes xs)) rest c p q in

@@ -13,7 +13,7 @@ use lib.Seq.{length-take-le}
 use borrow.Author.Tests.{eq-eqb, ne-eqb}
 use Rattle.theory.specs.Words.{Bytes}
 use Rattle.theory.specs.Tests.{Res, ok}
-use Rattle.theory.proofs.WordLaws.{Bytes-drop, Bytes-take, word-of-part}
+use Rattle.theory.proofs.WordLaws.{Bytes-part, word-of-part}
 use Rattle.theory.proofs.TestLaws.{ok-inj}
 use Rattle.theory.proofs.LoopLaws.{Ahead, ahead}
 use Rattle.note.specs.Limits.{fileLimit}
@@ -205,7 +205,7 @@ module _ {number code : ℕ} {answer : List ℕ} {at : ℕ} {bs : List ℕ} (i :
     inner-length = ap length (cut (word 4 bs) bs) ∙ length-take-le (word 4 bs) (drop 8 bs) (omega (arith, length-drop 8 bs, event-fits))
 
     inner-bytes : Bytes inner
-    inner-bytes = Bytes-take (8 + word 4 bs - 8) (drop 8 bs) (Bytes-drop 8 bs (i .bytes))
+    inner-bytes = Bytes-part (8 + word 4 bs - 8) 8 bs (i .bytes)
 
     -- its first record, which is administrative
     inner-front : Ahead recordItem (event none) (at + 8) inner (front-event .item .body)
