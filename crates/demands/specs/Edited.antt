@@ -5,7 +5,7 @@ use mathlib.Core.Path.{_≡_}
 use mathlib.Core.Logic.{_≢_}
 use mathlib.Core.List.{List}
 use lib.ListN.{length, getD, set}
-use Rattle.theory.specs.Tests.{Res, ok}
+use Rattle.theory.specs.Tests.{ok}
 use Rattle.theory.specs.Layout.{row, own}
 use Rattle.note.specs.Files.{File, readFile}
 use Rattle.note.specs.Rows.{rowsOf, isBox}

@@ -1,6 +1,6 @@
 -- What a refusal of a file says (document 01, 'Numbers given back'): "Place is the first byte of the innermost structure at fault";
 -- "the first fault in file order is given". For each structure that can be at fault: all bytes before its first are as the note says.
-use Prim.Native.Nat.{ℕ, _+_, _≤_}
+use Prim.Native.Nat.{ℕ, _+_}
 use mathlib.Core.Path.{_≡_}
 use mathlib.Core.List.{List, [], _∷_, _++_}
 use lib.ListN.{length}

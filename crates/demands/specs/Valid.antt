@@ -1,5 +1,5 @@
 -- A file that keeps every rule of document 01, as a tree: what 'follows the note' means, said without a reader.
-use Prim.Native.Nat.{ℕ, _≤_}
+use Prim.Native.Nat.{_≤_}
 use mathlib.Core.Path.{_≡_}
 use mathlib.Core.Bool.{true}
 use mathlib.Core.List.{List, [], _∷_}

@@ -1,6 +1,6 @@
 -- The definitions that give an enum's number and values are one-to-one: a promise stated with one of them determines the answer.
 -- The idea: each has a way back, from number and values to the case; what has a way back loses nothing.
-use Prim.Native.Nat.{ℕ, zero, suc}
+use Prim.Native.Nat.{ℕ}
 use mathlib.Core.Path.{_≡_, refl, sym, ap, _∙_}
 use mathlib.Core.Bool.{cond}
 use mathlib.Core.List.{List, [], _∷_, map}

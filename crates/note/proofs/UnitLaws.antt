@@ -1,7 +1,7 @@
 -- Working units: a x100 word as a float is its hundredth rounded once, exact at multiples of 25, and zero is plus zero.
 -- The idea: the cast of a 32-bit number is exact, so the division is the only rounding; 100 is 25 times a power of two.
-use Prim.Native.Nat.{ℕ, zero, suc, _+_, _*_, _-_, _^_, _<_, _≤_}
-use mathlib.Core.Path.{_≡_, refl, sym, ap, _∙_, subst}
+use Prim.Native.Nat.{ℕ, suc, _*_, _-_, _^_, _<_, _≤_}
+use mathlib.Core.Path.{_≡_, refl, ap, _∙_}
 use mathlib.Core.Bool.{Bool, true, false}
 use native.Mathlib.Omega.{arith}
 use native.Mathlib.Nat as Nat
@@ -10,7 +10,7 @@ use lib.Signed.{mag, natAbs-le}
 use lib.Pow.{shl-lt, pow-mono}
 use lib.Dec.{lit≤}
 use lib.Ieee as Ieee
-use lib.Ieee.{Float, nan, inf, fin, binary64, div, ofInt, ofBits, ofFields, round, units, odd, size, up, down}
+use lib.Ieee.{Float, nan, inf, fin, binary64, div, ofInt, ofBits, round, up, down}
 use lib.Ieee.Exact.{HasValue, round-exact}
 use lib.Ieee.Scale.{round-same}
 use lib.Ieee.Back.{round-whole}

@@ -1,12 +1,12 @@
 -- Document 01, 'The six records': administrative, kind 0x02, length 24.
-use Prim.Native.Nat.{ℕ, _+_, _/_, _%_}
+use Prim.Native.Nat.{ℕ, _/_, _%_}
 use mathlib.Core.Bool.{Bool, cond, _&&_}
 use mathlib.Core.List.{List, [], _∷_}
 use lib.Dec.{leb, eqb}
 use lib.ListN.{length, getD}
 use Rattle.theory.specs.Tests.{unless, first, among}
 use Rattle.note.specs.Words.{word, words}
-use Rattle.note.specs.Answers.{Value, counts}
+use Rattle.note.specs.Answers.{counts}
 use Rattle.note.specs.Kinds.{Kind}
 
 -- "Series LLYYMMDD, series HHMM, event number, event time, time since last event (ms), live time (ms)."

@@ -1,6 +1,6 @@
 -- Document 01, 'Rows and calls': Record, Setting, Samples, a sample by number, Find.
-use Prim.Native.Nat.{ℕ, zero, suc, _+_, _-_, _*_}
-use mathlib.Core.Bool.{Bool, true, false, cond, _&&_}
+use Prim.Native.Nat.{ℕ, _+_, _-_}
+use mathlib.Core.Bool.{Bool, cond, _&&_}
 use mathlib.Core.List.{List, [], _∷_, _++_}
 use lib.Dec.{leb, eqb}
 use lib.Ieee.{Float, binary64, div, ofInt}
@@ -12,8 +12,8 @@ use Rattle.note.specs.Words.{word}
 use Rattle.note.specs.Answers.{Value, whole, float, Given, accepted, refused, count, counts, wholes}
 use Rattle.note.specs.Phonon.{Phonon, phononKind, phononOf}
 use Rattle.note.specs.Charge.{Charge, chargeKind, chargeOf}
-use Rattle.note.specs.Administrative.{administrativeKind, administrativeOf}
-use Rattle.note.specs.Trace.{Trace, traceKind, traceOf, sampleIn}
+use Rattle.note.specs.Administrative.{administrativeOf}
+use Rattle.note.specs.Trace.{traceKind, traceOf, sampleIn}
 use Rattle.note.specs.Records.{Record, recordSize, alone, readRecord, kindOf}
 use Rattle.note.specs.Events.{Container, containerSize}
 use Rattle.note.specs.Files.{File, configurationOf, eventsOf, readFile}

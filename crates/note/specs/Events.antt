@@ -1,13 +1,13 @@
 -- Document 01, 'Words and nesting': an event and its first word.
 use Prim.Native.Nat.{ℕ, _+_, _*_, _/_, _%_}
-use mathlib.Core.Bool.{Bool, not}
+use mathlib.Core.Bool.{not}
 use mathlib.Core.List.{List, [], _∷_}
 use lib.Dec.{leb, eqb}
 use lib.ListN.{length}
-use Rattle.theory.specs.Tests.{Res, ok, bad, unless, first, among}
+use Rattle.theory.specs.Tests.{Res, unless, first, among}
 use Rattle.theory.specs.Structures.{Structure, readStructure, structureBytes, structureSize, readSequence, sequenceBytes}
 use Rattle.note.specs.Words.{order}
-use Rattle.note.specs.Records.{Record, Context, event, none, readRecords, recordsBytes}
+use Rattle.note.specs.Records.{Record, event, none, readRecords, recordsBytes}
 
 -- A container: its first word, and the records or entries that fill it.
 abbrev pub Container : Type 0

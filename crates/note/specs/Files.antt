@@ -1,12 +1,12 @@
 -- Document 01, 'Words and nesting': the file header, the configuration, and the file.
 use Prim.Native.Nat.{ℕ, _+_, _*_, _%_}
-use mathlib.Core.List.{List, [], _∷_, _++_}
+use mathlib.Core.List.{List, _++_}
 use lib.Dec.{leb, eqb}
 use lib.ListN.{length}
-use Rattle.theory.specs.Tests.{Res, ok, bad, need, unless}
+use Rattle.theory.specs.Tests.{Res, need, unless}
 use Rattle.theory.specs.Structures.{readStructure, readPair, readWords, wordsBytes}
 use Rattle.note.specs.Limits.{fileLimit}
-use Rattle.note.specs.Words.{order, words}
+use Rattle.note.specs.Words.{order}
 use Rattle.note.specs.Records.{entry, readRecords}
 use Rattle.note.specs.Events.{Container, containerBytes, containerSize, readEvents, eventsBytes}
 

@@ -1,12 +1,12 @@
 -- Document 01, 'The six records': GPS, kind 0x60, length 12, BCD.
 use Prim.Native.Nat.{ℕ, zero, suc, _+_, _*_, _/_, _%_}
-use mathlib.Core.Bool.{Bool, true, false, not, cond, _&&_, _||_}
+use mathlib.Core.Bool.{Bool, true, not, cond, _&&_, _||_}
 use mathlib.Core.List.{List, [], _∷_}
 use lib.Dec.{leb, eqb}
 use lib.ListN.{length}
 use Rattle.theory.specs.Tests.{unless, first}
 use Rattle.note.specs.Words.{word, words}
-use Rattle.note.specs.Answers.{Value, counts}
+use Rattle.note.specs.Answers.{counts}
 use Rattle.note.specs.Kinds.{Kind}
 
 -- "The answer and the writer use year, day, status, hour, minute, second and tenths."

@@ -6,7 +6,7 @@ use lib.Dec.{leb, eqb}
 use lib.ListN.{length, take, drop}
 use Rattle.theory.specs.Tests.{unless, first}
 use Rattle.note.specs.Words.{word, words, greatestSigned}
-use Rattle.note.specs.Answers.{Value, counts}
+use Rattle.note.specs.Answers.{counts}
 use Rattle.note.specs.Kinds.{Kind}
 
 -- "nvt; nvt signed times; nvw; nvt x nvw masks": a count of times, the times, the width, the masks; lists are the bytes as they stand.

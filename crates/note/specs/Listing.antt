@@ -1,5 +1,5 @@
 -- Document 01, 'Rows and calls': the listing program's lines, as numbers. Their text is no definition: it is compared with stored output.
-use Prim.Native.Nat.{ℕ, zero, suc, _+_}
+use Prim.Native.Nat.{ℕ, _+_}
 use mathlib.Core.Bool.{cond}
 use mathlib.Core.List.{List, [], _∷_}
 use lib.Dec.{leb}

@@ -6,7 +6,7 @@ use lib.IntN.{ℤ}
 use lib.ListN.{length}
 use Rattle.theory.specs.Tests.{unless, first}
 use Rattle.note.specs.Words.{word, words, signed, unsigned}
-use Rattle.note.specs.Answers.{Value, wholes}
+use Rattle.note.specs.Answers.{wholes}
 use Rattle.note.specs.Channels.{phononNamed}
 use Rattle.note.specs.Kinds.{Kind}
 

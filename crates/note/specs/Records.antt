@@ -1,10 +1,10 @@
 -- Document 01, 'Words and nesting' and 'Numbers given back': one record or entry, in a configuration, in an event, or alone.
-use Prim.Native.Nat.{ℕ, _+_}
+use Prim.Native.Nat.{ℕ}
 use mathlib.Core.Bool.{Bool, true, false, not, cond, _&&_, _||_}
-use mathlib.Core.List.{List, [], _∷_, _++_, map}
+use mathlib.Core.List.{List, [], _∷_, map}
 use lib.Dec.{eqb}
 use lib.ListN.{length}
-use Rattle.theory.specs.Tests.{Res, ok, bad, need, unless, among}
+use Rattle.theory.specs.Tests.{Res, ok, need, unless, among}
 use Rattle.theory.specs.Structures.{Structure, readStructure, structureBytes, structureSize, readSequence, sequenceBytes}
 use Rattle.note.specs.Words.{order}
 use Rattle.note.specs.Kinds.{Kind}

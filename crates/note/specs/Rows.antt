@@ -1,7 +1,7 @@
 -- Document 01, 'Rows and calls': the rows of a file, Table's answer and buffer, the walker's yields. Last a visitor, which is no call of
 -- that document: Table's rows from a given one on.
-use Prim.Native.Nat.{ℕ, zero, suc, _+_, _*_, _/_, _%_}
-use mathlib.Core.Bool.{Bool, true, false, cond, _||_}
+use Prim.Native.Nat.{ℕ, _+_, _*_, _/_, _%_}
+use mathlib.Core.Bool.{Bool, cond, _||_}
 use mathlib.Core.List.{List, [], _∷_, _++_, map}
 use lib.Dec.{leb, eqb, ltb}
 use lib.ListN.{length, take, drop}

@@ -1,12 +1,12 @@
 -- Document 01, 'The six records': TLB mask, kind 0x81, length 24: six words, one for each tower.
-use Prim.Native.Nat.{ℕ, zero, suc, _+_, _-_, _*_, _/_, _%_, _^_}
+use Prim.Native.Nat.{ℕ, _-_, _/_, _%_, _^_}
 use mathlib.Core.Bool.{Bool, _&&_, _||_}
 use mathlib.Core.List.{List, [], _∷_}
 use lib.Dec.{leb, eqb}
 use lib.ListN.{length}
 use Rattle.theory.specs.Tests.{unless, first}
 use Rattle.note.specs.Words.{word, words}
-use Rattle.note.specs.Answers.{Value, counts}
+use Rattle.note.specs.Answers.{counts}
 use Rattle.note.specs.Kinds.{Kind}
 
 pub record Tlb : Type 0 where

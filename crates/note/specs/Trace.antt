@@ -1,6 +1,6 @@
 -- Document 01, 'The six records': trace, kind 0x11, length 48 + 2n. Its rule looks at the first 48 bytes and the length alone.
 use Prim.Native.Nat.{ℕ, _+_, _-_, _*_, _/_, _%_}
-use mathlib.Core.Bool.{Bool, not, cond, _&&_}
+use mathlib.Core.Bool.{cond, _&&_}
 use mathlib.Core.List.{List, [], _∷_, _++_}
 use lib.Dec.{leb, eqb}
 use lib.IntN.{ℤ}
@@ -11,7 +11,7 @@ use Rattle.theory.specs.Words.{Fits}
 use Rattle.theory.specs.Tests.{unless, first}
 use Rattle.note.specs.Limits.{fewestSamples, mostSamples}
 use Rattle.note.specs.Words.{word, words, signed, unsigned}
-use Rattle.note.specs.Answers.{Value, whole, count}
+use Rattle.note.specs.Answers.{whole, count}
 use Rattle.note.specs.Channels.{named}
 use Rattle.note.specs.Kinds.{Kind}
 

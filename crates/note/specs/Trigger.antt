@@ -5,7 +5,7 @@ use lib.Dec.{eqb}
 use lib.ListN.{length}
 use Rattle.theory.specs.Tests.{unless, first}
 use Rattle.note.specs.Words.{word, words}
-use Rattle.note.specs.Answers.{Value, counts}
+use Rattle.note.specs.Answers.{counts}
 use Rattle.note.specs.Kinds.{Kind}
 
 -- The time is always 0, so the fields are the six masks.

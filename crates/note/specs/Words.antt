@@ -1,5 +1,5 @@
 -- Document 01, 'Words and nesting': the words of this format. Every definition of the note speaks of them by these names.
-use Prim.Native.Nat.{ℕ, _+_, _*_, _/_, _%_}
+use Prim.Native.Nat.{ℕ}
 use mathlib.Core.List.{List, [], _∷_}
 use lib.IntN.{ℤ}
 use mir.Val.{toZ, ofZ, SFits}

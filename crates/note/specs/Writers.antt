@@ -1,12 +1,11 @@
 -- Document 01, 'Rows and calls' and 'Numbers given back': the writers, the closings, the header and Rewrite. Each is its answer
 -- (the next place, or the refusal) and the output afterwards, for every input.
-use Prim.Native.Nat.{ℕ, zero, suc, _+_, _-_, _*_}
-use mathlib.Core.Bool.{Bool, true, false, cond}
+use Prim.Native.Nat.{ℕ, _+_, _-_}
 use mathlib.Core.List.{List, [], _∷_, _++_, map}
 use lib.Dec.{leb}
 use lib.ListN.{length, take, drop}
 use Rattle.theory.specs.Tests.{Res, ok, bad, need, bind, unless}
-use Rattle.theory.specs.Structures.{Structure, structureBytes, sequenceBytes}
+use Rattle.theory.specs.Structures.{structureBytes, sequenceBytes}
 use Rattle.note.specs.Limits.{fileLimit}
 use Rattle.note.specs.Words.{order, words, unsigned}
 use Rattle.note.specs.Answers.{Given, accepted, refused, counts}

@@ -1,6 +1,4 @@
 -- What the code's own types say in the note's terms: its state, its context, and what a step answers.
-use Prim.Native.Nat.{ℕ}
-use mathlib.Core.List.{List}
 use lib.ListN.{length}
 use Rattle.theory.specs.Tests.{Res, ok, bad}
 use Rattle.note.specs.Records as Note

@@ -1,7 +1,7 @@
 -- What a body that follows its kind's rule shows to the code that reads its fields: how long it is.
 -- The idea: a rule that passes has passed each of its tests, and each kind's first test asks for a length.
 use mathlib.Core.Path.{_≡_}
-use mathlib.Core.Bool.{true, false, cond}
+use mathlib.Core.Bool.{cond}
 use mathlib.Core.List.{List, _∷_}
 use Prim.Native.Nat.{ℕ, _≤_}
 use native.Mathlib.Omega.{arith}

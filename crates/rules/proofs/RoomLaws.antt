@@ -3,10 +3,10 @@
 use mathlib.Core.Path.{_≡_}
 use mathlib.Core.Bool.{true, false}
 use mathlib.Core.List.{List}
-use Prim.Native.Nat.{ℕ, _+_, _≤_, _<_}
+use Prim.Native.Nat.{ℕ, _+_, _≤_}
 use lib.ListN.{length}
 use Rattle.theory.proofs.TestLaws.{first-at, most-passed}
-use Rattle.note.specs.History.{widthAt, widthOf, after, sectionTests, sectionRule, historyTests, historyRule}
+use Rattle.note.specs.History.{after, sectionTests, sectionRule, historyTests, historyRule}
 
 module _ (b : List ℕ) where
   pub veto-follows : historyRule b ≡ 0 → sectionRule false 0 b ≡ 0

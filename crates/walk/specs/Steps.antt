@@ -1,7 +1,7 @@
 -- Document 01, 'Rows and calls', Walker: where a walk stands, what it yields there, and where it goes. Defined for any numbers; that
 -- from opening on the yields are the table's rows, and then the end, is proved (proofs/WalkLaws.antt).
 use Prim.Native.Nat.{ℕ, zero, suc, _+_, _-_, _%_}
-use mathlib.Core.Bool.{Bool, true, false, cond, not, _&&_}
+use mathlib.Core.Bool.{Bool, cond, _&&_}
 use mathlib.Core.Path.{_≡_}
 use mathlib.Core.List.{List, [], _∷_}
 use lib.Dec.{leb, ltb, eqb}

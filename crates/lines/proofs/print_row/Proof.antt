@@ -1,6 +1,5 @@
 -- The index stays below six, and six numbers from the row on are there.
 use Prim.Native.Nat.{_-_, _≤_}
-use native.Mathlib.Omega.{arith}
 use borrow.Author.Needs.{needs}
 use Rattle.lines.proofs.print_row.Statement.{statement}
 use Rattle.lines.proofs.print_row.Tie as tie

@@ -1,8 +1,7 @@
 -- The index stays within the rows that the buffer holds.
 use Prim.Native.Nat.{_-_, _/_, _≤_}
-use mathlib.Core.Path.{_≡_, refl}
+use mathlib.Core.Path.{_≡_}
 use lib.ListN.{length}
-use native.Mathlib.Omega.{arith}
 use borrow.Author.Needs.{needs}
 use Rattle.lines.proofs.print_rows.Statement.{statement}
 use Rattle.lines.proofs.print_rows.Tie as tie

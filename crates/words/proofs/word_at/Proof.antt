@@ -1,5 +1,5 @@
 -- The word is the number of its four bytes, and those are the part of the list at that place.
-use mathlib.Core.Path.{_≡_, sym, ap, _∙_}
+use mathlib.Core.Path.{sym, ap, _∙_}
 use denote.Ref.{now}
 use Rattle.theory.specs.Words.{num, wordAt}
 use Rattle.words.proofs.CellLaws.{cells-at}

@@ -1,6 +1,5 @@
 -- The writer's own contract, of the fields in the array; its answer told in lent numbers.
 -- The idea: each number of the array fits its word, so it is handed on as it is.
-use Rattle.note.specs.Charge.{Charge}
 use Rattle.note.specs.Writers.{chargeWritten}
 use denote.Ref.{now}
 use lib.IntN.{pos}
