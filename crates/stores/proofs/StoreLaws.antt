@@ -34,7 +34,8 @@ in-a-row l at (x ∷ []) = refl
 in-a-row l at (x ∷ (y ∷ ys)) = in-a-row (sets l at x) (at + length x) (y ∷ ys) ∙ sets-append l at x (joined (y ∷ ys))
 
 -- A block more of a part, a byte more, and one word more of a list of words.
-pub block-more : (l s : List ℕ) (at i j : ℕ) → i ≤ j → j ≤ length s → sets (sets l at (take i s)) (at + i) (take (j - i) (drop i s)) ≡ sets l at (take j s)
+pub block-more : (l s : List ℕ) (at i j : ℕ) → i ≤ j → j ≤ length s
+    → sets (sets l at (take i s)) (at + i) (take (j - i) (drop i s)) ≡ sets l at (take j s)
 block-more l s at i j h k =
     let both : i + (j - i) ≡ j = omega arith in
     stored-next l at (at + i) (take i s) (take (j - i) (drop i s)) (omega (arith, length-take-le i s (omega arith)))
@@ -72,7 +73,8 @@ sets-drop (suc k) [] vs = sets-nil 0 vs ∙ sym (sets-nil (suc k) vs)
 sets-drop (suc k) (x ∷ l) vs = ap (λ (r : List ℕ). x ∷ r) (sets-drop k l vs) ∙ sym (sets-cons x l k vs)
 
 -- Stores into `&mut out[at..]`, seen in `out` when the loan ends.
-pub rest-stored : (l : List ℕ) (at : ℕ) (vs e : List ℕ) → at ≤ length l → e ≡ sets (midOf at (length l - at) l) 0 vs → putMid at (length l - at) l e ≡ sets l at vs
+pub rest-stored : (l : List ℕ) (at : ℕ) (vs e : List ℕ) → at ≤ length l → e ≡ sets (midOf at (length l - at) l) 0 vs
+    → putMid at (length l - at) l e ≡ sets l at vs
 rest-stored l at vs e h q =
     let m : length (drop at l) ≤ length l - at = omega (arith, length-drop at l) in
     rw (q, take-all (length l - at) (drop at l) m, drop-of-length-le (drop at l) m, append-nil, sets-drop)

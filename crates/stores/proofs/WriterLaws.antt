@@ -58,7 +58,8 @@ module _ (n place fault size : ℕ) where
   room h e l = rw (le-leb n fileLimit h, e, le-leb (place + size) n l)
 
   -- The next place was answered: nothing stood against it.
-  pub room-told : {r : WriterAnswer} {next : ℕ} → r ≡ Next next → givenWriter r ≡ answer → (n ≤ fileLimit) × (fault ≡ 0) × (place + size ≤ n)
+  pub room-told : {r : WriterAnswer} {next : ℕ} → r ≡ Next next → givenWriter r ≡ answer
+      → (n ≤ fileLimit) × (fault ≡ 0) × (place + size ≤ n)
   unfolding wrote
   room-told e h =
       let fits : Res ℕ = need (unless (leb (place + size) n) 13) place (ok (place + size)) in
@@ -76,12 +77,14 @@ module _ (out : List ℕ) (place : ℕ) (w : Res ℕ) (bytes : List ℕ) {r : Wr
   kept e h = rw (refusal-told w e h)
 
   -- The bytes were stored from the place on, or into the rest of the output, lent on from there.
-  pub stored : {next : ℕ} → r ≡ Next next → givenWriter r ≡ writerGiven w → place + length bytes ≤ length out → sets out place bytes ≡ written w out place bytes
+  pub stored : {next : ℕ} → r ≡ Next next → givenWriter r ≡ writerGiven w → place + length bytes ≤ length out
+      → sets out place bytes ≡ written w out place bytes
   unfolding written
   stored e h l = rw (next-told w e h) (sets-eq bytes out place l ∙ append-assoc (take place out) bytes (drop (place + length bytes) out))
 
   pub stored-in-rest : {next : ℕ} → r ≡ Next next → givenWriter r ≡ writerGiven w → place + length bytes ≤ length out
-      → (rest : List ℕ) → rest ≡ sets (midOf place (length out - place) out) 0 bytes → putMid place (length out - place) out rest ≡ written w out place bytes
+      → (rest : List ℕ) → rest ≡ sets (midOf place (length out - place) out) 0 bytes
+      → putMid place (length out - place) out rest ≡ written w out place bytes
   stored-in-rest e h l rest q = rest-stored out place bytes rest (omega arith) q ∙ stored e h l
 
 -- ---- one record
@@ -93,30 +96,41 @@ size-unasked n place zero s t h = rw (h refl)
 size-unasked n place (suc f) s t h = refl
 
 -- What `admitted` was asked, of a record with that fault and, where it has none, that size; and what it answered.
-module _ (out : List ℕ) (place : ℕ) (w : Written) (fault size : ℕ) (e : fault ≡ w .fault) (l : fault ≡ 0 → length (w .bytes) ≡ size)
-    (r : WriterAnswer) (said : givenWriter r ≡ writerGiven (wrote (length out) place fault size)) where
+pub record Admitted (out : List ℕ) (place : ℕ) (w : Written) (r : WriterAnswer) : Type 0 where
+  pub fault : ℕ
+  pub size : ℕ
+  pub fault-is : fault ≡ w .fault
+  pub size-is : fault ≡ 0 → length (w .bytes) ≡ size
+  pub said : givenWriter r ≡ writerGiven (wrote (length out) place fault size)
+
+module _ {out : List ℕ} {place : ℕ} {w : Written} {r : WriterAnswer} (a : Admitted out place w r) where
   own : givenWriter r ≡ writerGiven (recordWrote out place w)
   unfolding recordWrote
   own =
-      said ∙ ap writerGiven (size-unasked (length out) place fault size (length (w .bytes)) (λ z. sym (l z))
-      ∙ ap (λ (f : ℕ). wrote (length out) place f (length (w .bytes))) e)
+      a .said ∙ ap writerGiven (size-unasked (length out) place (a .fault) (a .size) (length (w .bytes)) (λ z. sym (a .size-is z))
+      ∙ ap (λ (f : ℕ). wrote (length out) place f (length (w .bytes))) (a .fault-is))
 
   -- A refusal is the writer's own.
   pub refuses : {c p : ℕ} → r ≡ Refused c p → Wrote out place w (Refused c p) out
   unfolding recordOutput
   refuses n = (sym (ap givenWriter n) ∙ own, kept out place (recordWrote out place w) (w .bytes) n own)
 
+  -- The next place was answered: the output is within the limit, and has room for the record.
+  pub has-room : {next : ℕ} → r ≡ Next next → (length out ≤ fileLimit) × (place + length (w .bytes) ≤ length out)
+  has-room n =
+      let (limit, clean, room) = room-told (length out) place (a .fault) (a .size) n (a .said) in
+      (limit, omega (arith, room, a .size-is clean))
+
   -- The record is written where its bytes were stored into the rest of the output.
   pub writes : {next : ℕ} → r ≡ Next next → (rest : List ℕ) → rest ≡ sets (midOf place (length out - place) out) 0 (w .bytes)
       → Wrote out place w (Next next) (putMid place (length out - place) out rest)
   unfolding recordOutput
   writes n rest q =
-      let told = room-told (length out) place fault size n said in
-      let fits : place + length (w .bytes) ≤ length out = omega (arith, told .2, l (told .1)) in
-      (sym (ap givenWriter n) ∙ own, stored-in-rest out place (recordWrote out place w) (w .bytes) n own fits rest q)
+      (sym (ap givenWriter n) ∙ own, stored-in-rest out place (recordWrote out place w) (w .bytes) n own (has-room n .1) rest q)
 
 -- Of fields with a fault, the bytes aren't asked.
-refused-either : (c f p : ℕ) (out : List ℕ) (place : ℕ) (a b : List ℕ) → written (need c 0 (bad f p)) out place a ≡ written (need c 0 (bad f p)) out place b
+refused-either : (c f p : ℕ) (out : List ℕ) (place : ℕ) (a b : List ℕ)
+    → written (need c 0 (bad f p)) out place a ≡ written (need c 0 (bad f p)) out place b
 unfolding written
 refused-either zero f p out place a b = refl
 refused-either (suc c) f p out place a b = refl
@@ -130,4 +144,5 @@ module _ (out : List ℕ) (place : ℕ) (r : WriterAnswer) (after : List ℕ) wh
 
   pub bytes-unasked : (fault : ℕ) (bytes : List ℕ) (w : Written) → fault ≡ w .fault → (fault ≡ 0 → bytes ≡ w .bytes)
       → Wrote out place (record { fault = fault; bytes = bytes }) r after → Wrote out place w r after
-  bytes-unasked fault bytes w e h s = subst (λ (f : ℕ). Wrote out place (record { fault = f; bytes = w .bytes }) r after) e (others fault bytes (w .bytes) h s)
+  bytes-unasked fault bytes w e h s =
+      subst (λ (f : ℕ). Wrote out place (record { fault = f; bytes = w .bytes }) r after) e (others fault bytes (w .bytes) h s)
