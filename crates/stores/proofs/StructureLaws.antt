@@ -1,7 +1,7 @@
 -- A structure's bytes as the writers store them: its size, and its three stores.
 -- The idea: kind and length words, the body's words and the bytes behind them stand one after the other.
 use Prim.Native.Nat.{ℕ, _+_, _*_}
-use mathlib.Core.Path.{_≡_, refl, sym, ap, _∙_}
+use mathlib.Core.Path.{_≡_, sym, ap, _∙_}
 use mathlib.Core.List.{List, [], _∷_, _++_}
 use native.Mathlib.Omega.{arith}
 use lib.ListN.{length, length-append}

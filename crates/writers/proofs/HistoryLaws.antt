@@ -19,14 +19,24 @@ use Rattle.stores.proofs.StoreLaws.{in-a-row}
 
 -- ---- a section
 
-pub section-size : (s : Section) → length (sectionBytes s) ≡ 8 + (length (s .times) + length (s .masks))
+-- The bytes of a section's two parts: its times and its masks.
+abbrev pub partSize : Section → ℕ
+partSize s = length (s .times) + length (s .masks)
+
+pub section-size : (s : Section) → length (sectionBytes s) ≡ 8 + partSize s
 unfolding sectionBytes puts put bytes
 section-size s = simp length-append (omega arith)
 
-pub section-stored : (l : List ℕ) (at : ℕ) (s : Section)
-    → sets (sets (sets (sets l at (words (s .count ∷ []))) (at + 4) (s .times)) (at + 4 + length (s .times)) (words (s .width ∷ []))) (at + 4 + length (s .times) + 4) (s .masks) ≡ sets l at (sectionBytes s)
+-- Count, times, width and masks stored in a row are the section stored.
+pub section-stored : (l : List ℕ) (at : ℕ) (s : Section) {counted timed wide full : List ℕ}
+    → counted ≡ sets l at (words (s .count ∷ []))
+    → timed ≡ sets counted (at + 4) (s .times)
+    → wide ≡ sets timed (at + 4 + length (s .times)) (words (s .width ∷ []))
+    → full ≡ sets wide (at + 4 + length (s .times) + 4) (s .masks)
+    → full ≡ sets l at (sectionBytes s)
 unfolding sectionBytes puts put bytes
-section-stored l at s = in-a-row l at (words (s .count ∷ []) ∷ s .times ∷ words (s .width ∷ []) ∷ s .masks ∷ [])
+section-stored l at s count times width masks =
+    rw (masks, width, times, count) (in-a-row l at (words (s .count ∷ []) ∷ s .times ∷ words (s .width ∷ []) ∷ s .masks ∷ []))
 
 -- Without a fault, the times and the trigger's masks are few.
 few-times : (trigger : Bool) (s : Section) → sectionFault trigger s ≡ 0 → length (s .times) ≤ 4 * greatestSigned
@@ -44,18 +54,23 @@ few-masks : (s : Section) → sectionFault true s ≡ 0 → length (s .masks) �
 unfolding sectionFault
 few-masks s e =
     let n : s .count ≤ greatestSigned = most-passed (s .count) greatestSigned 9 (first-at _ e 0) in
-    let w : s .count * s .width ≡ s .count * 6 = six-each (s .count) (s .width) (holds-at _ e 3 (isWidth true (s .count) (s .width)) 9 refl) in
+    let fits : isWidth true (s .count) (s .width) ≡ true = holds-at _ e 3 (isWidth true (s .count) (s .width)) 9 refl in
+    let w : s .count * s .width ≡ s .count * 6 = six-each (s .count) (s .width) fits in
     omega (arith, equal-passed (length (s .masks)) (4 * (s .count * s .width)) 5 (first-at _ e 4))
 
 -- ---- both
 
 module _ (h : History) where
   abbrev pub partsSize : ℕ
-  partsSize = (length (h .veto .times) + length (h .veto .masks)) + (length (h .trigger .times) + length (h .trigger .masks))
+  partsSize = partSize (h .veto) + partSize (h .trigger)
+
+  -- What the length word says.
+  both-size : length (sectionBytes (h .veto) ++ sectionBytes (h .trigger)) ≡ (8 + partSize (h .veto)) + (8 + partSize (h .trigger))
+  both-size = simp (length-append, section-size) (omega arith)
 
   pub history-size : length (historyWritten h .bytes) ≡ 24 + partsSize
   unfolding historyWritten historyBytes put bytes
-  history-size = omega (arith, length-append (sectionBytes (h .veto)) (sectionBytes (h .trigger)), section-size (h .veto), section-size (h .trigger))
+  history-size = omega (arith, both-size)
 
   -- The masks of a veto section are a slice, so the sum is a machine number.
   pub size-fits : historyFault h ≡ 0 → length (h .veto .masks) < 0x8000000000000000 → 24 + partsSize < 0x10000000000000000
@@ -65,14 +80,18 @@ module _ (h : History) where
       let trigger = first-at _ e 1 in
       omega (arith, few-times false (h .veto) veto, few-times true (h .trigger) trigger, few-masks (h .trigger) trigger)
 
-  pub history-stored : (l : List ℕ) (n : ℕ) → n ≡ (8 + (length (h .veto .times) + length (h .veto .masks))) + (8 + (length (h .trigger .times) + length (h .trigger .masks)))
-      → sets (sets (sets l 0 (words (0x21 ∷ n ∷ []))) 8 (sectionBytes (h .veto))) (8 + (8 + (length (h .veto .times) + length (h .veto .masks)))) (sectionBytes (h .trigger)) ≡ sets l 0 (historyWritten h .bytes)
+  -- Kind and length and the two sections stored in a row are the history stored.
+  pub history-stored : (l : List ℕ) (n : ℕ) → n ≡ (8 + partSize (h .veto)) + (8 + partSize (h .trigger)) → {begun half full : List ℕ}
+      → begun ≡ sets l 0 (words (0x21 ∷ n ∷ []))
+      → half ≡ sets begun 8 (sectionBytes (h .veto))
+      → full ≡ sets half (8 + (8 + partSize (h .veto))) (sectionBytes (h .trigger))
+      → full ≡ sets l 0 (historyWritten h .bytes)
   unfolding historyWritten historyBytes puts put bytes
-  history-stored l n e =
+  history-stored l n e first second third =
       let head : List ℕ = words (0x21 ∷ n ∷ []) in
       let veto : List ℕ = sectionBytes (h .veto) in
       let trigger : List ℕ = sectionBytes (h .trigger) in
-      let size : n ≡ length (veto ++ trigger) = omega (arith, length-append veto trigger, section-size (h .veto), section-size (h .trigger)) in
-      ap (λ (k : ℕ). sets (sets (sets l 0 head) 8 veto) (8 + k) trigger) (sym (section-size (h .veto)))
+      rw (third, second, first)
+      (ap (λ (k : ℕ). sets (sets (sets l 0 head) 8 veto) (8 + k) trigger) (sym (section-size (h .veto)))
       ∙ in-a-row l 0 (head ∷ veto ∷ trigger ∷ [])
-      ∙ ap (λ (k : ℕ). sets l 0 (words (0x21 ∷ k ∷ []) ++ (veto ++ trigger))) size
+      ∙ ap (λ (k : ℕ). sets l 0 (words (0x21 ∷ k ∷ []) ++ (veto ++ trigger))) (e ∙ sym both-size))

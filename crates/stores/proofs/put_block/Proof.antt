@@ -21,29 +21,35 @@ put-bytes-requires c κs = search needs
 array-share-prefix-held : tie.Need-array-share-prefix-held
 array-share-prefix-held c = search needs
 
--- The array's first bytes, as many as the block has.
-held-is-block : (c : lts.After-held3 (put-bytes-reads.Asked, put-bytes-reads.Learnt) reads.Pre reads.Post)
-    → take (length (c .before .before .before .before .before .before .before .args .block .now)) (c .before .before .before .put-bytes .last .0)
-    ≡ c .before .before .before .before .before .before .before .args .block .now
+-- From where the array's front is lent back to where it was filled, and from there to the start.
+abbrev filled : tie.After-held3 → tie.After-put-bytes
+filled c = c .before .before .before
+
+abbrev start : tie.After-put-bytes → tie.Start
+start c = c .before .before .before .before
+
+-- The array's first bytes, as many as the block has, are the block.
+held-is-block : (c : tie.After-held3)
+    → (let block = start (filled c) .args .block .now in take (length block) (filled c .put-bytes .last .0) ≡ block)
 held-is-block c =
-    let first = c .before .before .before .before in
-    let block = first .before .before .before .args .block .now in
-    ap (take (length block)) (c .before .before .before .put-bytes .ensures) ∙ front-stored (replicate 4096 0) block (put-bytes-requires first (first .before .before .before .κs))
+    let s = start (filled c) in
+    let block = s .args .block .now in
+    ap (take (length block)) (filled c .put-bytes .ensures) ∙ front-stored (replicate 4096 0) block (omega (arith, s .pre))
 
 slice-aggregate-put-bytes-2 : tie.Need-slice-aggregate-put-bytes-2
 slice-aggregate-put-bytes-2 c = sym (ap length (held-is-block c))
 
 put-bytes-requires-2 : tie.Need-put-bytes-requires-2
-put-bytes-requires-2 c κs = omega (arith, ap length (held-is-block c), c .before .before .before .before .before .before .before .pre .0)
+put-bytes-requires-2 c κs = omega (arith, ap length (held-is-block c), start (filled c) .pre .0)
 
 same-length : tie.Need-same-length
 same-length c = search needs
 
 returns : tie.Need-returns
 returns c =
-    let a = c .before .before .before .before .before .before .before .before .before .before .args in
-    let stored = c .before .before .put-bytes2 in
-    stored .ensures ∙ ap (sets (a .out .now) (a .at)) (held-is-block (c .before .before .before))
+    let stored = c .before .before in
+    let a = start (filled (stored .before)) .args in
+    stored .put-bytes2 .ensures ∙ ap (sets (a .out .now) (a .at)) (held-is-block (stored .before))
 
 pub put-block-spec : {M : Type 1} → statement M
 put-block-spec =

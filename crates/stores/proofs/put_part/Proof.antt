@@ -47,15 +47,19 @@ loop-less c = search needs
 
 loop-again : tie.Need-loop-again Inv-loop μ-loop
 loop-again c =
-    let a = c .before .before .before .before .before .before .before .before .before .before .args in
-    let turn = c .before .before .before .before .before .before .before .loop in
-    let end = c .before .before .before .before .before .block-end in
-    let block : List ℕ = take (end .result - turn .from) (drop (turn .from) (a .part .now)) in
-    let stored = c .before .before .put-block in (
-      end .ensures .1,
-      stored .kept .0 ∙ turn .inv .1,
-      stored .ensures ∙ ap (λ (l : List ℕ). sets l (a .at + turn .from) block) (turn .inv .2)
-          ∙ block-more (a .out .now) (a .part .now) (a .at) (turn .from) (end .result) (omega (arith, end .ensures .0)) (end .ensures .1),
+    let put = c .before .before in
+    let ended = put .before .before .before in
+    let head = ended .before .before in
+    let a = head .before .before .before .args in
+    let from = head .loop .from in
+    let end = ended .block-end .result in
+    let (bound, size, stored) = head .loop .inv in
+    let (more, within, small) = ended .block-end .ensures in
+    let block : List ℕ = take (end - from) (drop from (a .part .now)) in (
+      within,
+      put .put-block .kept .0 ∙ size,
+      put .put-block .ensures ∙ ap (λ (l : List ℕ). sets l (a .at + from) block) stored
+          ∙ block-more (a .out .now) (a .part .now) (a .at) from end (omega (arith, more)) within,
     )
 
 same-length : tie.Need-same-length Inv-loop μ-loop

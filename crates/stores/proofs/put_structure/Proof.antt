@@ -1,11 +1,8 @@
 -- `stores::put_structure` meets its contract: kind and length, the words and the bytes are stored in a row.
 -- The idea: stores in a row are one store of the structure.
-use mathlib.Core.Path.{_≡_, refl, ap, _∙_}
-use mathlib.Core.List.{List}
+use mathlib.Core.Path.{refl}
 use denote.Ref.{now}
-use Prim.Native.Nat.{ℕ, _+_, _*_}
 use lib.ListN.{length}
-use lib.Seq.{sets}
 use Rattle.note.specs.Words.{words}
 use Rattle.stores.proofs.StructureLaws.{structured-stored}
 use borrow.Author.Needs.{needs}
@@ -45,13 +42,12 @@ same-length c = search needs
 
 returns : tie.Need-returns
 returns c =
-    let a = c .before .before .before .before .before .before .before .before .before .before .before .before .before .before .before .before .args in
-    let last = c .before .before .put-part in
-    let middle = c .before .before .before .before .before .before .put-words2 in
-    let first = c .before .before .before .before .before .before .before .before .before .before .put-words in
-    last .ensures
-    ∙ ap (λ (l : List ℕ). sets l (8 + 4 * length (now (a .ws))) (now (a .bytes))) (middle .ensures ∙ ap (λ (l : List ℕ). sets l 8 (words (now (a .ws)))) (first .ensures))
-    ∙ structured-stored (a .kind) (now (a .ws)) (now (a .bytes)) (now (a .part)) _ refl
+    let last = c .before .before in
+    let middle = last .before .before .before .before in
+    let first = middle .before .before .before .before in
+    let a = first .before .before .before .before .before .before .args in
+    rw (last .put-part .ensures, middle .put-words2 .ensures, first .put-words .ensures)
+    (structured-stored (a .kind) (now (a .ws)) (now (a .bytes)) (now (a .part)) _ refl)
 
 pub put-structure-spec : {M : Type 1} → statement M
 put-structure-spec =

@@ -49,13 +49,15 @@ loop-less c = search needs
 
 loop-again : tie.Need-loop-again Inv-loop μ-loop
 loop-again c =
-    let a = c .before .before .before .before .before .before .before .before .before .args in
-    let turn = c .before .before .before .before .before .before .loop in
-    let put = c .before .before .put-word in (
+    let put = c .before .before in
+    let turn = put .before .before .before in
+    let a = turn .before .before .before .before .args in
+    let i = turn .before .loop .i in
+    let (bound, size, stored) = turn .before .loop .inv in (
       omega arith,
-      c .before .out .given ∙ turn .inv .1,
-      put .ensures ∙ ap (λ (l : List ℕ). sets l (a .at + 4 * turn .i) (words (getD (a .ws .now) (turn .i) 0 ∷ []))) (turn .inv .2)
-          ∙ word-more (a .out .now) (a .ws .now) (a .at) (turn .i) (c .before .before .before .before .before .loop-test .taken),
+      c .before .out .given ∙ size,
+      put .put-word .ensures ∙ ap (λ (l : List ℕ). sets l (a .at + 4 * i) (words (getD (a .ws .now) i 0 ∷ []))) stored
+          ∙ word-more (a .out .now) (a .ws .now) (a .at) i (turn .loop-test .taken),
     )
 
 same-length : tie.Need-same-length Inv-loop μ-loop
@@ -64,7 +66,8 @@ same-length c = c .before .loop .inv .1
 returns : tie.Need-returns Inv-loop μ-loop
 returns c =
     let a = c .before .before .before .before .args in
-    c .before .loop .inv .2 ∙ ap (λ (ws : List ℕ). sets (a .out .now) (a .at) (words ws)) (take-all (c .before .loop .i) (a .ws .now) (c .loop-test .left))
+    let all = take-all (c .before .loop .i) (a .ws .now) (c .loop-test .left) in
+    c .before .loop .inv .2 ∙ ap (λ (ws : List ℕ). sets (a .out .now) (a .at) (words ws)) all
 
 pub put-words-spec : {M : Type 1} → statement M
 put-words-spec =

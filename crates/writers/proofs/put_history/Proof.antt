@@ -1,12 +1,9 @@
 -- `writers::put_history` meets its contract: kind and length, the veto section and the trigger section are stored in a row.
 -- The idea: stores in a row are one store of the history's bytes.
-use Prim.Native.Nat.{ℕ, _+_}
-use mathlib.Core.Path.{_≡_, refl, ap, _∙_}
-use mathlib.Core.List.{List}
+use mathlib.Core.Path.{refl}
 use denote.Ref.{now}
 use lib.ListN.{length}
-use lib.Seq.{sets}
-use Rattle.note.specs.History.{History, sectionBytes}
+use Rattle.note.specs.History.{History}
 use Rattle.writers.proofs.HistoryLaws.{history-stored}
 use borrow.Author.Needs.{needs}
 use Rattle.writers.proofs.put_history.Statement.{statement}
@@ -52,17 +49,35 @@ put-section-requires-2 c κs = search needs
 same-length : tie.Need-same-length
 same-length c = search needs
 
-returns : tie.Need-returns
-returns c =
-    let a = c .before .before .before .before .before .before .before .before .before .before .before .before .before .before .before .before .before .before .args in
-    let h : History = record {
+-- From the last store back to the one before it, and to the first; from there to the function's start.
+abbrev second : tie.After-put-section2 → tie.After-put-section
+second c = c .before .before .before .before
+
+abbrev first : tie.After-put-section → tie.After-put-words
+first c = c .before .before .before .before
+
+abbrev known : tie.After-put-words → tie.After-shared-slice-known4
+known c = c .before .before .before
+
+abbrev start : tie.After-shared-slice-known4 → tie.Start
+start c = c .before .before .before .before .before
+
+-- The fields handed over.
+abbrev fields : tie.Start → History
+fields s =
+    let a = s .args in
+    record {
       veto = record { count = a .veto-count; times = now (a .veto-times); width = a .veto-width; masks = now (a .veto-masks) };
       trigger = record { count = a .trigger-count; times = now (a .trigger-times); width = a .trigger-width; masks = now (a .trigger-masks) };
-    } in
-    c .before .before .put-section2 .ensures
-    ∙ ap (λ (l : List ℕ). sets l (8 + (8 + (length (h .veto .times) + length (h .veto .masks)))) (sectionBytes (h .trigger))) (c .before .before .before .before .before .before .put-section .ensures
-    ∙ ap (λ (l : List ℕ). sets l 8 (sectionBytes (h .veto))) (c .before .before .before .before .before .before .before .before .before .before .put-words .ensures))
-    ∙ history-stored h (now (a .part)) _ refl
+    }
+
+returns : tie.Need-returns
+returns c =
+    let trigger = c .before .before in
+    let veto = second trigger in
+    let head = first veto in
+    let s = start (known head) in
+    history-stored (fields s) (now (s .args .part)) _ refl (head .put-words .ensures) (veto .put-section .ensures) (trigger .put-section2 .ensures)
 
 pub put-history-spec : {M : Type 1} → statement M
 put-history-spec =

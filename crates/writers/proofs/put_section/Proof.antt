@@ -1,12 +1,6 @@
 -- `writers::put_section` meets its contract: count, times, width and masks are stored in a row.
 -- The idea: stores in a row are one store of the section's bytes.
-use Prim.Native.Nat.{ℕ, _+_}
-use mathlib.Core.Path.{_≡_, ap, _∙_}
-use mathlib.Core.List.{List, [], _∷_}
 use denote.Ref.{now}
-use lib.ListN.{length}
-use lib.Seq.{sets}
-use Rattle.note.specs.Words.{words}
 use Rattle.note.specs.History.{Section}
 use Rattle.writers.proofs.HistoryLaws.{section-stored}
 use borrow.Author.Needs.{needs}
@@ -50,16 +44,29 @@ put-part-requires-2 c κs = search needs
 same-length : tie.Need-same-length
 same-length c = search needs
 
+-- From each store back to the one before it; from the first to the start.
+abbrev third : tie.After-put-part2 → tie.After-put-words2
+third c = c .before .before .before .before
+
+abbrev second : tie.After-put-words2 → tie.After-put-part
+second c = c .before .before .before .before .before
+
+abbrev first : tie.After-put-part → tie.After-put-words
+first c = c .before .before .before .before
+
+abbrev start : tie.After-put-words → tie.Start
+start c = c .before .before .before .before .before .before
+
 returns : tie.Need-returns
 returns c =
-    let a = c .before .before .before .before .before .before .before .before .before .before .before .before .before .before .before .before .before .before .before .before .before .args in
+    let masks = c .before .before in
+    let width = third masks in
+    let times = second width in
+    let count = first times in
+    let a = start count .args in
     let s : Section = record { count = a .count; times = now (a .times); width = a .width; masks = now (a .masks) } in
-    let middle : ℕ = a .at + 4 + length (s .times) in
-    c .before .before .put-part2 .ensures
-    ∙ ap (λ (l : List ℕ). sets l (middle + 4) (s .masks)) (c .before .before .before .before .before .before .put-words2 .ensures
-    ∙ ap (λ (l : List ℕ). sets l middle (words (s .width ∷ []))) (c .before .before .before .before .before .before .before .before .before .before .before .put-part .ensures
-    ∙ ap (λ (l : List ℕ). sets l (a .at + 4) (s .times)) (c .before .before .before .before .before .before .before .before .before .before .before .before .before .before .before .put-words .ensures)))
-    ∙ section-stored (now (a .part)) (a .at) s
+    section-stored (now (a .part)) (a .at) s (count .put-words .ensures) (times .put-part .ensures) (width .put-words2 .ensures)
+    (masks .put-part2 .ensures)
 
 pub put-section-spec : {M : Type 1} → statement M
 put-section-spec =

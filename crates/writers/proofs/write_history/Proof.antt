@@ -1,14 +1,14 @@
 -- `writers::write_history` meets its contract: fault and size are the history's, and `put_history` stores its bytes.
 -- The idea: the size is known where there is no fault, and no more is asked; the laws of writers say the rest.
 use Prim.Native.Nat.{_+_, _≤_, _<_}
-use mathlib.Core.Path.{_≡_, sym, _∙_}
+use mathlib.Core.Path.{sym, _∙_}
 use native.Mathlib.Omega.{arith}
 use denote.Ref.{now}
 use lib.ListN.{length}
 use Rattle.note.specs.Limits.{fileLimit}
 use Rattle.note.specs.History.{History}
 use Rattle.note.specs.Writers.{historyWritten}
-use Rattle.stores.proofs.WriterLaws.{room-told, refuses, writes}
+use Rattle.stores.proofs.WriterLaws.{Admitted, refuses, has-room, writes}
 use Rattle.writers.proofs.HistoryLaws.{partsSize, history-size, size-fits}
 use borrow.Author.Needs.{needs}
 use Rattle.writers.proofs.write_history.Statement.{statement}
@@ -20,31 +20,54 @@ use Rattle.stores.proofs.admitted.Reads as admitted-reads
 use Rattle.writers.proofs.history_size.Reads as history-size-reads
 use Rattle.writers.proofs.put_history.Reads as put-history-reads
 
--- The fields handed over, and their size as the code has it.
+-- From where the next place was answered back to the call of `admitted`; from there to where the size was asked, and to the start.
+abbrev asked : tie.After-next → tie.After-admitted
+asked c = c .before .before
+
+abbrev known : tie.After-history-fault → tie.After-shared-slice-known4
+known c = c .before
+
+abbrev start : tie.After-shared-slice-known4 → tie.Start
+start c = c .before .before .before .before .before
+
+-- The fields handed over.
 abbrev fields : tie.Start → History
-fields s = record {
-  veto = record { count = s .args .veto-count; times = now (s .args .veto-times); width = s .args .veto-width; masks = now (s .args .veto-masks) };
-  trigger = record { count = s .args .trigger-count; times = now (s .args .trigger-times); width = s .args .trigger-width; masks = now (s .args .trigger-masks) };
+fields s =
+    let a = s .args in
+    record {
+      veto = record { count = a .veto-count; times = now (a .veto-times); width = a .veto-width; masks = now (a .veto-masks) };
+      trigger = record { count = a .trigger-count; times = now (a .trigger-times); width = a .trigger-width; masks = now (a .trigger-masks) };
+    }
+
+abbrev begun : tie.After-admitted → tie.Start
+begun c = start (known (c .before .before))
+
+-- `admitted` was asked the history's fault and, where it has none, its size.
+admitted : (c : tie.After-admitted)
+    → Admitted (now (begun c .args .out)) (begun c .args .place) (historyWritten (fields (begun c))) (c .admitted .result)
+unfolding historyWritten
+admitted c = record {
+  fault = _;
+  size = _;
+  fault-is = c .before .before .history-fault .ensures;
+  size-is = λ z. history-size (fields (begun c)) ∙ sym (c .before .history-size .ensures z);
+  said = c .admitted .ensures;
 }
 
-size-is : (c : tie.After-history-size) → c .before .history-fault .result ≡ 0 → length (historyWritten (fields (c .before .before .before .before .before .before .before)) .bytes) ≡ c .history-size .result
-size-is c z = history-size (fields (c .before .before .before .before .before .before .before)) ∙ sym (c .history-size .ensures z)
-
-abbrev start : tie.After-next → tie.Start
-start c = c .before .before .before .before .before .before .before .before .before .before
-
 -- Where the next place was answered: the limit, and room for the parts.
-told : (c : tie.After-next) → (length (now (start c .args .out)) ≤ fileLimit) × (start c .args .place + (24 + partsSize (fields (start c))) ≤ length (now (start c .args .out)))
-told c =
-    let h = room-told _ _ _ _ (c .next .given .1) (c .before .before .admitted .ensures) in
-    (h .0, omega (arith, h .2, c .before .before .before .history-size .ensures (h .1)))
+room : (c : tie.After-next)
+    → (let s = begun (asked c) in
+      (length (now (s .args .out)) ≤ fileLimit) × (s .args .place + (24 + partsSize (fields s)) ≤ length (now (s .args .out))))
+room c =
+    let (limit, fits) = has-room (admitted (asked c)) (c .next .given .1) in
+    (limit, omega (arith, fits, history-size (fields (begun (asked c)))))
 
 history-fault-requires : tie.Need-history-fault-requires
 history-fault-requires c κs = search needs
 
 history-size-requires : tie.Need-history-size-requires
 history-size-requires c κs =
-    let s = c .before .before .before .before .before .before in
+    let s = start (known c) in
     let l : length (now (s .args .veto-masks)) < 0x8000000000000000 = search needs in
     λ z. size-fits (fields s) (sym (c .history-fault .ensures) ∙ z) l
 
@@ -58,27 +81,30 @@ enum-known-next : tie.Need-enum-known-next
 enum-known-next c = search needs
 
 sub-put-history : tie.Need-sub-put-history
-sub-put-history c = omega (arith, told (c .before) .1)
+sub-put-history c = omega (arith, room (c .before) .1)
 
 part-put-history-start : tie.Need-part-put-history-start
-part-put-history-start c = omega (arith, told (c .before) .1)
+part-put-history-start c = omega (arith, room (c .before) .1)
 
 part-put-history-end : tie.Need-part-put-history-end
 part-put-history-end c = search needs
 
 put-history-requires : tie.Need-put-history-requires
-put-history-requires c κs = (omega (arith, told (c .before .before) .1, c .put-history-arg .given), omega (arith, told (c .before .before) .0, c .put-history-arg .given))
+put-history-requires c κs =
+    let (limit, fits) = room (c .before .before) in
+    omega (arith, limit, fits, c .put-history-arg .given)
 
 returns : tie.Need-returns
-unfolding historyWritten
-returns c = refuses _ _ (historyWritten (fields (c .before .before .before .before .before .before .before .before .before .before .before))) _ _ (c .before .before .before .before .before .history-fault .ensures) (size-is (c .before .before .before .before)) _ (c .before .before .before .admitted .ensures) (c .before .number .given .1)
+returns c = refuses (admitted (c .before .before .before)) (c .before .number .given .1)
 
 same-length : tie.Need-same-length
 same-length c = search needs
 
 returns-2 : tie.Need-returns-2
-unfolding historyWritten
-returns-2 c = writes _ _ (historyWritten (fields (c .before .before .before .before .before .before .before .before .before .before .before .before .before .before .before))) _ _ (c .before .before .before .before .before .before .before .before .before .history-fault .ensures) (size-is (c .before .before .before .before .before .before .before .before)) _ (c .before .before .before .before .before .before .before .admitted .ensures) (c .before .before .before .before .before .next .given .1) _ (c .before .before .put-history .ensures)
+returns-2 c =
+    let stored = c .before .before in
+    let next = stored .before .before .before in
+    writes (admitted (asked next)) (next .next .given .1) _ (stored .put-history .ensures)
 
 pub write-history-spec : {M : Type 1} → statement M
 write-history-spec =
