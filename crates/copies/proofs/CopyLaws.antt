@@ -4,7 +4,7 @@ use mathlib.Core.Path.{_≡_, sym, ap, _∙_, subst}
 use mathlib.Core.List.{List}
 use Prim.Native.Nat.{ℕ, _+_}
 use lib.IntN.{ℤ}
-use lib.ListN.{length}
+use lib.ListN.{length, getD}
 use borrow.Author.Tests.{le-leb}
 use Rattle.theory.specs.Words.{Bytes}
 use Rattle.theory.specs.Tests.{ok}
@@ -19,8 +19,12 @@ use Rattle.demands.proofs.WriterLaws.{record-laid}
 use Rattle.answers.proofs.SignedLaws.{kept}
 use Rattle.copies.specs.Copying.{Copyable, Copied}
 
+-- The fields that six numbers make.
+abbrev pub ofSix : {F : Type 0} → (ℕ → ℕ → ℕ → ℕ → ℕ → ℕ → F) → List ℕ → F
+ofSix make ns = make (getD ns 0 0) (getD ns 1 0) (getD ns 2 0) (getD ns 3 0) (getD ns 4 0) (getD ns 5 0)
+
 module _ (k : Kind) {F : Type 0} (write : F → Written) (of : List ℕ → F) (again : (b : List ℕ) → Bytes b → k .rule b ≡ 0 → Again k b (write (of b)))
-    (b old : List ℕ) (place : ℕ) (c : Copyable k b (length old) place) where
+    (old : List ℕ) {b : List ℕ} {place : ℕ} (c : Copyable k b (length old) place) where
   abbrev next : ℕ
   next = place + (8 + length b)
 
@@ -35,11 +39,16 @@ module _ (k : Kind) {F : Type 0} (write : F → Written) (of : List ℕ → F) (
       rw (le-leb (length old) fileLimit (c .limit), again b (c .bytes) (c .follows) .fine, size, le-leb next (length old) (c .room))
 
   -- The fields that were handed on are the body's.
-  pub copied : (f : F) → f ≡ of b → (new : List ℕ) → new ≡ recordOutput old place (write f) → Copied k b old place new
-  copied f e new q =
+  pub copied : {f : F} → f ≡ of b → {new : List ℕ} → new ≡ recordOutput old place (write f) → Copied k b old place new
+  copied e q =
       let w : Written = write (of b) in
       subst (λ (x : List ℕ). Laid old x place next (wrapped k b)) (sym (q ∙ ap (λ (g : F). recordOutput old place (write g)) e))
       (subst (λ (bytes : List ℕ). Laid old (recordOutput old place w) place next bytes) same (record-laid old place next w granted))
+
+  -- They are made of six numbers that were read.
+  pub six-copied : (make : ℕ → ℕ → ℕ → ℕ → ℕ → ℕ → F) {ns six : List ℕ} → ns ≡ six → ofSix make six ≡ of b
+      → {new : List ℕ} → new ≡ recordOutput old place (write (ofSix make ns)) → Copied k b old place new
+  six-copied make read is = copied (ap (ofSix make) read ∙ is)
 
 -- A signed word that was read and is handed on.
 pub handed : (w : ℕ) {z : ℤ} → z ≡ signed w → signed (unsigned z) ≡ signed w

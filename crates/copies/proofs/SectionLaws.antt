@@ -26,7 +26,8 @@ module _ {b : List ℕ} (e : historyRule b ≡ 0) {veto middle trigger : ℕ} (c
 
 -- The section whose count stands at p, whose width stands at v, and which ends at q.
 pub section-cut : (b : List ℕ) (p v q count width : ℕ) → v ≡ widthAt p b → q ≡ after p b → count ≡ word p b → width ≡ word v b
-    → record { count = count; times = take (v - (p + 4)) (drop (p + 4) b); width = width; masks = take (q - (v + 4)) (drop (v + 4) b) } ≡ sectionOf p b
+    → record { count = count; times = take (v - (p + 4)) (drop (p + 4) b); width = width; masks = take (q - (v + 4)) (drop (v + 4) b) }
+    ≡ sectionOf p b
 unfolding sectionOf widthOf widthAt after
 section-cut b p v q count width ev eq ec ew =
     let times : v - (p + 4) ≡ 4 * word p b = omega (arith, ev) in

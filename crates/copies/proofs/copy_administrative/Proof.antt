@@ -1,13 +1,11 @@
 -- `copies::copy_administrative` meets its contract: the fields handed on are the body's.
 -- The idea: six words are read in order, and the law of copies says the rest.
 use Prim.Native.Nat.{ℕ}
-use mathlib.Core.Path.{ap}
-use mathlib.Core.List.{List}
-use lib.ListN.{getD}
-use Rattle.note.specs.Administrative.{administrativeKind, administrativeOf}
+use mathlib.Core.Path.{refl}
+use Rattle.note.specs.Administrative.{Administrative, administrativeKind, administrativeOf}
 use Rattle.note.specs.Writers.{administrativeWritten}
 use Rattle.demands.proofs.AgainLaws.{administrative-again}
-use Rattle.copies.proofs.CopyLaws.{copied}
+use Rattle.copies.proofs.CopyLaws.{six-copied}
 use borrow.Author.Needs.{needs}
 use Rattle.copies.proofs.copy_administrative.Statement.{statement}
 use Rattle.copies.proofs.copy_administrative.Tie as tie
@@ -25,12 +23,18 @@ write-administrative-requires c κs = search needs
 same-length : tie.Need-same-length
 same-length c = search needs
 
+-- The fields in the order of their words.
+abbrev fields : ℕ → ℕ → ℕ → ℕ → ℕ → ℕ → Administrative
+fields date clock number time since live =
+    record { date = date; clock = clock; number = number; time = time; since = since; live = live }
+
 returns : tie.Need-returns
 unfolding administrativeOf
 returns c =
-    copied administrativeKind administrativeWritten administrativeOf administrative-again _ _ _ (c .before .before .before .before .before .before .before .pre .1) _
-    (ap (λ (ns : List ℕ). record { date = getD ns 0 0; clock = getD ns 1 0; number = getD ns 2 0; time = getD ns 3 0; since = getD ns 4 0; live = getD ns 5 0 }) (c .before .before .before .before .six-at .ensures))
-    _ (c .before .before .write-administrative .ensures .1)
+    let call = c .before .before in
+    let read = call .before .before in
+    six-copied administrativeKind administrativeWritten administrativeOf administrative-again _ (read .before .before .before .pre .1) fields
+    (read .six-at .ensures) refl (call .write-administrative .ensures .1)
 
 pub copy-administrative-spec : {M : Type 1} → statement M
 copy-administrative-spec =

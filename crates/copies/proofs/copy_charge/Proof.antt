@@ -47,19 +47,27 @@ same-length c = search needs
 returns : tie.Need-returns
 unfolding chargeOf
 returns c =
-    let s = c .before .before .before .before .before .before .before .before .before .before .before .before .before .before in
+    let call = c .before .before in
+    let trace-length = call .before in
+    let t0 = trace-length .before in
+    let delta-t = t0 .before in
+    let rtf-offset = delta-t .before in
+    let bias = rtf-offset .before in
+    let gain = bias .before in
+    let tower = gain .before in
+    let code = tower .before in
+    let s = code .before .before .before .before in
     let b = now (s .args .body) in
-    copied chargeKind chargeWritten chargeOf charge-again _ _ _ (s .pre .1) _
-    (λ i. record {
-      code = handed (word 0 b) (c .before .before .before .before .before .before .before .before .before .before .signed-at .ensures) i;
-      tower = handed (word 4 b) (c .before .before .before .before .before .before .before .before .before .signed-at2 .ensures) i;
-      gain = handed (word 8 b) (c .before .before .before .before .before .before .before .before .signed-at3 .ensures) i;
-      bias = handed (word 12 b) (c .before .before .before .before .before .before .before .signed-at4 .ensures) i;
-      rtfOffset = handed (word 16 b) (c .before .before .before .before .before .before .signed-at5 .ensures) i;
-      deltaT = handed (word 20 b) (c .before .before .before .before .before .signed-at6 .ensures) i;
-      t0 = handed (word 24 b) (c .before .before .before .before .signed-at7 .ensures) i;
-      traceLength = handed (word 28 b) (c .before .before .before .signed-at8 .ensures) i;
-    }) _ (c .before .before .write-charge .ensures .1)
+    copied chargeKind chargeWritten chargeOf charge-again _ (s .pre .1) (λ i. record {
+      code = handed (word 0 b) (code .signed-at .ensures) i;
+      tower = handed (word 4 b) (tower .signed-at2 .ensures) i;
+      gain = handed (word 8 b) (gain .signed-at3 .ensures) i;
+      bias = handed (word 12 b) (bias .signed-at4 .ensures) i;
+      rtfOffset = handed (word 16 b) (rtf-offset .signed-at5 .ensures) i;
+      deltaT = handed (word 20 b) (delta-t .signed-at6 .ensures) i;
+      t0 = handed (word 24 b) (t0 .signed-at7 .ensures) i;
+      traceLength = handed (word 28 b) (trace-length .signed-at8 .ensures) i;
+    }) (call .write-charge .ensures .1)
 
 pub copy-charge-spec : {M : Type 1} → statement M
 copy-charge-spec =

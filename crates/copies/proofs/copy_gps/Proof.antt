@@ -51,18 +51,26 @@ same-length c = search needs
 returns : tie.Need-returns
 unfolding gpsOf
 returns c =
-    let date = c .before .before .before .before .before .before .before .before .before .before .before .before .word-at .ensures in
-    let clock = c .before .before .before .before .before .before .before .before .before .before .before .word-at2 .ensures in
-    copied gpsKind gpsWritten gpsOf gps-again _ _ _ (c .before .before .before .before .before .before .before .before .before .before .before .before .before .before .before .pre .1) _
-    (λ i. record {
-      year = (c .before .before .before .before .before .before .before .before .before .decimal .ensures ∙ ap (λ (w : ℕ). decimal 4 (w / 65536)) date) i;
-      day = (c .before .before .before .before .before .before .before .before .decimal2 .ensures ∙ ap (λ (w : ℕ). decimal 4 w) date) i;
+    let call = c .before .before in
+    let tenths = call .before in
+    let second = tenths .before .before in
+    let minute = second .before in
+    let hour = minute .before in
+    let day = hour .before in
+    let year = day .before in
+    let clock-read = year .before .before in
+    let clock = clock-read .word-at2 .ensures in
+    let date = clock-read .before .word-at .ensures in
+    let s = clock-read .before .before .before .before in
+    copied gpsKind gpsWritten gpsOf gps-again _ (s .pre .1) (λ i. record {
+      year = (year .decimal .ensures ∙ ap (λ (w : ℕ). decimal 4 (w / 65536)) date) i;
+      day = (day .decimal2 .ensures ∙ ap (λ (w : ℕ). decimal 4 w) date) i;
       status = clock i / 268435456;
-      hour = (c .before .before .before .before .before .before .before .decimal3 .ensures ∙ ap (λ (w : ℕ). decimal 2 (w / 65536)) clock) i;
-      minute = (c .before .before .before .before .before .before .decimal4 .ensures ∙ ap (λ (w : ℕ). decimal 2 (w / 256)) clock) i;
-      second = (c .before .before .before .before .before .decimal5 .ensures ∙ ap (λ (w : ℕ). decimal 2 w) clock) i;
-      tenths = (c .before .before .before .decimal6 .ensures ∙ ap (λ (w : ℕ). decimal 8 w) (c .before .before .before .before .word-at3 .ensures)) i;
-    }) _ (c .before .before .write-gps .ensures .1)
+      hour = (hour .decimal3 .ensures ∙ ap (λ (w : ℕ). decimal 2 (w / 65536)) clock) i;
+      minute = (minute .decimal4 .ensures ∙ ap (λ (w : ℕ). decimal 2 (w / 256)) clock) i;
+      second = (second .decimal5 .ensures ∙ ap (λ (w : ℕ). decimal 2 w) clock) i;
+      tenths = (tenths .decimal6 .ensures ∙ ap (λ (w : ℕ). decimal 8 w) (tenths .before .word-at3 .ensures)) i;
+    }) (call .write-gps .ensures .1)
 
 pub copy-gps-spec : {M : Type 1} → statement M
 copy-gps-spec =

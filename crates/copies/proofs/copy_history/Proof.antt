@@ -22,11 +22,16 @@ use Rattle.rules.proofs.section_end.Reads as section-end-reads
 use Rattle.words.proofs.word_at.Reads as word-at-reads
 use Rattle.writers.proofs.write_history.Reads as write-history-reads
 
--- Where the three places are known: what they are, and that they lie in order.
+-- From where the trigger section's first part is lent back to where the three places are known, and from there to the start.
+abbrev known : tie.After-write-history-arg3 → tie.After-width-at2
+known c = c .before .before .before .before .before
+
 abbrev start : tie.After-width-at2 → tie.Start
 start c = c .before .before .before .before .before
 
-cuts : (c : tie.After-width-at2) → Cuts (now (start c .args .body)) (c .before .before .width-at .result) (c .before .section-end .result) (c .width-at2 .result)
+-- Where the three places are known: what they are, and that they lie in order.
+cuts : (c : tie.After-width-at2)
+    → Cuts (now (start c .args .body)) (c .before .before .width-at .result) (c .before .section-end .result) (c .width-at2 .result)
 cuts c = record { veto-is = c .before .before .width-at .ensures; middle-is = c .before .section-end .ensures; trigger-is = c .width-at2 .ensures }
 
 placed : (c : tie.After-width-at2)
@@ -79,28 +84,28 @@ word-at-requires-3 : tie.Need-word-at-requires-3
 word-at-requires-3 c κs = omega (arith, placed (c .before .before .before .before .before))
 
 add-write-history-2 : tie.Need-add-write-history-2
-add-write-history-2 c = omega (arith, placed (c .before .before .before .before .before .before))
+add-write-history-2 c = omega (arith, placed (known (c .before)))
 
 sub-write-history-3 : tie.Need-sub-write-history-3
-sub-write-history-3 c = omega (arith, placed (c .before .before .before .before .before .before))
+sub-write-history-3 c = omega (arith, placed (known (c .before)))
 
 part-write-history-start-3 : tie.Need-part-write-history-start-3
-part-write-history-start-3 c = omega (arith, placed (c .before .before .before .before .before .before))
+part-write-history-start-3 c = omega (arith, placed (known (c .before)))
 
 part-write-history-end-3 : tie.Need-part-write-history-end-3
-part-write-history-end-3 c = omega (arith, placed (c .before .before .before .before .before .before))
+part-write-history-end-3 c = omega (arith, placed (known (c .before)))
 
 word-at-requires-4 : tie.Need-word-at-requires-4
-word-at-requires-4 c κs = omega (arith, placed (c .before .before .before .before .before .before .before))
+word-at-requires-4 c κs = omega (arith, placed (known (c .before .before)))
 
 add-write-history-3 : tie.Need-add-write-history-3
-add-write-history-3 c = omega (arith, placed (c .before .before .before .before .before .before .before .before))
+add-write-history-3 c = omega (arith, placed (known (c .before .before .before)))
 
 sub-write-history-4 : tie.Need-sub-write-history-4
-sub-write-history-4 c = omega (arith, placed (c .before .before .before .before .before .before .before .before))
+sub-write-history-4 c = omega (arith, placed (known (c .before .before .before)))
 
 part-write-history-start-4 : tie.Need-part-write-history-start-4
-part-write-history-start-4 c = omega (arith, placed (c .before .before .before .before .before .before .before .before))
+part-write-history-start-4 c = omega (arith, placed (known (c .before .before .before)))
 
 part-write-history-end-4 : tie.Need-part-write-history-end-4
 part-write-history-end-4 c = search needs
@@ -114,20 +119,20 @@ same-length c = search needs
 returns : tie.Need-returns
 unfolding historyOf
 returns c =
-    let known = c .before .before .before .before .before .before .before .before .before .before .before .before in
-    let k = cuts known in
-    let b = now (start known .args .body) in
-    let pre = start known .pre .1 in
-    let veto-width = c .before .before .before .before .before .before .before .before in
-    let veto-count = veto-width .before .before in
-    let trigger-width = c .before .before .before .before in
+    let call = c .before .before in
+    let trigger-width = call .before .before in
     let trigger-count = trigger-width .before .before in
-    copied historyKind historyWritten historyOf history-again _ _ _ pre _
-    (λ i. record {
+    let veto-width = trigger-count .before .before in
+    let veto-count = veto-width .before .before in
+    let placed-at = known (trigger-count .before) in
+    let k = cuts placed-at in
+    let b = now (start placed-at .args .body) in
+    let pre = start placed-at .pre .1 in
+    copied historyKind historyWritten historyOf history-again _ pre (λ i. record {
       veto = section-cut b 0 _ _ _ _ (k .veto-is) (k .middle-is) (veto-count .word-at .ensures) (veto-width .word-at2 .ensures) i;
       trigger = (section-cut b _ _ _ _ _ (k .trigger-is) (ends (pre .follows) k) (trigger-count .word-at3 .ensures) (trigger-width .word-at4 .ensures)
           ∙ ap (λ (p : ℕ). sectionOf p b) (k .middle-is)) i;
-    }) _ (c .before .before .write-history .ensures .1)
+    }) (call .write-history .ensures .1)
 
 pub copy-history-spec : {M : Type 1} → statement M
 copy-history-spec =

@@ -56,22 +56,33 @@ same-length c = search needs
 returns : tie.Need-returns
 unfolding phononOf
 returns c =
-    let s = c .before .before .before .before .before .before .before .before .before .before .before .before .before .before .before .before .before in
+    let call = c .before .before in
+    let trace-length = call .before in
+    let t0 = trace-length .before in
+    let delta-t = t0 .before in
+    let variable-gain = delta-t .before in
+    let rtf-offset = variable-gain .before in
+    let lockpoint = rtf-offset .before in
+    let squid-bias = lockpoint .before in
+    let qet-bias = squid-bias .before in
+    let gain = qet-bias .before in
+    let tower = gain .before in
+    let code = tower .before in
+    let s = code .before .before .before .before in
     let b = now (s .args .body) in
-    copied phononKind phononWritten phononOf phonon-again _ _ _ (s .pre .1) _
-    (λ i. record {
-      code = handed (word 0 b) (c .before .before .before .before .before .before .before .before .before .before .before .before .before .signed-at .ensures) i;
-      tower = handed (word 4 b) (c .before .before .before .before .before .before .before .before .before .before .before .before .signed-at2 .ensures) i;
-      gain = handed (word 8 b) (c .before .before .before .before .before .before .before .before .before .before .before .signed-at3 .ensures) i;
-      qetBias = handed (word 12 b) (c .before .before .before .before .before .before .before .before .before .before .signed-at4 .ensures) i;
-      squidBias = handed (word 16 b) (c .before .before .before .before .before .before .before .before .before .signed-at5 .ensures) i;
-      lockpoint = handed (word 20 b) (c .before .before .before .before .before .before .before .before .signed-at6 .ensures) i;
-      rtfOffset = handed (word 24 b) (c .before .before .before .before .before .before .before .signed-at7 .ensures) i;
-      variableGain = handed (word 28 b) (c .before .before .before .before .before .before .signed-at8 .ensures) i;
-      deltaT = handed (word 32 b) (c .before .before .before .before .before .signed-at9 .ensures) i;
-      t0 = handed (word 36 b) (c .before .before .before .before .signed-at10 .ensures) i;
-      traceLength = handed (word 40 b) (c .before .before .before .signed-at11 .ensures) i;
-    }) _ (c .before .before .write-phonon .ensures .1)
+    copied phononKind phononWritten phononOf phonon-again _ (s .pre .1) (λ i. record {
+      code = handed (word 0 b) (code .signed-at .ensures) i;
+      tower = handed (word 4 b) (tower .signed-at2 .ensures) i;
+      gain = handed (word 8 b) (gain .signed-at3 .ensures) i;
+      qetBias = handed (word 12 b) (qet-bias .signed-at4 .ensures) i;
+      squidBias = handed (word 16 b) (squid-bias .signed-at5 .ensures) i;
+      lockpoint = handed (word 20 b) (lockpoint .signed-at6 .ensures) i;
+      rtfOffset = handed (word 24 b) (rtf-offset .signed-at7 .ensures) i;
+      variableGain = handed (word 28 b) (variable-gain .signed-at8 .ensures) i;
+      deltaT = handed (word 32 b) (delta-t .signed-at9 .ensures) i;
+      t0 = handed (word 36 b) (t0 .signed-at10 .ensures) i;
+      traceLength = handed (word 40 b) (trace-length .signed-at11 .ensures) i;
+    }) (call .write-phonon .ensures .1)
 
 pub copy-phonon-spec : {M : Type 1} → statement M
 copy-phonon-spec =

@@ -1,13 +1,11 @@
 -- `copies::copy_tlb` meets its contract: the fields handed on are the body's.
 -- The idea: six words are read in order, and the law of copies says the rest.
 use Prim.Native.Nat.{ℕ}
-use mathlib.Core.Path.{ap}
-use mathlib.Core.List.{List}
-use lib.ListN.{getD}
-use Rattle.note.specs.Tlb.{tlbKind, tlbOf}
+use mathlib.Core.Path.{refl}
+use Rattle.note.specs.Tlb.{Tlb, tlbKind, tlbOf}
 use Rattle.note.specs.Writers.{tlbWritten}
 use Rattle.demands.proofs.AgainLaws.{tlb-again}
-use Rattle.copies.proofs.CopyLaws.{copied}
+use Rattle.copies.proofs.CopyLaws.{six-copied}
 use borrow.Author.Needs.{needs}
 use Rattle.copies.proofs.copy_tlb.Statement.{statement}
 use Rattle.copies.proofs.copy_tlb.Tie as tie
@@ -25,12 +23,18 @@ write-tlb-requires c κs = search needs
 same-length : tie.Need-same-length
 same-length c = search needs
 
+-- The fields in the order of their words.
+abbrev fields : ℕ → ℕ → ℕ → ℕ → ℕ → ℕ → Tlb
+fields tower1 tower2 tower3 tower4 tower5 tower6 =
+    record { tower1 = tower1; tower2 = tower2; tower3 = tower3; tower4 = tower4; tower5 = tower5; tower6 = tower6 }
+
 returns : tie.Need-returns
 unfolding tlbOf
 returns c =
-    copied tlbKind tlbWritten tlbOf tlb-again _ _ _ (c .before .before .before .before .before .before .before .pre .1) _
-    (ap (λ (ns : List ℕ). record { tower1 = getD ns 0 0; tower2 = getD ns 1 0; tower3 = getD ns 2 0; tower4 = getD ns 3 0; tower5 = getD ns 4 0; tower6 = getD ns 5 0 }) (c .before .before .before .before .six-at .ensures))
-    _ (c .before .before .write-tlb .ensures .1)
+    let call = c .before .before in
+    let read = call .before .before in
+    six-copied tlbKind tlbWritten tlbOf tlb-again _ (read .before .before .before .pre .1) fields
+    (read .six-at .ensures) refl (call .write-tlb .ensures .1)
 
 pub copy-tlb-spec : {M : Type 1} → statement M
 copy-tlb-spec = tie.close (tie.spec six-at-requires write-tlb-requires same-length returns)

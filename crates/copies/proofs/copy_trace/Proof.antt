@@ -53,18 +53,24 @@ same-length c = search needs
 returns : tie.Need-returns
 unfolding traceOf
 returns c =
-    let s = c .before .before .before .before .before .before .before .before .before .before .before .before .before in
+    let call = c .before .before in
+    let n = call .before .before in
+    let delta = n .before in
+    let t0 = delta .before in
+    let code = t0 .before in
+    let channel = code .before in
+    let address = channel .before in
+    let s = address .before .before .before .before in
     let b = now (s .args .body) in
-    copied traceKind traceWritten traceOf trace-again _ _ _ (s .pre .1) _
-    (λ i. record {
-      address = c .before .before .before .before .before .before .before .before .before .word-at .ensures i;
-      channel = c .before .before .before .before .before .before .before .before .word-at2 .ensures i;
-      code = c .before .before .before .before .before .before .before .word-at3 .ensures i;
-      t0 = handed (word 28 b) (c .before .before .before .before .before .before .signed-at .ensures) i;
-      delta = c .before .before .before .before .before .word-at4 .ensures i;
-      n = c .before .before .before .before .word-at5 .ensures i;
+    copied traceKind traceWritten traceOf trace-again _ (s .pre .1) (λ i. record {
+      address = address .word-at .ensures i;
+      channel = channel .word-at2 .ensures i;
+      code = code .word-at3 .ensures i;
+      t0 = handed (word 28 b) (t0 .signed-at .ensures) i;
+      delta = delta .word-at4 .ensures i;
+      n = n .word-at5 .ensures i;
       samples = sym (left 48 b) i;
-    }) _ (c .before .before .write-trace .ensures .1)
+    }) (call .write-trace .ensures .1)
 
 pub copy-trace-spec : {M : Type 1} → statement M
 copy-trace-spec =

@@ -1,13 +1,11 @@
 -- `copies::copy_trigger` meets its contract: the fields handed on are the body's.
 -- The idea: six words are read in order, and the law of copies says the rest.
 use Prim.Native.Nat.{ℕ}
-use mathlib.Core.Path.{ap}
-use mathlib.Core.List.{List}
-use lib.ListN.{getD}
-use Rattle.note.specs.Trigger.{triggerKind, triggerOf}
+use mathlib.Core.Path.{refl}
+use Rattle.note.specs.Trigger.{Trigger, triggerKind, triggerOf}
 use Rattle.note.specs.Writers.{triggerWritten}
 use Rattle.demands.proofs.AgainLaws.{trigger-again}
-use Rattle.copies.proofs.CopyLaws.{copied}
+use Rattle.copies.proofs.CopyLaws.{six-copied}
 use borrow.Author.Needs.{needs}
 use Rattle.copies.proofs.copy_trigger.Statement.{statement}
 use Rattle.copies.proofs.copy_trigger.Tie as tie
@@ -25,12 +23,18 @@ write-trigger-requires c κs = search needs
 same-length : tie.Need-same-length
 same-length c = search needs
 
+-- The fields in the order of their words.
+abbrev fields : ℕ → ℕ → ℕ → ℕ → ℕ → ℕ → Trigger
+fields mask1 mask2 mask3 mask4 mask5 mask6 =
+    record { mask1 = mask1; mask2 = mask2; mask3 = mask3; mask4 = mask4; mask5 = mask5; mask6 = mask6 }
+
 returns : tie.Need-returns
 unfolding triggerOf
 returns c =
-    copied triggerKind triggerWritten triggerOf trigger-again _ _ _ (c .before .before .before .before .before .before .before .pre .1) _
-    (ap (λ (ns : List ℕ). record { mask1 = getD ns 0 0; mask2 = getD ns 1 0; mask3 = getD ns 2 0; mask4 = getD ns 3 0; mask5 = getD ns 4 0; mask6 = getD ns 5 0 }) (c .before .before .before .before .six-at .ensures))
-    _ (c .before .before .write-trigger .ensures .1)
+    let call = c .before .before in
+    let read = call .before .before in
+    six-copied triggerKind triggerWritten triggerOf trigger-again _ (read .before .before .before .pre .1) fields
+    (read .six-at .ensures) refl (call .write-trigger .ensures .1)
 
 pub copy-trigger-spec : {M : Type 1} → statement M
 copy-trigger-spec = tie.close (tie.spec six-at-requires write-trigger-requires same-length returns)

@@ -28,7 +28,9 @@ unfolding bcd
 returns c =
     let v = c .before .before .args .v in
     let q : v / 100 ≡ v / 10 / 10 = omega arith in
-    (rw (c .before .two-digits .ensures .0, c .two-digits2 .ensures .0, q) (omega arith), omega (arith, c .before .two-digits .ensures .1, c .two-digits2 .ensures .1))
+    let (high, high-small) = c .before .two-digits .ensures in
+    let (low, low-small) = c .two-digits2 .ensures in
+    (rw (high, low, q) (omega arith), omega (arith, high-small, low-small))
 
 pub four-digits-spec : {M : Type 1} → statement M
 four-digits-spec =

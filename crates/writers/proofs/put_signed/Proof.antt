@@ -4,6 +4,8 @@ use Prim.Native.Nat.{ℕ, _+_, _-_, _≤_, _<_}
 use mathlib.Core.Path.{_≡_, refl, sym, ap, _∙_}
 use mathlib.Core.List.{List, map}
 use native.Mathlib.Omega.{arith}
+use mir.Val.{SFits}
+use mir.Syntax.{w32}
 use lib.IntN.{pos}
 use lib.ListN.{length, length-map, length-set, take, set, getD, List·getD-map}
 use lib.Seq.{sets, take-all}
@@ -50,20 +52,24 @@ loop-less c = search needs
 loop-again : tie.Need-loop-again Inv-loop μ-loop
 loop-again c =
     let read = c .before in
-    let turn = read .before .before in
-    let a = turn .before .before .args in
-    let i = turn .loop .i in
+    let head = read .before .before in
+    let a = head .before .before .args in
+    let i = head .loop .i in
+    let (bound, size, stored) = head .loop .inv in
     let zs = a .fields .now in
-    let word : c .from-signed .result ≡ getD (map unsigned zs) i 0 =
-    handed-on (getD zs i (pos 0)) (record { sfits = read .from-signed-arg .given }) (c .from-signed .ensures) ∙ sym (List·getD-map unsigned zs i (pos 0)) in
+    let ws : List ℕ = map unsigned zs in
+    let so-far : List ℕ = sets (a .ws .now) 0 (take i ws) in
+    let fits : SFits w32 (getD zs i (pos 0)) = record { sfits = read .from-signed-arg .given } in
+    let word : c .from-signed .result ≡ getD ws i 0 =
+    handed-on (getD zs i (pos 0)) fits (c .from-signed .ensures) ∙ sym (List·getD-map unsigned zs i (pos 0)) in
     let first : i ≡ 0 + i = omega arith in
-    let more : i < length (map unsigned zs) = omega (arith, length-map zs unsigned, read .before .loop-test .taken) in (
+    let more : i < length ws = omega (arith, length-map zs unsigned, read .before .loop-test .taken) in (
       omega arith,
-      simp length-set (turn .loop .inv .1),
-      ap (λ (l : List ℕ). set l i (c .from-signed .result)) (turn .loop .inv .2)
-          ∙ ap (set (sets (a .ws .now) 0 (take i (map unsigned zs))) i) word
-          ∙ ap (λ (k : ℕ). set (sets (a .ws .now) 0 (take i (map unsigned zs))) k (getD (map unsigned zs) i 0)) first
-          ∙ byte-more (a .ws .now) (map unsigned zs) 0 i more,
+      simp length-set size,
+      ap (λ (l : List ℕ). set l i (c .from-signed .result)) stored
+          ∙ ap (set so-far i) word
+          ∙ ap (λ (k : ℕ). set so-far k (getD ws i 0)) first
+          ∙ byte-more (a .ws .now) ws 0 i more,
     )
 
 same-length : tie.Need-same-length Inv-loop μ-loop
@@ -72,9 +78,9 @@ same-length c = c .before .loop .inv .1
 returns : tie.Need-returns Inv-loop μ-loop
 returns c =
     let a = c .before .before .before .args in
-    let i = c .before .loop .i in
-    c .before .loop .inv .2
-    ∙ ap (sets (a .ws .now) 0) (take-all i (map unsigned (a .fields .now)) (omega (arith, length-map (a .fields .now) unsigned, c .loop-test .left)))
+    let zs = a .fields .now in
+    let all : length (map unsigned zs) ≤ c .before .loop .i = omega (arith, length-map zs unsigned, c .loop-test .left) in
+    c .before .loop .inv .2 ∙ ap (sets (a .ws .now) 0) (take-all (c .before .loop .i) (map unsigned zs) all)
 
 pub put-signed-spec : {M : Type 1} → statement M
 put-signed-spec =

@@ -31,7 +31,9 @@ same-length c = search needs
 
 returns : tie.Need-returns
 unfolding structured administrativeWritten administrativeBytes puts put bytes
-returns c = bytes-unasked _ _ _ _ _ _ _ (c .before .before .before .before .before .administrative-fault .ensures) (λ z. refl) (c .before .before .write-structure .ensures)
+returns c =
+    let stored = c .before .before in
+    bytes-unasked _ _ _ _ _ _ _ (stored .before .before .before .administrative-fault .ensures) (λ z. refl) (stored .write-structure .ensures)
 
 pub write-administrative-spec : {M : Type 1} → statement M
 write-administrative-spec =

@@ -35,6 +35,10 @@ write-entry-requires c κs = search needs
 same-length : tie.Need-same-length
 same-length c = search needs
 
+-- From where the fault was asked back to the start.
+abbrev start : tie.After-charge-fault → tie.Start
+start c = c .before .before .before .before
+
 -- The fields in the order of their words; each fits its word.
 abbrev fields : tie.Start → List ℤ
 fields s = let a = s .args in a .code ∷ a .tower ∷ a .gain ∷ a .bias ∷ a .rtf-offset ∷ a .delta-t ∷ a .t0 ∷ a .trace-length ∷ []
@@ -45,11 +49,12 @@ fit s = let h = s .fits in (h .code, (h .tower, (h .gain, (h .bias, (h .rtf-offs
 returns : tie.Need-returns
 unfolding structured chargeWritten chargeBytes puts put bytes
 returns c =
-    let asked = c .before .before .before .before in
-    let s = asked .before .before .before .before in
+    let stored = c .before .before in
+    let asked = stored .before .before in
+    let s = start asked in
     let code = handed-on (s .args .code) (s .fits .code) (asked .before .from-signed .ensures) in
     bytes-unasked _ _ _ _ _ _ _ (asked .charge-fault .ensures ∙ ap chargeFault code)
-    (λ z. ap (λ (ws : List ℕ). structured 0x00010002 ws []) (words-kept (fields s) (fit s))) (c .before .before .write-entry .ensures)
+    (λ z. ap (λ (ws : List ℕ). structured 0x00010002 ws []) (words-kept (fields s) (fit s))) (stored .write-entry .ensures)
 
 pub write-charge-spec : {M : Type 1} → statement M
 write-charge-spec =

@@ -27,28 +27,33 @@ put-signed-requires c κs = search needs
 array-share-prefix-ws : tie.Need-array-share-prefix-ws
 array-share-prefix-ws c = search needs
 
--- The array's first words, as many as there are fields.
+-- From where the array's front is lent back to where it was filled, and from there to the start.
+abbrev filled : tie.After-ws3 → tie.After-put-signed
+filled c = c .before .before .before
+
+abbrev start : tie.After-put-signed → tie.Start
+start c = c .before .before .before
+
+-- The array's first words, as many as there are fields, are the fields'.
 held : (c : tie.After-ws3)
-    → take (length (c .before .before .before .before .before .before .args .fields .now)) (c .before .before .before .put-signed .last .0)
-    ≡ map unsigned (c .before .before .before .before .before .before .args .fields .now)
+    → (let zs = start (filled c) .args .fields .now in take (length zs) (filled c .put-signed .last .0) ≡ map unsigned zs)
 held c =
-    let s = c .before .before .before .before .before .before in
+    let s = start (filled c) in
     let zs = s .args .fields .now in
     let size : length (map unsigned zs) ≡ length zs = length-map zs unsigned in
-    ap (take (length zs)) (c .before .before .before .put-signed .ensures)
+    ap (take (length zs)) (filled c .put-signed .ensures)
     ∙ ap (λ (n : ℕ). take n (sets (replicate 11 0) 0 (map unsigned zs))) (sym size)
     ∙ front-stored (replicate 11 0) (map unsigned zs) (omega (arith, size, s .pre))
 
 slice-aggregate-write-structure : tie.Need-slice-aggregate-write-structure
-slice-aggregate-write-structure c =
-    sym (ap length (held c) ∙ length-map (c .before .before .before .before .before .before .args .fields .now) unsigned)
+slice-aggregate-write-structure c = sym (ap length (held c) ∙ length-map (start (filled c) .args .fields .now) unsigned)
 
 slice-aggregate-write-structure-2 : tie.Need-slice-aggregate-write-structure-2
 slice-aggregate-write-structure-2 c = search needs
 
 write-structure-requires : tie.Need-write-structure-requires
 write-structure-requires c κs =
-    let s = c .before .before .before .before .before .before .before in
+    let s = start (filled (c .before)) in
     omega (arith, ap length (held (c .before)), length-map (s .args .fields .now) unsigned, s .pre)
 
 same-length : tie.Need-same-length
@@ -56,9 +61,10 @@ same-length c = search needs
 
 returns : tie.Need-returns
 returns c =
-    let asked = c .before .before .before .before in
-    let kind = asked .before .before .before .before .before .before .args .kind in
-    bytes-unasked _ _ _ _ _ _ _ refl (λ z. ap (λ (ws : List ℕ). structured kind ws []) (held asked)) (c .before .before .write-structure .ensures)
+    let stored = c .before .before in
+    let lent = stored .before .before in
+    let kind = start (filled lent) .args .kind in
+    bytes-unasked _ _ _ _ _ _ _ refl (λ z. ap (λ (ws : List ℕ). structured kind ws []) (held lent)) (stored .write-structure .ensures)
 
 pub write-entry-spec : {M : Type 1} → statement M
 write-entry-spec =

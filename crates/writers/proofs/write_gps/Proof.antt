@@ -22,6 +22,17 @@ use Rattle.writers.proofs.four_digits.Reads as four-digits-reads
 use Rattle.writers.proofs.gps_clock.Reads as gps-clock-reads
 use Rattle.stores.proofs.write_structure.Reads as write-structure-reads
 
+-- From the last call back to where the tenths were made; from there to where the fault was asked, and to the start.
+abbrev made : tie.After-write-structure → tie.After-eight-digits
+made c = c .before .before .before
+
+abbrev asked : tie.After-eight-digits → tie.After-gps-fault
+asked c = c .before .before .before
+
+abbrev start : tie.After-gps-fault → tie.Start
+start c = c .before .before .before .before
+
+-- A status without a fault is its own lowest four bits.
 status-kept : (f : Gps) → gpsFault f ≡ 0 → f .status % 16 ≡ f .status
 unfolding gpsFault
 status-kept f fine = omega (arith, leb-true (f .status) 15 (holds-at _ fine 2 _ 9 refl))
@@ -62,15 +73,18 @@ same-length c = search needs
 returns : tie.Need-returns
 unfolding structured gpsWritten gpsBytes puts put bytes
 returns c =
-    let a = c .before .before .before .before .before .before .before .before .before .before .before .before .args in
-    let year = c .before .before .before .before .before .before .before .before .before .before .four-digits .ensures .0 in
-    let day = c .before .before .before .before .before .before .before .before .before .four-digits2 .ensures .0 in
-    let fault = c .before .before .before .before .before .before .before .before .gps-fault .ensures in
-    let tenths = c .before .before .before .before .before .eight-digits .ensures in
+    let stored = c .before .before in
+    let tenths = made stored in
+    let fault = asked tenths in
+    let a = start fault .args in
+    let year = fault .before .before .four-digits .ensures .0 in
+    let day = fault .before .four-digits2 .ensures .0 in
     let clock : ℕ → ℕ = λ s. s * 268435456 + bcd 2 (a .hour) * 65536 + bcd 2 (a .minute) * 256 + bcd 2 (a .second) in
-    bytes-unasked _ _ _ _ _ _ _ fault
-    (λ z. λ i. structured 0x60 ((year i * 65536 + day i) ∷ (c .before .before .before .before .before .before .gps-clock .ensures ∙ ap clock (status-kept _ (sym fault ∙ z))) i ∷ tenths i ∷ []) [])
-    (c .before .before .write-structure .ensures)
+    let clock-kept : fault .gps-fault .result ≡ 0 → tenths .before .gps-clock .result ≡ clock (a .status) =
+    λ z. tenths .before .gps-clock .ensures ∙ ap clock (status-kept _ (sym (fault .gps-fault .ensures) ∙ z)) in
+    bytes-unasked _ _ _ _ _ _ _ (fault .gps-fault .ensures)
+    (λ z. λ i. structured 0x60 ((year i * 65536 + day i) ∷ clock-kept z i ∷ tenths .eight-digits .ensures i ∷ []) [])
+    (stored .write-structure .ensures)
 
 pub write-gps-spec : {M : Type 1} → statement M
 write-gps-spec =

@@ -35,21 +35,32 @@ write-entry-requires c κs = search needs
 same-length : tie.Need-same-length
 same-length c = search needs
 
+-- From where the fault was asked back to the start.
+abbrev start : tie.After-phonon-fault → tie.Start
+start c = c .before .before .before .before
+
 -- The fields in the order of their words; each fits its word.
 abbrev fields : tie.Start → List ℤ
-fields s = let a = s .args in a .code ∷ a .tower ∷ a .gain ∷ a .qet-bias ∷ a .squid-bias ∷ a .lockpoint ∷ a .rtf-offset ∷ a .variable-gain ∷ a .delta-t ∷ a .t0 ∷ a .trace-length ∷ []
+fields s =
+    let a = s .args in
+    a .code ∷ a .tower ∷ a .gain ∷ a .qet-bias ∷ a .squid-bias ∷ a .lockpoint ∷ a .rtf-offset ∷ a .variable-gain ∷ a .delta-t ∷ a .t0
+    ∷ a .trace-length ∷ []
 
 fit : (s : tie.Start) → AllSigned (fields s)
-fit s = let h = s .fits in (h .code, (h .tower, (h .gain, (h .qet-bias, (h .squid-bias, (h .lockpoint, (h .rtf-offset, (h .variable-gain, (h .delta-t, (h .t0, (h .trace-length, tt)))))))))))
+fit s =
+    let h = s .fits in
+    (h .code, (h .tower, (h .gain, (h .qet-bias, (h .squid-bias, (h .lockpoint, (h .rtf-offset, (h .variable-gain, (h .delta-t, (h .t0,
+    (h .trace-length, tt)))))))))))
 
 returns : tie.Need-returns
 unfolding structured phononWritten phononBytes puts put bytes
 returns c =
-    let asked = c .before .before .before .before in
-    let s = asked .before .before .before .before in
+    let stored = c .before .before in
+    let asked = stored .before .before in
+    let s = start asked in
     let code = handed-on (s .args .code) (s .fits .code) (asked .before .from-signed .ensures) in
     bytes-unasked _ _ _ _ _ _ _ (asked .phonon-fault .ensures ∙ ap phononFault code)
-    (λ z. ap (λ (ws : List ℕ). structured 0x00010001 ws []) (words-kept (fields s) (fit s))) (c .before .before .write-entry .ensures)
+    (λ z. ap (λ (ws : List ℕ). structured 0x00010001 ws []) (words-kept (fields s) (fit s))) (stored .write-entry .ensures)
 
 pub write-phonon-spec : {M : Type 1} → statement M
 write-phonon-spec =

@@ -35,12 +35,16 @@ same-length c = search needs
 returns : tie.Need-returns
 unfolding structured traceWritten traceFault traceBytes puts put bytes
 returns c =
-    let s = c .before .before .before .before .before .before .before .before .before in
+    let stored = c .before .before in
+    let time = stored .before .before in
+    let asked = time .before .before in
+    let s = asked .before .before .before in
     let a = s .args in
-    let t0 = handed-on (a .t0) (s .fits .t0) (c .before .before .before .before .from-signed .ensures) in
-    bytes-unasked _ _ _ _ _ _ _ (c .before .before .before .before .before .before .trace-fault .ensures)
-    (λ z. λ i. structured 0x11 (0x11 ∷ 12 ∷ a .address ∷ a .channel ∷ a .code ∷ 0x12 ∷ 12 ∷ t0 i ∷ a .delta-t ∷ a .n ∷ 0x13 ∷ a .n ∷ []) (now (a .samples)))
-    (c .before .before .write-structure .ensures)
+    let t0 = handed-on (a .t0) (s .fits .t0) (time .from-signed .ensures) in
+    bytes-unasked _ _ _ _ _ _ _ (asked .trace-fault .ensures)
+    (λ z. λ i. structured 0x11
+    (0x11 ∷ 12 ∷ a .address ∷ a .channel ∷ a .code ∷ 0x12 ∷ 12 ∷ t0 i ∷ a .delta-t ∷ a .n ∷ 0x13 ∷ a .n ∷ []) (now (a .samples)))
+    (stored .write-structure .ensures)
 
 pub write-trace-spec : {M : Type 1} → statement M
 write-trace-spec =
