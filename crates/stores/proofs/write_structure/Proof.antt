@@ -27,13 +27,13 @@ start c = c .before .before .before .before
 -- `admitted` was asked the structure's fault and size.
 admitted : (c : tie.After-admitted)
     → (let a = start c .args in
-      Admitted (now (a .out)) (a .place) (structureWritten (a .fault) (a .kind) (now (a .ws)) (now (a .bytes))) (c .admitted .result))
+    Admitted (now (a .out)) (a .place) (structureWritten (a .fault) (a .kind) (now (a .ws)) (now (a .bytes))) (c .admitted .result))
 admitted c = record { fault = _; size = _; fault-is = refl; size-is = λ z. structured-size _ _ _; said = c .admitted .ensures }
 
 -- Where the next place was answered: the limit, and room for the structure.
 room : (c : tie.After-next)
     → (let a = start (asked c) .args in
-      (length (now (a .out)) ≤ fileLimit) × (a .place + (8 + (4 * length (now (a .ws)) + length (now (a .bytes)))) ≤ length (now (a .out))))
+    (length (now (a .out)) ≤ fileLimit) × (a .place + (8 + (4 * length (now (a .ws)) + length (now (a .bytes)))) ≤ length (now (a .out))))
 room c =
     let a = start (asked c) .args in
     let (limit, fits) = has-room (admitted (asked c)) (c .next .given .1) in

@@ -57,7 +57,7 @@ admitted c = record {
 -- Where the next place was answered: the limit, and room for the parts.
 room : (c : tie.After-next)
     → (let s = begun (asked c) in
-      (length (now (s .args .out)) ≤ fileLimit) × (s .args .place + (24 + partsSize (fields s)) ≤ length (now (s .args .out))))
+    (length (now (s .args .out)) ≤ fileLimit) × (s .args .place + (24 + partsSize (fields s)) ≤ length (now (s .args .out))))
 room c =
     let (limit, fits) = has-room (admitted (asked c)) (c .next .given .1) in
     (limit, omega (arith, fits, history-size (fields (begun (asked c)))))

@@ -49,8 +49,8 @@ fields s =
 fit : (s : tie.Start) → AllSigned (fields s)
 fit s =
     let h = s .fits in
-    (h .code, (h .tower, (h .gain, (h .qet-bias, (h .squid-bias, (h .lockpoint, (h .rtf-offset, (h .variable-gain, (h .delta-t, (h .t0,
-    (h .trace-length, tt)))))))))))
+    let last : AllSigned (s .args .delta-t ∷ s .args .t0 ∷ s .args .trace-length ∷ []) = (h .delta-t, (h .t0, (h .trace-length, tt))) in
+    (h .code, (h .tower, (h .gain, (h .qet-bias, (h .squid-bias, (h .lockpoint, (h .rtf-offset, (h .variable-gain, last))))))))
 
 returns : tie.Need-returns
 unfolding structured phononWritten phononBytes puts put bytes
