@@ -19,20 +19,26 @@ use Rattle.note.specs.Writers.{written, closingBytes}
 use Rattle.demands.specs.Outputs.{Laid}
 use Rattle.demands.proofs.Bundles.{records, same-records}
 use Rattle.demands.proofs.OutputLaws.{put-laid, both-laid}
+use Rattle.closings.specs.Closing.{HasRoom}
 use Rattle.rewriting.specs.Ready.{Begins}
 
-module _ (old mid : List ℕ) (place end w : ℕ) (wide : place + 8 ≤ end) (room : end ≤ length old) (e : mid ≡ sets old place (closingBytes w place end)) where
-  eight-size : length (closingBytes w place end) ≡ 8
-  eight-size = length-puts order 4 (w ∷ (end - (place + 8)) ∷ [])
+module _ (old mid : List ℕ) (place end w : ℕ) (room : HasRoom old place end) (e : mid ≡ sets old place (closingBytes w place end)) where
+  abbrev head : List ℕ
+  head = closingBytes w place end
+
+  head-size : length head ≡ 8
+  head-size = length-puts order 4 (w ∷ (end - (place + 8)) ∷ [])
 
   -- The two words.
-  pub head-laid : Laid old mid place (place + 8) (closingBytes w place end)
+  pub head-laid : Laid old mid place (place + 8) head
   unfolding written
   head-laid =
-      let eight : List ℕ = closingBytes w place end in
-      let fits : place + length eight ≤ length old = omega (arith, eight-size) in
-      subst (λ (x : List ℕ). Laid old x place (place + 8) eight) (sym (e ∙ sets-eq eight old place fits ∙ append-assoc (take place old) eight (drop (place + length eight) old)))
-      (subst (λ (n : ℕ). Laid old (written (ok end) old place eight) place n eight) (ap (λ (n : ℕ). place + n) eight-size) (put-laid old eight place end fits))
+      let fits : place + length head ≤ length old = omega (arith, head-size, room) in
+      let stored : mid ≡ written (ok end) old place head =
+      e ∙ sets-eq head old place fits ∙ append-assoc (take place old) head (drop (place + length head) old) in
+      subst (λ (x : List ℕ). Laid old x place (place + 8) head) (sym stored)
+      (subst (λ (n : ℕ). Laid old (written (ok end) old place head) place n head) (ap (λ (n : ℕ). place + n) head-size)
+      (put-laid old head place end fits))
 
   -- The contents behind them.
   pub container-copied : (c : Context) (inner new : List ℕ) (rs : List Record) → Bytes inner → readRecords c (place + 8) inner ≡ ok rs
@@ -41,10 +47,10 @@ module _ (old mid : List ℕ) (place end w : ℕ) (wide : place + 8 ≤ end) (ro
   container-copied c inner new rs h reads l =
       let own : inner ≡ recordsBytes rs = records .sound c (place + 8) inner rs h (sym (same-records c (place + 8) inner) ∙ reads) .0 in
       let size : end - (place + 8) ≡ length (recordsBytes rs) = omega (arith, l .ends, ap length own) in
-      let apart : closingBytes w place end ++ inner ≡ put order 4 w ++ (put order 4 (end - (place + 8)) ++ inner) = simp append-assoc in
+      let apart : head ++ inner ≡ put order 4 w ++ (put order 4 (end - (place + 8)) ++ inner) = simp append-assoc in
       subst (λ (x : List ℕ). Laid old new place end x)
       (apart ∙ ap₂ (λ (n : ℕ) (x : List ℕ). put order 4 w ++ (put order 4 n ++ x)) size own)
-      (both-laid old mid new (closingBytes w place end) inner place (place + 8) end (omega (arith, wide, room)) head-laid l)
+      (both-laid old mid new head inner place (place + 8) end (omega (arith, room)) head-laid l)
 
 -- An event's first word, taken apart and put together again.
 word-again : (w : ℕ) → eventWordRule w ≡ 0 → eventWord (classOf w) (categoryOf w) (eventTypeOf w) ≡ w
@@ -52,7 +58,8 @@ unfolding eventWordRule
 word-again w e = let mark : w / 65536 ≡ eventMark = equal-passed (w / 65536) eventMark 4 (first-at _ e 0) in omega arith
 
 -- A container that isn't a configuration is an event, and its class, category and type have no fault.
-pub event-begins : (w class category type : ℕ) → class ≡ classOf w → category ≡ categoryOf w → type ≡ eventTypeOf w → Begins w → (w ≡ configurationWord → ⊥)
+pub event-begins : (w class category type : ℕ) → class ≡ classOf w → category ≡ categoryOf w → type ≡ eventTypeOf w
+    → Begins w → (w ≡ configurationWord → ⊥)
     → (eventFault class category type ≡ 0) × (eventWord class category type ≡ w)
 unfolding eventWordRule
 event-begins w class category type ec eg et (true, e) n = absurd (n (equal-passed w configurationWord 4 e))

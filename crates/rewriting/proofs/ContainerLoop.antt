@@ -8,14 +8,15 @@ use Prim.Native.Nat.{ℕ, _+_, _-_, _≤_, _<_}
 use native.Mathlib.Omega.{arith}
 use lib.ListN.{length, take, drop, length-drop}
 use lib.Seq.{sets, length-take-le}
+use Rattle.theory.specs.Words.{Bytes}
 use Rattle.theory.specs.Tests.{ok}
 use Rattle.theory.proofs.WordLaws.{Bytes-drop, Bytes-take}
-use Rattle.theory.proofs.Items.{Item, Oks}
+use Rattle.theory.proofs.Items.{Item, Whole, Oks}
 use Rattle.theory.proofs.LoopLaws.{whole}
 use Rattle.theory.proofs.StructureLaws.{structure, inside, Opened, opens, length-is}
 use Rattle.note.specs.Limits.{fileLimit}
 use Rattle.note.specs.Words.{order, word}
-use Rattle.note.specs.Records.{readRecord, readRecords}
+use Rattle.note.specs.Records.{Record, Context, readRecord, readRecords}
 use Rattle.note.specs.Events.{Container, containerBytes, containerSize}
 use Rattle.note.specs.Writers.{closingBytes}
 use Rattle.demands.specs.Outputs.{Laid}
@@ -24,11 +25,15 @@ use Rattle.record.proofs.StepLaws.{cut}
 use Rattle.closings.specs.Closing.{HasRoom}
 use Rattle.rewriting.specs.Ready.{containerHead, containerLate, contentsIn, readContainer, readContainers, Begins, RecordsReady, Stands}
 use Rattle.rewriting.proofs.CopyLoop as loop
-use Rattle.rewriting.proofs.CopyLoop.{Copying, here, next}
+use Rattle.rewriting.proofs.CopyLoop.{Copying, Found, here, next}
 use Rattle.rewriting.proofs.ContainerCopy.{head-laid, container-copied}
 
+-- What stands in a container.
+abbrev contents : Whole (Bool × ℕ) (List Record)
+contents = inside (λ s. contentsIn (s .0)) records
+
 abbrev pub containerItem : Item Bool Container
-containerItem = structure order containerHead containerLate (inside (λ s. contentsIn (s .0)) records) (λ s c. false)
+containerItem = structure order containerHead containerLate contents (λ s c. false)
 
 pub same-containers : (first : Bool) (at : ℕ) (bs : List ℕ) → readContainers first at bs ≡ whole containerItem first at bs
 unfolding readContainers readContainer readRecords readRecord
@@ -42,7 +47,8 @@ events-are (e ∷ es) (o, os) = (
   events-are es os,
 )
 
-module _ {old : List ℕ} {place : ℕ} {part out rest : List ℕ} {at : ℕ} (i : Copying containerItem old place part out rest at) (l : 0 < length rest) where
+module _ {old : List ℕ} {place : ℕ} {part out rest : List ℕ} {at : ℕ} (i : Copying containerItem old place part out rest at)
+    (l : 0 < length rest) where
   item : Container
   item = here containerItem i l .item
 
@@ -50,60 +56,75 @@ module _ {old : List ℕ} {place : ℕ} {part out rest : List ℕ} {at : ℕ} (i
   unfolding item
   reads = here containerItem i l .reads-item
 
-  opened : Opened order containerHead containerLate (inside (λ s. contentsIn (s .0)) records .read) (i .state) at rest item
-  opened = opens order containerHead containerLate (inside (λ s. contentsIn (s .0)) records .read) (i .state) at rest item reads
+  opened : Opened order containerHead containerLate (contents .read) (i .state) at rest item
+  opened = opens order containerHead containerLate (contents .read) (i .state) at rest item reads
 
   pub container-turn : (m : ℕ) → m ≡ word 4 rest → (8 + m ≤ length rest) × (at + (8 + m) ≤ fileLimit)
-  container-turn m em = (omega (arith, em, opened .fits), omega (arith, em, opened .fits, loop.inside containerItem i .0, loop.inside containerItem i .1))
+  container-turn m em =
+      let (room, limit) = loop.inside containerItem i in
+      (omega (arith, em, opened .fits), omega (arith, em, opened .fits, room, limit))
 
-  module _ (w m : ℕ) (ew : w ≡ word 0 rest) (em : m ≡ word 4 rest) where
-    -- Its contents, as code cuts them.
-    abbrev inner : List ℕ
-    inner = take (8 + m - 8) (drop 8 rest)
+-- Its two words were read.
+module _ {old : List ℕ} {place : ℕ} {part out rest : List ℕ} {at w m : ℕ} (f : Found containerItem old place part out rest at w m) where
+  abbrev i : Copying containerItem old place part out rest at
+  i = f .so-far
 
-    inner-size : length inner ≡ m
-    inner-size = ap length (cut m rest) ∙ length-take-le m (drop 8 rest) (omega (arith, length-drop 8 rest, container-turn m em .0))
+  abbrev own : Container
+  own = item i (f .more)
 
-    inner-reads : readRecords (contentsIn (i .state)) (at + 8) inner ≡ ok (item .body)
-    inner-reads =
-        ap (λ (n : ℕ). readRecords (contentsIn (i .state)) (at + 8) (take (8 + n - 8) (drop 8 rest))) em
-        ∙ ap (readRecords (contentsIn (i .state)) (at + 8)) (cut (word 4 rest) rest)
-        ∙ same-records (contentsIn (i .state)) (at + 8) (take (word 4 rest) (drop 8 rest)) ∙ opened .body-is
+  abbrev context : Context
+  context = contentsIn (i .state)
 
-    same : record { kind = w; body = item .body } ≡ item
-    same = λ j. record { kind = (ew ∙ sym (opened .kind-is)) j; body = item .body }
+  -- Its contents, as code cuts them.
+  abbrev inner : List ℕ
+  inner = take (8 + m - 8) (drop 8 rest)
 
-    -- Its two words have room.
-    pub begin-ready : HasRoom out at (at + (8 + m)) × Begins w
-    begin-ready = (
-      (omega arith, omega (arith, container-turn m em .0, loop.inside containerItem i .0), loop.inside containerItem i .1),
-      (i .state, ap (containerHead (i .state)) ew ∙ opened .head-ok),
-    )
+  inner-size : length inner ≡ m
+  inner-size =
+      ap length (cut m rest) ∙ length-take-le m (drop 8 rest) (omega (arith, length-drop 8 rest, container-turn i (f .more) m (f .length-is) .0))
 
-    -- They were stored: its contents are next.
-    module _ (mid : List ℕ) (e : mid ≡ sets out at (closingBytes w at (at + (8 + m)))) where
-      begun : Laid out mid at (at + 8) (closingBytes w at (at + (8 + m)))
-      begun = head-laid out mid at (at + (8 + m)) w (begin-ready .0 .0) (begin-ready .0 .1) e
+  inner-reads : readRecords context (at + 8) inner ≡ ok (own .body)
+  inner-reads =
+      ap (λ (n : ℕ). readRecords context (at + 8) (take (8 + n - 8) (drop 8 rest))) (f .length-is)
+      ∙ ap (readRecords context (at + 8)) (cut (word 4 rest) rest)
+      ∙ same-records context (at + 8) (take (word 4 rest) (drop 8 rest)) ∙ opened i (f .more) .body-is
 
-      pub records-ready : RecordsReady (at + 8) inner (length mid)
-      records-ready = (
-        contentsIn (i .state),
-        record {
-          is = item .body;
-          reads = inner-reads;
-          room = omega (arith, inner-size, begun .size, begin-ready .0 .1);
-          limit = omega (arith, begun .size, begin-ready .0 .2);
-        },
+  same : record { kind = w; body = own .body } ≡ own
+  same = λ j. record { kind = (f .kind-is ∙ sym (opened i (f .more) .kind-is)) j; body = own .body }
+
+  -- Its two words have room.
+  pub begin-ready : HasRoom out at (at + (8 + m)) × Begins w
+  begin-ready =
+      let (room, limit) = loop.inside containerItem i in (
+        (omega arith, omega (arith, container-turn i (f .more) m (f .length-is) .0, room), limit),
+        (i .state, ap (containerHead (i .state)) (f .kind-is) ∙ opened i (f .more) .head-ok),
       )
 
-      pub container-next : (new : List ℕ) → Stands inner mid (at + 8) new
-          → Copying containerItem old place part new (take (length rest - (8 + m)) (drop (8 + m) rest)) (at + (8 + m))
-      unfolding item
-      container-next new stands =
-          let size : containerSize item ≡ 8 + m =
-          ap (λ (n : ℕ). 8 + n) (length-is order containerHead containerLate (inside (λ s. contentsIn (s .0)) records) (i .state) at rest item (i .bytes) reads ∙ sym em) in
-          let end : at + 8 + length inner ≡ at + (8 + m) = omega (arith, inner-size) in
-          next containerItem i l (8 + m) size new
-          (subst (λ (x : Container). Laid out new at (at + (8 + m)) (containerBytes x)) same
-          (container-copied out mid at (at + (8 + m)) w (begin-ready .0 .0) (begin-ready .0 .1) e (contentsIn (i .state)) inner new (item .body)
-          (Bytes-take (8 + m - 8) (drop 8 rest) (Bytes-drop 8 rest (i .bytes))) inner-reads (subst (λ (n : ℕ). Laid mid new (at + 8) n inner) end stands)))
+  -- They were stored: its contents are next.
+  module _ (mid : List ℕ) (e : mid ≡ sets out at (closingBytes w at (at + (8 + m)))) where
+    begun : Laid out mid at (at + 8) (closingBytes w at (at + (8 + m)))
+    begun = head-laid out mid at (at + (8 + m)) w (begin-ready .0) e
+
+    pub records-ready : RecordsReady (at + 8) inner (length mid)
+    records-ready = (
+      context,
+      record {
+        is = own .body;
+        reads = inner-reads;
+        room = omega (arith, inner-size, begun .size, begin-ready .0 .1);
+        limit = omega (arith, begun .size, begin-ready .0 .2);
+      },
+    )
+
+    pub container-next : (new : List ℕ) → Stands inner mid (at + 8) new
+        → Copying containerItem old place part new (take (length rest - (8 + m)) (drop (8 + m) rest)) (at + (8 + m))
+    unfolding item
+    container-next new stands =
+        let written = length-is order containerHead containerLate contents (i .state) at rest own (i .bytes) (reads i (f .more)) in
+        let size : containerSize own ≡ 8 + m = ap (λ (n : ℕ). 8 + n) (written ∙ sym (f .length-is)) in
+        let end : at + 8 + length inner ≡ at + (8 + m) = omega (arith, inner-size) in
+        let bytes : Bytes inner = Bytes-take (8 + m - 8) (drop 8 rest) (Bytes-drop 8 rest (i .bytes)) in
+        next containerItem i (f .more) (8 + m) size new
+        (subst (λ (x : Container). Laid out new at (at + (8 + m)) (containerBytes x)) same
+        (container-copied out mid at (at + (8 + m)) w (begin-ready .0) e context inner new (own .body) bytes inner-reads
+        (subst (λ (n : ℕ). Laid mid new (at + 8) n inner) end stands)))

@@ -6,15 +6,16 @@ use Prim.Native.Nat.{ℕ, _+_, _-_, _≤_, _<_}
 use native.Mathlib.Omega.{arith}
 use lib.ListN.{length, take, drop, length-append}
 use Rattle.theory.specs.Words.{Bytes}
-use Rattle.theory.specs.Tests.{ok}
+use Rattle.theory.specs.Tests.{Res, ok}
 use Rattle.theory.proofs.WordLaws.{Bytes-drop}
 use Rattle.theory.proofs.Items.{Item}
 use Rattle.theory.proofs.LoopLaws.{whole, Ahead, ahead}
 use Rattle.note.specs.Limits.{fileLimit}
+use Rattle.note.specs.Words.{word}
 use Rattle.demands.specs.Outputs.{Laid}
 use Rattle.demands.proofs.OutputLaws.{none-laid, both-laid}
 use Rattle.containers.proofs.RecordLoop.{left}
-use Rattle.rewriting.specs.Ready.{Stands}
+use Rattle.rewriting.specs.Ready.{Ready, Stands}
 
 empty : (bs : List ℕ) → length bs ≤ 0 → bs ≡ []
 empty [] l = refl
@@ -33,18 +34,27 @@ module _ {S A : Type 0} (F : Item S A) where
     pub room : place + length part ≤ length old
     pub limit : length old ≤ fileLimit
 
-  pub begin : (old : List ℕ) (place : ℕ) (part : List ℕ) (s : S) (items : List A) → whole F s place part ≡ ok items → Bytes part
-      → place + length part ≤ length old → length old ≤ fileLimit → Copying old place part old part place
-  begin old place part s items e h room limit = record {
+  -- Two words of what is left were read, an item's kind word w and its length word m.
+  pub record Found (old : List ℕ) (place : ℕ) (part out rest : List ℕ) (at w m : ℕ) : Type 0 where
+    pub so-far : Copying old place part out rest at
+    pub more : 0 < length rest
+    pub kind-is : w ≡ word 0 rest
+    pub length-is : m ≡ word 4 rest
+
+  -- Nothing was written: the part is read as items, in whatever way.
+  pub begin : (old : List ℕ) {place : ℕ} {part : List ℕ} (s : S) {read : ℕ → List ℕ → Res (List A)}
+      → ((at : ℕ) (bs : List ℕ) → read at bs ≡ whole F s at bs) → Ready read place part (length old) → Bytes part
+      → Copying old place part old part place
+  begin old {place} {part} s same r h = record {
     front = [];
     splits = refl;
     laid = none-laid old place;
     state = s;
-    items = items;
-    reads = e;
+    items = r .is;
+    reads = sym (same place part) ∙ r .reads;
     bytes = h;
-    room = room;
-    limit = limit;
+    room = r .room;
+    limit = r .limit;
   }
 
   module _ {old : List ℕ} {place : ℕ} {part out rest : List ℕ} {at : ℕ} (i : Copying old place part out rest at) where
@@ -56,9 +66,11 @@ module _ {S A : Type 0} (F : Item S A) where
 
     pub ended : length rest ≤ 0 → Stands part old place out
     ended l =
-        let all : i .front ≡ part = sym (append-nil (i .front)) ∙ ap (λ (x : List ℕ). i .front ++ x) (sym (empty rest l)) ∙ sym (i .splits) in
+        let all : i .front ≡ part =
+        sym (append-nil (i .front)) ∙ ap (λ (x : List ℕ). i .front ++ x) (sym (empty rest l)) ∙ sym (i .splits) in
         let ends : at ≡ place + length part = i .laid .ends ∙ ap (λ (x : List ℕ). place + length x) all in
-        subst (λ (x : List ℕ). Laid old out place (place + length part) x) all (subst (λ (n : ℕ). Laid old out place n (i .front)) ends (i .laid))
+        subst (λ (x : List ℕ). Laid old out place (place + length part) x) all
+        (subst (λ (n : ℕ). Laid old out place n (i .front)) ends (i .laid))
 
     module _ (l : 0 < length rest) where
       -- The item that stands next.
@@ -74,10 +86,12 @@ module _ {S A : Type 0} (F : Item S A) where
       next n en new m =
           let item : A = here .item in
           let more : List ℕ = F .enc item in
-          let behind : take (length rest - n) (drop n rest) ≡ drop (F .size item) rest = sym (left n rest) ∙ ap (λ (k : ℕ). drop k rest) (sym en) in
+          let behind : take (length rest - n) (drop n rest) ≡ drop (F .size item) rest =
+          sym (left n rest) ∙ ap (λ (k : ℕ). drop k rest) (sym en) in
+          let parts : rest ≡ more ++ take (length rest - n) (drop n rest) = own ∙ ap (λ (x : List ℕ). more ++ x) (sym behind) in
           record {
             front = i .front ++ more;
-            splits = i .splits ∙ ap (λ (x : List ℕ). i .front ++ x) (own ∙ ap (λ (x : List ℕ). more ++ x) (sym behind)) ∙ sym (append-assoc (i .front) more _);
+            splits = i .splits ∙ ap (λ (x : List ℕ). i .front ++ x) parts ∙ sym (append-assoc (i .front) more _);
             laid = both-laid old out new (i .front) more place at (at + n) (omega (arith, inside .0, i .laid .size)) (i .laid) m;
             state = F .step (i .state) item;
             items = here .others;

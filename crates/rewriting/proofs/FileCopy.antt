@@ -46,7 +46,8 @@ module _ (bs old : List ℕ) (h : Bytes bs) (r : FileReady bs (length old)) wher
   words-fit = omega (arith, fits .0)
 
   -- The header, from the DAQ bytes of the version word.
-  module _ (version major minor : ℕ) (ev : version ≡ word 4 bs) (ea : major ≡ version / 16777216 % 256) (ei : minor ≡ version / 65536 % 256) where
+  module _ (version major minor : ℕ) (ev : version ≡ word 4 bs) (ea : major ≡ version / 16777216 % 256)
+      (ei : minor ≡ version / 65536 % 256) where
     header-granted : headerWrote old ≡ ok 8
     unfolding headerWrote wrote
     header-granted = rw (le-leb (length old) fileLimit (r .limit), le-leb 8 (length old) (omega (arith, words-fit, r .room)))
@@ -85,7 +86,8 @@ module _ (bs old : List ℕ) (h : Bytes bs) (r : FileReady bs (length old)) wher
 
   containers-read : readContainers true 8 behind ≡ ok (conf ∷ eventsOf tree)
   containers-read =
-      same-containers true 8 behind ∙ ap (whole containerItem true 8) behind-is ∙ seqW containerItem .complete true 8 (conf ∷ eventsOf tree) containers-ok
+      same-containers true 8 behind ∙ ap (whole containerItem true 8) behind-is
+      ∙ seqW containerItem .complete true 8 (conf ∷ eventsOf tree) containers-ok
 
   -- The header was written: they are next.
   module _ (top : List ℕ) (header : Laid old top 0 8 (headerBytes (versionOf tree))) where

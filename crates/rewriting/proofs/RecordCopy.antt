@@ -14,7 +14,7 @@ use Rattle.demands.specs.Outputs.{Laid}
 use Rattle.demands.proofs.Bundles.{recordItem, same-record}
 use Rattle.record.proofs.StepLaws.{Read, read-shows, cut}
 use Rattle.copies.specs.Copying.{Copyable, Copied}
-use Rattle.rewriting.proofs.CopyLoop.{Copying, inside, here, next}
+use Rattle.rewriting.proofs.CopyLoop.{Copying, Found, inside, here, next}
 
 -- An admitted kind has the kind word that names it.
 named : (w : ℕ) (b : List ℕ) → recordRule w b ≡ 0 → kindOf w .word ≡ w
@@ -22,7 +22,8 @@ named w b =
     kind-cases (λ w x. x .rule b ≡ 0 → x .word ≡ w) w
     (λ e. refl) (λ e. refl) (λ e. refl) (λ e. refl) (λ e. refl) (λ e. refl) (λ e. refl) (λ e. refl) (λ e. absurd (omega arith))
 
-module _ {old : List ℕ} {place : ℕ} {part out rest : List ℕ} {at : ℕ} (i : Copying recordItem old place part out rest at) (l : 0 < length rest) where
+module _ {old : List ℕ} {place : ℕ} {part out rest : List ℕ} {at : ℕ} (i : Copying recordItem old place part out rest at)
+    (l : 0 < length rest) where
   abbrev kind : ℕ
   kind = word 0 rest
 
@@ -38,35 +39,43 @@ module _ {old : List ℕ} {place : ℕ} {part out rest : List ℕ} {at : ℕ} (i
   pub turn : (m : ℕ) → m ≡ word 4 rest → (8 + m ≤ length rest) × (at + (8 + m) ≤ fileLimit)
   turn m em = (omega (arith, em, fits), omega (arith, em, fits, inside recordItem i .0, inside recordItem i .1))
 
-  module _ (k m : ℕ) (ek : k ≡ kind) (em : m ≡ word 4 rest) where
-    -- Its body, as code cuts it.
-    abbrev cutBody : List ℕ
-    cutBody = take (8 + m - 8) (drop 8 rest)
+-- Its two words were read.
+module _ {old : List ℕ} {place : ℕ} {part out rest : List ℕ} {at k m : ℕ} (f : Found recordItem old place part out rest at k m) where
+  abbrev i : Copying recordItem old place part out rest at
+  i = f .so-far
 
-    cut-is : cutBody ≡ body
-    cut-is = cut m rest ∙ ap (λ (n : ℕ). take n (drop 8 rest)) em
+  abbrev read : Read (i .state) at rest (kind i (f .more)) (word 4 rest)
+  read = shown i (f .more) .0
 
-    cut-size : length cutBody ≡ m
-    cut-size = ap length cut-is ∙ shown .0 .size ∙ sym em
+  -- Its body, as code cuts it.
+  abbrev cutBody : List ℕ
+  cutBody = take (8 + m - 8) (drop 8 rest)
 
-    cut-follows : recordRule k cutBody ≡ 0
-    cut-follows = (λ j. recordRule (ek j) (cut-is j)) ∙ shown .0 .follows
+  cut-is : cutBody ≡ body i (f .more)
+  cut-is = cut m rest ∙ ap (λ (n : ℕ). take n (drop 8 rest)) (f .length-is)
 
-    pub copyable : Copyable (kindOf k) cutBody (length out) at
-    copyable = record {
-      bytes = Bytes-take (8 + m - 8) (drop 8 rest) (Bytes-drop 8 rest (i .bytes));
-      follows = cut-follows;
-      room = omega (arith, cut-size, em, fits, inside recordItem i .0);
-      limit = inside recordItem i .1;
-    }
+  cut-size : length cutBody ≡ m
+  cut-size = ap length cut-is ∙ read .size ∙ sym (f .length-is)
 
-    pub copied-next : (new : List ℕ) → Copied (kindOf k) cutBody out at new
-        → Copying recordItem old place part new (take (length rest - (8 + m)) (drop (8 + m) rest)) (at + (8 + m))
-    copied-next new h =
-        let item : Record = here recordItem i l .item in
-        let is : record { kind = kindOf k .word; body = cutBody } ≡ item = (λ j. record { kind = (named k cutBody cut-follows ∙ ek) j; body = cut-is j }) ∙ sym (shown .1) in
-        let size : recordSize item ≡ 8 + m = ap recordSize (sym is) ∙ ap (λ (n : ℕ). 8 + n) cut-size in
-        let end : at + (8 + length cutBody) ≡ at + (8 + m) = ap (λ (n : ℕ). at + (8 + n)) cut-size in
-        next recordItem i l (8 + m) size new
-        (subst (λ (r : Record). Laid out new at (at + (8 + m)) (recordBytes r)) is
-        (subst (λ (n : ℕ). Laid out new at n (recordBytes (record { kind = kindOf k .word; body = cutBody }))) end h))
+  cut-follows : recordRule k cutBody ≡ 0
+  cut-follows = (λ j. recordRule (f .kind-is j) (cut-is j)) ∙ read .follows
+
+  pub copyable : Copyable (kindOf k) cutBody (length out) at
+  copyable = record {
+    bytes = Bytes-take (8 + m - 8) (drop 8 rest) (Bytes-drop 8 rest (i .bytes));
+    follows = cut-follows;
+    room = omega (arith, cut-size, f .length-is, read .fits, inside recordItem i .0);
+    limit = inside recordItem i .1;
+  }
+
+  pub copied-next : (new : List ℕ) → Copied (kindOf k) cutBody out at new
+      → Copying recordItem old place part new (take (length rest - (8 + m)) (drop (8 + m) rest)) (at + (8 + m))
+  copied-next new h =
+      let item : Record = here recordItem i (f .more) .item in
+      let own : Record = record { kind = kindOf k .word; body = cutBody } in
+      let is : own ≡ item =
+      (λ j. record { kind = (named k cutBody cut-follows ∙ f .kind-is) j; body = cut-is j }) ∙ sym (shown i (f .more) .1) in
+      let size : recordSize item ≡ 8 + m = ap recordSize (sym is) ∙ ap (λ (n : ℕ). 8 + n) cut-size in
+      let end : at + (8 + length cutBody) ≡ at + (8 + m) = ap (λ (n : ℕ). at + (8 + n)) cut-size in
+      next recordItem i (f .more) (8 + m) size new
+      (subst (λ (r : Record). Laid out new at (at + (8 + m)) (recordBytes r)) is (subst (λ (n : ℕ). Laid out new at n (recordBytes own)) end h))

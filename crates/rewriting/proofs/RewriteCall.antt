@@ -33,33 +33,38 @@ module _ (bs old : List ℕ) where
   unfolding rewriteWrote
   over h = refuses 1 0 (rw (lt-leb (length old) fileLimit h))
 
-  module _ (limit : length old ≤ fileLimit) where
-    pub file-refuses : (c p : ℕ) → Bad c p ≡ fileRows (readFile bs) → Rewrites (refused c p) old
-    unfolding rewriteWrote
-    file-refuses c p e = refuses c p (rw (le-leb (length old) fileLimit limit, file-bad (readFile bs) c p e))
+  pub file-refuses : length old ≤ fileLimit → (c p : ℕ) → Bad c p ≡ fileRows (readFile bs) → Rewrites (refused c p) old
+  unfolding rewriteWrote
+  file-refuses limit c p e = refuses c p (rw (le-leb (length old) fileLimit limit, file-bad (readFile bs) c p e))
 
-    -- A file that was checked.
-    module _ (h : Bytes bs) (n : ℕ) (e : Good n ≡ fileRows (readFile bs)) where
-      tree : File
-      tree = file-good (readFile bs) n e .0
+-- A file that was checked, and an output within the limit.
+pub record Checked (bs old : List ℕ) : Type 0 where
+  pub limit : length old ≤ fileLimit
+  pub bytes : Bytes bs
+  pub rows : ℕ
+  pub good : Good rows ≡ fileRows (readFile bs)
 
-      reads : readFile bs ≡ ok tree
-      unfolding tree
-      reads = file-good (readFile bs) n e .1
+module _ {bs old : List ℕ} (k : Checked bs old) where
+  tree : File
+  tree = file-good (readFile bs) (k .rows) (k .good) .0
 
-      restored : fileRewritten tree ≡ bs
-      restored = let (is, valid) = file-sound bs tree h reads in fields-restore tree valid ∙ sym is
+  reads : readFile bs ≡ ok tree
+  unfolding tree
+  reads = file-good (readFile bs) (k .rows) (k .good) .1
 
-      pub no-room : length old < length bs → Rewrites (refused 13 0) old
-      unfolding rewriteWrote
-      no-room l = refuses 13 0 (rw (le-leb (length old) fileLimit limit, reads, restored, lt-leb (length bs) (length old) l))
+  restored : fileRewritten tree ≡ bs
+  restored = let (is, valid) = file-sound bs tree (k .bytes) reads in fields-restore tree valid ∙ sym is
 
-      pub ready : length bs ≤ length old → FileReady bs (length old)
-      ready l = record { is = tree; reads = reads; room = omega (arith, l); limit = limit }
+  pub no-room : length old < length bs → Rewrites bs old (refused 13 0) old
+  unfolding rewriteWrote
+  no-room l = refuses bs old 13 0 (rw (le-leb (length old) fileLimit (k .limit), reads, restored, lt-leb (length bs) (length old) l))
 
-      pub rewrites : length bs ≤ length old → (new : List ℕ) → Stands bs old 0 new → Rewrites (accepted (counts (length bs ∷ []))) new
-      unfolding writerGiven
-      rewrites l new s =
-          let (answer, output) = rewrite-restores bs old tree h reads l limit in
-          let zero : 0 + length bs ≡ length bs = omega arith in
-          (rw answer, laid-is old new 0 (0 + length bs) bs s ∙ rw (output, zero))
+  pub ready : length bs ≤ length old → FileReady bs (length old)
+  ready l = record { is = tree; reads = reads; room = omega (arith, l); limit = k .limit }
+
+  pub rewrites : length bs ≤ length old → (new : List ℕ) → Stands bs old 0 new → Rewrites bs old (accepted (counts (length bs ∷ []))) new
+  unfolding writerGiven
+  rewrites l new s =
+      let (answer, output) = rewrite-restores bs old tree (k .bytes) reads l (k .limit) in
+      let zero : 0 + length bs ≡ length bs = omega arith in
+      (rw answer, laid-is old new 0 (0 + length bs) bs s ∙ rw (output, zero))

@@ -25,9 +25,10 @@ same-length c = search needs
 
 returns : tie.Need-returns
 returns c =
-    let a = c .before .before .before .before .before .before .args in
+    let test = c .before .before .before .before in
+    let a = test .before .before .args in
     c .before .before .begin-configuration .ensures
-    ∙ ap (λ (w : ℕ). sets (now (a .out)) (a .place) (closingBytes w (a .place) (a .end))) (sym (c .before .before .before .before .if1 .taken))
+    ∙ ap (λ (w : ℕ). sets (now (a .out)) (a .place) (closingBytes w (a .place) (a .end))) (sym (test .if1 .taken))
 
 class-of-requires : tie.Need-class-of-requires
 class-of-requires c κs = search needs
@@ -38,16 +39,26 @@ category-of-requires c κs = search needs
 event-type-of-requires : tie.Need-event-type-of-requires
 event-type-of-requires c κs = search needs
 
+-- From where the word was taken apart back to the test of it; from there to the start.
+abbrev tested : tie.After-event-type-of → tie.Else1
+tested c = c .before .before .before
+
+abbrev start : tie.Else1 → tie.Start
+start c = c .before .before
+
 -- Where the word was taken apart: it is an event's.
 apart : (c : tie.After-event-type-of)
-    → (eventFault (c .before .before .class-of .result) (c .before .category-of .result) (c .event-type-of .result) ≡ 0)
-    × (eventWord (c .before .before .class-of .result) (c .before .category-of .result) (c .event-type-of .result) ≡ c .before .before .before .before .before .args .word)
+    → (let class = c .before .before .class-of .result in
+    let category = c .before .category-of .result in
+    let type = c .event-type-of .result in
+    (eventFault class category type ≡ 0) × (eventWord class category type ≡ start (tested c) .args .word))
 apart c =
-    let test = c .before .before .before in
-    event-begins _ _ _ _ (c .before .before .class-of .ensures) (c .before .category-of .ensures) (c .event-type-of .ensures) (test .before .before .pre .1) (test .if1 .left)
+    let test = tested c in
+    event-begins _ _ _ _ (c .before .before .class-of .ensures) (c .before .category-of .ensures) (c .event-type-of .ensures)
+    (start test .pre .1) (test .if1 .left)
 
 begin-event-requires : tie.Need-begin-event-requires
-begin-event-requires c κs = (c .before .before .before .before .before .before .pre .0, apart (c .before) .0)
+begin-event-requires c κs = (start (tested (c .before)) .pre .0, apart (c .before) .0)
 
 same-length-2 : tie.Need-same-length-2
 same-length-2 c = search needs
@@ -55,8 +66,9 @@ same-length-2 c = search needs
 returns-2 : tie.Need-returns-2
 returns-2 c =
     let parts = c .before .before .before .before in
-    let a = parts .before .before .before .before .before .args in
-    c .before .before .begin-event .ensures ∙ ap (λ (w : ℕ). sets (now (a .out)) (a .place) (closingBytes w (a .place) (a .end))) (apart parts .1)
+    let a = start (tested parts) .args in
+    c .before .before .begin-event .ensures
+    ∙ ap (λ (w : ℕ). sets (now (a .out)) (a .place) (closingBytes w (a .place) (a .end))) (apart parts .1)
 
 pub begin-container-spec : {M : Type 1} → statement M
 begin-container-spec =

@@ -23,17 +23,20 @@ use Rattle.words.proofs.word_at.Reads as word-at-reads
 held : (c : tie.After-slice-known) → Bytes (now (c .before .before .args .file))
 held c = Bytes-from (now (c .before .before .args .file)) (λ i l. omega (arith, c .before .shared-slice-known .given i))
 
+-- It has its header's and its configuration's words.
 enough : (c : tie.After-slice-known) → 16 ≤ length (now (c .before .before .args .file))
 enough c = words-fit _ (now (c .before .before .args .out)) (held c) (c .before .before .pre)
 
--- Where the header was written: it stands.
+-- From where the header was written back to the start.
 abbrev known : tie.After-write-header → tie.After-slice-known
 known c = c .before .before .before
 
 abbrev start : tie.After-write-header → tie.Start
 start c = known c .before .before
 
-header : (c : tie.After-write-header) → Laid (now (start c .args .out)) (c .write-header .last .0) 0 8 (headerBytes (versionOf (start c .pre .is)))
+-- Where the header was written: it stands.
+header : (c : tie.After-write-header)
+    → Laid (now (start c .args .out)) (c .write-header .last .0) 0 8 (headerBytes (versionOf (start c .pre .is)))
 header c =
     let version = c .before .before .word-at in
     header-copied _ _ (held (known c)) (start c .pre) _ _ _ (version .ensures)
@@ -61,15 +64,18 @@ part-copy-containers-end : tie.Need-part-copy-containers-end
 part-copy-containers-end c = search needs
 
 copy-containers-requires : tie.Need-copy-containers-requires
-copy-containers-requires c κs = let top = c .before .before .before .before in containers-ready _ _ (held (known top)) (start top .pre) _ (header top)
+copy-containers-requires c κs =
+    let top = c .before .before .before .before in
+    containers-ready _ _ (held (known top)) (start top .pre) _ (header top)
 
 same-length : tie.Need-same-length
 same-length c = search needs
 
 returns : tie.Need-returns
 returns c =
-    let top = c .before .before .before .before .before .before .before in
-    file-copied _ _ (held (known top)) (start top .pre) _ (header top) _ (c .before .before .copy-containers .ensures)
+    let copied = c .before .before in
+    let top = copied .before .before .before .before .before in
+    file-copied _ _ (held (known top)) (start top .pre) _ (header top) _ (copied .copy-containers .ensures)
 
 pub copy-file-spec : {M : Type 1} → statement M
 copy-file-spec =

@@ -1,15 +1,12 @@
 -- `rewriting::rewrite` meets its contract: each return is a way through the definition.
 -- The idea: a law for each way, over the tests that led there and what was copied.
-use mathlib.Core.Path.{_≡_, sym, _∙_}
+use mathlib.Core.Path.{sym, _∙_}
 use native.Mathlib.Omega.{arith}
 use denote.Ref.{now}
 use Rattle.theory.specs.Words.{Bytes}
 use Rattle.theory.proofs.WordLaws.{Bytes-from}
 use Rattle.note.specs.Answers.{givenWriter}
-use Rattle.note.specs.Files.{readFile}
-use Rattle.containers.specs.declared.Count.the-variants.{Good}
-use Rattle.containers.specs.Counts.{fileRows}
-use Rattle.rewriting.proofs.RewriteCall.{over, file-refuses, no-room, ready, rewrites}
+use Rattle.rewriting.proofs.RewriteCall.{over, file-refuses, Checked, no-room, ready, rewrites}
 use borrow.Author.Needs.{needs}
 use Rattle.rewriting.proofs.rewrite.Statement.{statement}
 use Rattle.rewriting.proofs.rewrite.Tie as tie
@@ -18,13 +15,25 @@ use Rattle.rewriting.proofs.rewrite.Lts as lts
 use Rattle.containers.proofs.check.Reads as check-reads
 use Rattle.rewriting.proofs.copy_file.Reads as copy-file-reads
 
+-- From where the file was accepted back to the test of the output's size; from there to the start.
+abbrev tested : tie.After-enum-told → tie.Else1
+tested c = c .before .before .before
+
+abbrev start : tie.Else1 → tie.Start
+start c = c .before .before .before
+
 -- The file is bytes.
 held : (c : tie.After-slice-known) → Bytes (now (c .before .before .args .file))
 held c = Bytes-from (now (c .before .before .args .file)) (λ i l. omega (arith, c .before .shared-slice-known .given i))
 
 -- Where the file was accepted: what `check` said of it.
-checked : (c : tie.After-enum-told) → Good (c .enum-told .given .0 .0) ≡ fileRows (readFile (now (c .before .before .before .before .before .before .args .file)))
-checked c = sym (c .enum-told .given .1) ∙ c .before .before .check .ensures
+checked : (c : tie.After-enum-told) → Checked (now (start (tested c) .args .file)) (now (start (tested c) .args .out))
+checked c = record {
+  limit = tested c .if1 .left;
+  bytes = held (tested c .before);
+  rows = _;
+  good = sym (c .enum-told .given .1) ∙ c .before .before .check .ensures;
+}
 
 returns : tie.Need-returns
 unfolding givenWriter
@@ -41,18 +50,16 @@ enum-told c = search needs
 
 returns-2 : tie.Need-returns-2
 unfolding givenWriter
-returns-2 c =
-    let good = c .before in
-    no-room _ _ (good .before .before .before .if1 .left) (held (good .before .before .before .before)) _ (checked good) (c .if2 .taken)
+returns-2 c = no-room (checked (c .before)) (c .if2 .taken)
 
 copy-file-requires : tie.Need-copy-file-requires
-copy-file-requires c κs =
-    let good = c .before .before in
-    ready _ (now (good .before .before .before .before .before .before .args .out)) (good .before .before .before .if1 .left) (held (good .before .before .before .before)) _ (checked good) (c .before .if2 .left)
+copy-file-requires c κs = ready (checked (c .before .before)) (c .before .if2 .left)
 
 returns-3 : tie.Need-returns-3
 unfolding givenWriter
-returns-3 c = file-refuses _ _ (c .before .before .before .before .if1 .left) _ _ (sym (c .before .number .given .1) ∙ c .before .before .before .check .ensures)
+returns-3 c =
+    let asked = c .before .before .before in
+    file-refuses _ _ (asked .before .if1 .left) _ _ (sym (c .before .number .given .1) ∙ asked .check .ensures)
 
 same-length : tie.Need-same-length
 same-length c = search needs
@@ -60,8 +67,9 @@ same-length c = search needs
 returns-4 : tie.Need-returns-4
 unfolding givenWriter
 returns-4 c =
-    let good = c .before .before .before .before .before in
-    rewrites _ _ (good .before .before .before .if1 .left) (held (good .before .before .before .before)) _ (checked good) (c .before .before .before .before .if2 .left) _ (c .before .before .copy-file .ensures)
+    let copied = c .before .before in
+    let test = copied .before .before in
+    rewrites (checked (test .before)) (test .if2 .left) _ (copied .copy-file .ensures)
 
 pub rewrite-spec : {M : Type 1} → statement M
 rewrite-spec =
