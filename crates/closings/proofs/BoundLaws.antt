@@ -35,24 +35,28 @@ module _ (n place end fault least : ℕ) where
     pub outside : (end ≤ n → place + 8 ≤ end → ⊥) → refused 13 place ≡ answer
     unfolding bounded writerGiven
     outside h =
-        rw (le-leb n fileLimit limit)
-        (ap writerGiven (sym (outside-one place _ (leb place n) (leb end n) (leb (place + 8) end) (λ b c. h (leb-true end n b) (leb-true (place + 8) end c)))))
+        let lies-wrong : leb end n ≡ true → leb (place + 8) end ≡ true → ⊥ = λ b c. h (leb-true end n b) (leb-true (place + 8) end c) in
+        rw (le-leb n fileLimit limit) (ap writerGiven (sym (outside-one place _ (leb place n) (leb end n) (leb (place + 8) end) lies-wrong)))
 
     module _ (room : end ≤ n) (wide : place + 8 ≤ end) where
-      inside : place ≤ n
-      inside = omega arith
+      -- Place and end lie as they must: the other two tests are left.
+      passed : bounded n place end fault least ≡ need fault place (need (unless (leb (place + (8 + least)) end) 9) place (ok end))
+      unfolding bounded
+      passed =
+          let inside : place ≤ n = omega arith in
+          rw (le-leb n fileLimit limit, le-leb place n inside, le-leb end n room, le-leb (place + 8) end wide)
 
       pub faulty : (fault ≡ 0 → ⊥) → refused fault place ≡ answer
-      unfolding bounded writerGiven
-      faulty h = rw (le-leb n fileLimit limit, le-leb place n inside, le-leb end n room, le-leb (place + 8) end wide, positive fault h)
+      unfolding writerGiven
+      faulty h = rw (passed, positive fault h)
 
       pub few : fault ≡ 0 → end < place + (8 + least) → refused 9 place ≡ answer
-      unfolding bounded writerGiven
-      few e h = rw (le-leb n fileLimit limit, le-leb place n inside, le-leb end n room, le-leb (place + 8) end wide, e, lt-leb (place + (8 + least)) end h)
+      unfolding writerGiven
+      few e h = rw (passed, e, lt-leb (place + (8 + least)) end h)
 
       pub fine : fault ≡ 0 → place + (8 + least) ≤ end → accepted (counts (end ∷ [])) ≡ answer
-      unfolding bounded writerGiven
-      fine e h = rw (le-leb n fileLimit limit, le-leb place n inside, le-leb end n room, le-leb (place + 8) end wide, e, le-leb (place + (8 + least)) end h)
+      unfolding writerGiven
+      fine e h = rw (passed, e, le-leb (place + (8 + least)) end h)
 
   -- What is known where nothing stood against the closing.
   pub record Bounds (next : ℕ) : Type 0 where

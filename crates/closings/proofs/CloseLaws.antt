@@ -1,78 +1,91 @@
 -- Each way through a closing, and the two containers' closings as cases of it.
 -- The idea: what is answered before the contents are asked, then the contents; a configuration's own word has no fault and may stand alone.
 use Prim.Native.Nat.{ℕ, zero, suc, _+_, _-_, _%_, _≤_}
-use mathlib.Core.Path.{_≡_, refl, ap, _∙_, subst}
+use mathlib.Core.Path.{_≡_, refl, sym, ap, _∙_, subst}
 use mathlib.Core.Bool.{Bool, true, false}
 use mathlib.Core.List.{List, [], _∷_, _++_}
 use native.Mathlib.Omega.{arith}
 use lib.ListN.{length, take, drop}
 use lib.Seq.{sets}
-use Rattle.theory.specs.Words.{bytes, put, puts}
 use Rattle.theory.specs.Tests.{Res, ok, bad, need, bind, unless}
 use Rattle.theory.proofs.WordLaws.{length-puts}
 use Rattle.theory.proofs.TestLaws.{bind-ok}
-use Rattle.note.specs.Words.{order, words}
-use Rattle.note.specs.Answers.{Given, accepted, refused, counts, givenWriter}
+use Rattle.note.specs.Words.{order}
+use Rattle.note.specs.Answers.{Given, givenWriter}
 use Rattle.note.specs.Records.{Record, Context, entry, event, none, readRecords}
 use Rattle.note.specs.Events.{eventWord, eventFault}
-use Rattle.note.specs.Files.{fileMark, versionWord, headerBytes, configurationWord}
-use Rattle.note.specs.Writers.{writerGiven, written, contentsOf, ended, closingBytes, headerWrote, headerOutput, configurationClosed, configurationOutput, eventClosed, eventOutput}
+use Rattle.note.specs.Files.{configurationWord}
+use Rattle.note.specs.Writers.{writerGiven, written, contentsOf, ended, closingBytes}
+use Rattle.note.specs.Writers.{configurationClosed, configurationOutput, eventClosed, eventOutput}
 use Rattle.demands.proofs.ClosingLaws.{admitted}
 use Rattle.note.specs.declared.WriterAnswer.{WriterAnswer}
 use Rattle.note.specs.declared.WriterAnswer.the-variants.{Next, Refused}
 use Rattle.stores.proofs.WriterLaws.{next-told, refusal-told, kept, stored}
+use Rattle.containers.specs.declared.Count.{Count}
 use Rattle.containers.specs.declared.Count.the-variants.{Good, Bad}
 use Rattle.containers.specs.Counts.{recordCount}
 use Rattle.containers.proofs.ContainerLaws.{count-good, count-bad}
 use Rattle.closings.specs.Closing.{bounded, closed}
-use Rattle.closings.proofs.BoundLaws.{bounds}
-
--- ---- the output
-
--- The header's two words.
-pub header-stored : (out : List ℕ) (major minor version : ℕ) {r : WriterAnswer} {next : ℕ} → version ≡ versionWord major minor → r ≡ Next next
-    → givenWriter r ≡ writerGiven (headerWrote out) → 8 ≤ length out → sets out 0 (words (fileMark ∷ version ∷ [])) ≡ headerOutput out major minor
-unfolding headerOutput puts put bytes
-header-stored out major minor version e n h l =
-    ap (λ (v : ℕ). sets out 0 (words (fileMark ∷ v ∷ []))) e ∙ stored out 0 (headerWrote out) (headerBytes (versionWord major minor)) n h l
+use Rattle.closings.proofs.BoundLaws.{Bounds, bounds}
 
 -- ---- any container
 
-module _ (out : List ℕ) (place end fault least : ℕ) (c : Context) where
-  abbrev first : Given
-  first = writerGiven (bounded (length out) place end fault least)
+-- What a closing is asked.
+pub record Call : Type 0 where
+  pub out : List ℕ
+  pub place : ℕ
+  pub end : ℕ
+  pub fault : ℕ
+  pub least : ℕ
+  pub word : ℕ
+  pub context : Context
+
+module _ (k : Call) where
+  -- The closing's result; what stands before it asks its contents; these; and the two words.
+  abbrev result : Res ℕ
+  result = closed (k .out) (k .place) (k .end) (k .fault) (k .least) (k .context)
+
+  abbrev first : Res ℕ
+  first = bounded (length (k .out)) (k .place) (k .end) (k .fault) (k .least)
 
   abbrev contents : Res (List Record)
-  contents = readRecords c (place + 8) (contentsOf out place end)
+  contents = readRecords (k .context) (k .place + 8) (contentsOf (k .out) (k .place) (k .end))
+
+  abbrev head : List ℕ
+  head = closingBytes (k .word) (k .place) (k .end)
 
   -- The answer and the output afterwards.
-  abbrev pub Ends : Given → List ℕ → ℕ → Type 0
-  Ends given after word = (given ≡ writerGiven (closed out place end fault least c)) × (after ≡ written (closed out place end fault least c) out place (closingBytes word place end))
+  abbrev pub Ends : Given → List ℕ → Type 0
+  Ends given after = (given ≡ writerGiven result) × (after ≡ written result (k .out) (k .place) head)
 
-  ends-refused : (word x p : ℕ) → refused x p ≡ writerGiven (closed out place end fault least c) → Ends (refused x p) out word
-  unfolding givenWriter
-  ends-refused word x p h = (h, kept out place (closed out place end fault least c) (closingBytes word place end) {r = Refused x p} refl h)
+  ends-refused : (x p : ℕ) → givenWriter (Refused x p) ≡ writerGiven result → Ends (givenWriter (Refused x p)) (k .out)
+  ends-refused x p h = (h, kept (k .out) (k .place) result head {r = Refused x p} refl h)
 
-  -- Refused before the contents are asked.
-  pub refuses : (word x p : ℕ) → refused x p ≡ first → Ends (refused x p) out word
-  unfolding closed writerGiven givenWriter
-  refuses word x p h = ends-refused word x p (rw (refusal-told {r = Refused x p} (bounded (length out) place end fault least) refl h))
+  module _ {r : WriterAnswer} (said : givenWriter r ≡ writerGiven first) where
+    -- Refused before the contents are asked.
+    pub refuses : {x p : ℕ} → r ≡ Refused x p → Ends (givenWriter (Refused x p)) (k .out)
+    unfolding closed writerGiven givenWriter
+    refuses {x = x} {p = p} n = ends-refused x p (rw (refusal-told first n said))
 
-  -- Refused by the contents.
-  pub contents-refuse : (word next x p : ℕ) → accepted (counts (next ∷ [])) ≡ first → Bad x p ≡ recordCount contents → Ends (refused x p) out word
-  unfolding closed writerGiven givenWriter
-  contents-refuse word next x p h e =
-      ends-refused word x p (rw (next-told {r = Next next} (bounded (length out) place end fault least) refl h, count-bad contents x p e))
+    -- The end was answered: nothing stood against the closing.
+    pub told : {next : ℕ} → r ≡ Next next → Bounds (length (k .out)) (k .place) (k .end) (k .fault) (k .least) next
+    told n = bounds _ _ _ _ _ _ (next-told first n said)
 
-  -- Closed.
-  pub shuts : (word next m : ℕ) → accepted (counts (next ∷ [])) ≡ first → Good m ≡ recordCount contents → place + 8 ≤ length out
-      → Ends (accepted (counts (next ∷ []))) (sets out place (closingBytes word place end)) word
-  unfolding closed writerGiven givenWriter
-  shuts word next m h e l =
-      let own : accepted (counts (next ∷ [])) ≡ writerGiven (closed out place end fault least c) =
-      rw (next-told {r = Next next} (bounded (length out) place end fault least) refl h, count-good contents m e .1) in
-      let size : length (closingBytes word place end) ≡ 8 = length-puts order 4 (word ∷ (end - (place + 8)) ∷ []) in
-      (own, stored out place (closed out place end fault least c) (closingBytes word place end) {r = Next next} refl own (omega (arith, size, l)))
+    -- Refused by the contents.
+    pub contents-refuse : {next x p : ℕ} {q : Count} → r ≡ Next next → q ≡ recordCount contents → q ≡ Bad x p
+        → Ends (givenWriter (Refused x p)) (k .out)
+    unfolding closed writerGiven givenWriter
+    contents-refuse {x = x} {p = p} n e bad-is = ends-refused x p (rw (next-told first n said, count-bad contents x p (sym bad-is ∙ e)))
+
+    -- Closed: the two words were stored.
+    pub shuts : {next m : ℕ} {q : Count} {after : List ℕ} → r ≡ Next next → q ≡ recordCount contents → q ≡ Good m
+        → after ≡ sets (k .out) (k .place) head → Ends (givenWriter (Next next)) after
+    unfolding closed writerGiven givenWriter
+    shuts {next} {m} n e good-is shut =
+        let own : givenWriter (Next next) ≡ writerGiven result = rw (next-told first n said, count-good contents m (sym good-is ∙ e) .1) in
+        let size : length head ≡ 8 = length-puts order 4 (k .word ∷ (k .end - (k .place + 8)) ∷ []) in
+        let fits : k .place + length head ≤ length (k .out) = omega (arith, size, told n .room, told n .wide) in
+        (own, shut ∙ stored (k .out) (k .place) result head {r = Next next} refl own fits)
 
 -- ---- the two containers
 
@@ -89,11 +102,13 @@ configuration-is : (out : List ℕ) (place end : ℕ) → closed out place end 0
 unfolding closed bounded configurationClosed
 configuration-is out place end = simp (need-bind, once)
 
-pub configuration-ends : (out : List ℕ) (place end : ℕ) (given : Given) (after : List ℕ) → Ends out place end 0 0 entry given after configurationWord
+pub configuration-ends : (out : List ℕ) (place end : ℕ) {given : Given} {after : List ℕ}
+    → Ends (record { out = out; place = place; end = end; fault = 0; least = 0; word = configurationWord; context = entry }) given after
     → (given ≡ writerGiven (configurationClosed out place end)) × (after ≡ configurationOutput out place end)
 unfolding configurationOutput
-configuration-ends out place end given after s =
-    subst (λ (r : Res ℕ). (given ≡ writerGiven r) × (after ≡ written r out place (closingBytes configurationWord place end))) (configuration-is out place end) s
+configuration-ends out place end {given} {after} s =
+    let head : List ℕ = closingBytes configurationWord place end in
+    subst (λ (r : Res ℕ). (given ≡ writerGiven r) × (after ≡ written r out place head)) (configuration-is out place end) s
 
 event-is : (out : List ℕ) (place end class category type : ℕ)
     → closed out place end (eventFault class category type) 1 (event none) ≡ eventClosed out place end class category type
@@ -101,29 +116,45 @@ unfolding closed bounded eventClosed
 event-is out place end class category type = simp need-bind
 
 -- The bytes of a closing that is refused aren't asked.
-bytes-unasked : (r : Res ℕ) (out : List ℕ) (place : ℕ) (a b : List ℕ) → ((next : ℕ) → r ≡ ok next → a ≡ b) → written r out place a ≡ written r out place b
+bytes-unasked : (r : Res ℕ) (out : List ℕ) (place : ℕ) (a b : List ℕ) → ((next : ℕ) → r ≡ ok next → a ≡ b)
+    → written r out place a ≡ written r out place b
 unfolding written
 bytes-unasked (ok next) out place a b h = ap (λ (x : List ℕ). take place out ++ (x ++ drop (place + length x) out)) (h next refl)
 bytes-unasked (bad c p) out place a b h = refl
 
 -- The first word of an admitted class, category and type has room for them.
-pub word-whole : (class category type : ℕ) → eventFault class category type ≡ 0 → eventWord (class % 16) (category % 16) (type % 256) ≡ eventWord class category type
+pub word-whole : (class category type : ℕ) → eventFault class category type ≡ 0
+    → eventWord (class % 16) (category % 16) (type % 256) ≡ eventWord class category type
 word-whole class category type e = let (a, b, c) = admitted class category type e in omega arith
 
 module _ (out : List ℕ) (place end class category type : ℕ) where
-  pub event-ends : (fault word : ℕ) (c : Context) (given : Given) (after : List ℕ) → fault ≡ eventFault class category type
-      → word ≡ eventWord (class % 16) (category % 16) (type % 256) → c ≡ event none → Ends out place end fault 1 c given after word
+  abbrev own-fault : ℕ
+  own-fault = eventFault class category type
+
+  abbrev own-head : List ℕ
+  own-head = closingBytes (eventWord class category type) place end
+
+  -- Where the closing is granted, the word that was made is the event's.
+  head-is : (word : ℕ) → word ≡ eventWord (class % 16) (category % 16) (type % 256) → (next : ℕ)
+      → closed out place end own-fault 1 (event none) ≡ ok next → closingBytes word place end ≡ own-head
+  unfolding closed
+  head-is word word-is next e =
+      let contents : Res (List Record) = readRecords (event none) (place + 8) (contentsOf out place end) in
+      let (n, bounded-ok, rest) = bind-ok (bounded (length out) place end own-fault 1) (λ m. ended m contents) e in
+      let clean : own-fault ≡ 0 = bounds (length out) place end own-fault 1 n bounded-ok .clean in
+      ap (λ (w : ℕ). closingBytes w place end) (word-is ∙ word-whole class category type clean)
+
+  pub event-ends : {fault word : ℕ} {c : Context} {given : Given} {after : List ℕ} → fault ≡ own-fault
+      → word ≡ eventWord (class % 16) (category % 16) (type % 256) → c ≡ event none
+      → Ends (record { out = out; place = place; end = end; fault = fault; least = 1; word = word; context = c }) given after
       → (given ≡ writerGiven (eventClosed out place end class category type)) × (after ≡ eventOutput out place end class category type)
-  unfolding closed eventOutput
-  event-ends fault word c given after ef ew ec s =
-      let f : ℕ = eventFault class category type in
-      let r : Res ℕ = closed out place end f 1 (event none) in
-      let same : closed out place end fault 1 c ≡ r = λ i. closed out place end (ef i) 1 (ec i) in
-      let words-same : (next : ℕ) → r ≡ ok next → closingBytes word place end ≡ closingBytes (eventWord class category type) place end =
-      λ next e.
-      let (n, eb, en) = bind-ok (bounded (length out) place end f 1) (λ m. ended m (readRecords (event none) (place + 8) (contentsOf out place end))) e in
-      ap (λ (w : ℕ). closingBytes w place end) (ew ∙ word-whole class category type (bounds (length out) place end f 1 n eb .clean)) in
-      let is : r ≡ eventClosed out place end class category type = event-is out place end class category type in
-      let own : after ≡ written r out place (closingBytes (eventWord class category type) place end) =
-      s .1 ∙ ap (λ (x : Res ℕ). written x out place (closingBytes word place end)) same ∙ bytes-unasked r out place _ _ words-same in
-      (s .0 ∙ ap writerGiven (same ∙ is), own ∙ ap (λ (x : Res ℕ). written x out place (closingBytes (eventWord class category type) place end)) is)
+  unfolding eventOutput
+  event-ends {fault} {word} {c} fault-is word-is context-is (answer, output) =
+      let r : Res ℕ = closed out place end own-fault 1 (event none) in
+      let same : closed out place end fault 1 c ≡ r = λ i. closed out place end (fault-is i) 1 (context-is i) in
+      let is : r ≡ eventClosed out place end class category type = event-is out place end class category type in (
+        answer ∙ ap writerGiven (same ∙ is),
+        output ∙ ap (λ (x : Res ℕ). written x out place (closingBytes word place end)) same
+            ∙ bytes-unasked r out place _ _ (head-is word word-is)
+            ∙ ap (λ (x : Res ℕ). written x out place own-head) is,
+      )

@@ -76,16 +76,11 @@ module _ (out : List ℕ) (place : ℕ) (w : Res ℕ) (bytes : List ℕ) {r : Wr
   unfolding written
   kept e h = rw (refusal-told w e h)
 
-  -- The bytes were stored from the place on, or into the rest of the output, lent on from there.
+  -- The bytes were stored from the place on.
   pub stored : {next : ℕ} → r ≡ Next next → givenWriter r ≡ writerGiven w → place + length bytes ≤ length out
       → sets out place bytes ≡ written w out place bytes
   unfolding written
   stored e h l = rw (next-told w e h) (sets-eq bytes out place l ∙ append-assoc (take place out) bytes (drop (place + length bytes) out))
-
-  pub stored-in-rest : {next : ℕ} → r ≡ Next next → givenWriter r ≡ writerGiven w → place + length bytes ≤ length out
-      → (rest : List ℕ) → rest ≡ sets (midOf place (length out - place) out) 0 bytes
-      → putMid place (length out - place) out rest ≡ written w out place bytes
-  stored-in-rest e h l rest q = rest-stored out place bytes rest (omega arith) q ∙ stored e h l
 
 -- ---- one record
 
@@ -121,12 +116,14 @@ module _ {out : List ℕ} {place : ℕ} {w : Written} {r : WriterAnswer} (a : Ad
       let (limit, clean, room) = room-told (length out) place (a .fault) (a .size) n (a .said) in
       (limit, omega (arith, room, a .size-is clean))
 
-  -- The record is written where its bytes were stored into the rest of the output.
+  -- The record is written where its bytes were stored from the place on, or into the rest of the output, lent on from there.
+  pub lays : {next : ℕ} → r ≡ Next next → {after : List ℕ} → after ≡ sets out place (w .bytes) → Wrote out place w (Next next) after
+  unfolding recordOutput
+  lays n e = (sym (ap givenWriter n) ∙ own, e ∙ stored out place (recordWrote out place w) (w .bytes) n own (has-room n .1))
+
   pub writes : {next : ℕ} → r ≡ Next next → (rest : List ℕ) → rest ≡ sets (midOf place (length out - place) out) 0 (w .bytes)
       → Wrote out place w (Next next) (putMid place (length out - place) out rest)
-  unfolding recordOutput
-  writes n rest q =
-      (sym (ap givenWriter n) ∙ own, stored-in-rest out place (recordWrote out place w) (w .bytes) n own (has-room n .1) rest q)
+  writes n rest q = lays n (rest-stored out place (w .bytes) rest (omega (arith, has-room n .1)) q)
 
 -- Of fields with a fault, the bytes aren't asked.
 refused-either : (c f p : ℕ) (out : List ℕ) (place : ℕ) (a b : List ℕ)

@@ -1,17 +1,12 @@
 -- `closings::close` meets its contract: what `bounded` refuses is refused, then what the contents refuse; the end tells that there is room.
 -- The idea: a law for each way; the contents are read where they stand in the output.
 use Prim.Native.Nat.{_+_, _-_}
-use mathlib.Core.Path.{_≡_, sym, ap, _∙_}
-use mathlib.Core.List.{[], _∷_}
 use native.Mathlib.Omega.{arith}
 use denote.Ref.{now}
-use lib.ListN.{length, drop, length-take}
-use Rattle.note.specs.Answers.{givenWriter, accepted, counts}
-use Rattle.note.specs.Writers.{writerGiven}
-use Rattle.stores.proofs.WriterLaws.{next-told}
-use Rattle.closings.specs.Closing.{bounded}
-use Rattle.closings.proofs.BoundLaws.{Bounds, bounds}
-use Rattle.closings.proofs.CloseLaws.{refuses, contents-refuse, shuts}
+use lib.ListN.{drop, length-take}
+use Rattle.record.specs.Steps.{contextOf}
+use Rattle.closings.specs.Closing.{HasRoom}
+use Rattle.closings.proofs.CloseLaws.{Call, refuses, told, contents-refuse, shuts}
 use borrow.Author.Needs.{needs}
 use Rattle.closings.proofs.close.Statement.{statement}
 use Rattle.closings.proofs.close.Tie as tie
@@ -21,18 +16,36 @@ use Rattle.closings.proofs.bounded.Reads as bounded-reads
 use Rattle.containers.proofs.records_in.Reads as records-in-reads
 use Rattle.closings.proofs.put_head.Reads as put-head-reads
 
--- Where the end was answered: what `bounded` said, and what that tells.
-abbrev start : tie.After-next → tie.Start
-start c = c .before .before .before .before
+-- From where the end was answered back to the call of `bounded`; from there to the start.
+abbrev asked : tie.After-next → tie.After-bounded
+asked c = c .before .before
 
-said : (c : tie.After-next) → accepted (counts (c .next .given .0 .0 ∷ []))
-    ≡ writerGiven (bounded (length (now (start c .args .out))) (start c .args .place) (start c .args .end) (start c .args .fault) (start c .args .least))
-unfolding givenWriter
-said c = ap givenWriter (sym (c .next .given .1)) ∙ c .before .before .bounded .ensures
+abbrev start : tie.After-bounded → tie.Start
+start c = c .before .before
 
-told : (c : tie.After-next)
-    → Bounds (length (now (start c .args .out))) (start c .args .place) (start c .args .end) (start c .args .fault) (start c .args .least) (c .next .given .0 .0)
-told c = bounds _ _ _ _ _ _ (next-told _ (c .next .given .1) (c .before .before .bounded .ensures))
+-- From where the contents were read back to where the end was answered.
+abbrev granted : tie.After-records-in → tie.After-next
+granted c = c .before .before .before .before
+
+-- What the closing is asked.
+abbrev call : tie.Start → Call
+call s =
+    let a = s .args in
+    record {
+      out = now (a .out);
+      place = a .place;
+      end = a .end;
+      fault = a .fault;
+      least = a .least;
+      word = a .word;
+      context = contextOf (a .context);
+    }
+
+-- Where the end was answered: there is room.
+room : (c : tie.After-next) → (let a = start (asked c) .args in HasRoom (now (a .out)) (a .place) (a .end))
+room c =
+    let k = told (call (start (asked c))) (asked c .bounded .ensures) (c .next .given .1) in
+    (k .wide, k .room, k .limit)
 
 bounded-requires : tie.Need-bounded-requires
 bounded-requires c κs = search needs
@@ -44,22 +57,22 @@ enum-known-next : tie.Need-enum-known-next
 enum-known-next c = search needs
 
 add-from : tie.Need-add-from
-add-from c = let k = told (c .before) in omega (arith, k .limit, k .room, k .wide)
+add-from c = omega (arith, room (c .before))
 
 sub-records-in : tie.Need-sub-records-in
-sub-records-in c = let k = told (c .before) in omega (arith, k .wide)
+sub-records-in c = omega (arith, room (c .before))
 
 part-records-in-start : tie.Need-part-records-in-start
-part-records-in-start c = let k = told (c .before .before) in omega (arith, k .wide)
+part-records-in-start c = omega (arith, room (c .before .before))
 
 part-records-in-end : tie.Need-part-records-in-end
-part-records-in-end c = told (c .before .before) .room
+part-records-in-end c = room (c .before .before) .1
 
 records-in-requires : tie.Need-records-in-requires
 records-in-requires c κs =
-    let k = told (c .before .before .before) in
-    let a = start (c .before .before .before) .args in
-    omega (arith, k .limit, k .room, k .wide, length-take (a .end - (a .place + 8)) (drop (a .place + 8) (now (a .out))))
+    let next = c .before .before .before in
+    let a = start (asked next) .args in
+    omega (arith, room next, length-take (a .end - (a .place + 8)) (drop (a .place + 8) (now (a .out))))
 
 enum-known-number-2 : tie.Need-enum-known-number-2
 enum-known-number-2 c = search needs
@@ -68,31 +81,35 @@ enum-told : tie.Need-enum-told
 enum-told c = search needs
 
 put-head-requires : tie.Need-put-head-requires
-put-head-requires c κs = let k = told (c .before .before .before .before .before .before .before) in (k .wide, k .room, k .limit)
+put-head-requires c κs = room (granted (c .before .before .before))
 
 returns : tie.Need-returns
-unfolding givenWriter
-returns c = refuses _ _ _ _ _ _ _ _ _ (ap givenWriter (sym (c .before .number .given .1)) ∙ c .before .before .before .bounded .ensures)
+returns c =
+    let first = c .before .before .before in
+    refuses (call (start first)) (first .bounded .ensures) (c .before .number .given .1)
 
 same-length : tie.Need-same-length
 same-length c = search needs
 
 returns-2 : tie.Need-returns-2
-unfolding givenWriter
 returns-2 c =
-    contents-refuse _ _ _ _ _ _ _ _ _ _ (said (c .before .before .before .before .before .before .before))
-    (sym (c .before .number2 .given .1) ∙ c .before .before .before .records-in .ensures)
+    let read = c .before .before .before in
+    let next = granted read in
+    let first = asked next in
+    contents-refuse (call (start first)) (first .bounded .ensures) (next .next .given .1) (read .records-in .ensures) (c .before .number2 .given .1)
 
 same-length-2 : tie.Need-same-length-2
 same-length-2 c = search needs
 
 returns-3 : tie.Need-returns-3
-unfolding givenWriter
 returns-3 c =
-    let next = c .before .before .before .before .before .before .before .before .before .before in
-    let k = told next in
-    let end = shuts _ _ _ _ _ _ _ _ _ (said next) (sym (c .before .before .before .before .enum-told .given .1) ∙ c .before .before .before .before .before .before .records-in .ensures) (omega (arith, k .room, k .wide)) in
-    (end .0, c .before .before .put-head .ensures ∙ end .1)
+    let stored = c .before .before in
+    let good = stored .before .before in
+    let read = good .before .before in
+    let next = granted read in
+    let first = asked next in
+    shuts (call (start first)) (first .bounded .ensures) (next .next .given .1) (read .records-in .ensures) (good .enum-told .given .1)
+    (stored .put-head .ensures)
 
 pub close-spec : {M : Type 1} → statement M
 close-spec =

@@ -28,8 +28,10 @@ same-length c = search needs
 
 returns : tie.Need-returns
 returns c =
-    event-ends _ _ _ _ _ _ _ _ _ _ _ (c .before .before .before .before .before .event-fault .ensures)
-    (c .before .before .before .before .event-word .ensures) (c .before .before .before .fresh .ensures) (c .before .before .close .ensures)
+    let call = c .before .before in
+    let context = call .before in
+    let word = context .before in
+    event-ends _ _ _ _ _ _ (word .before .event-fault .ensures) (word .event-word .ensures) (context .fresh .ensures) (call .close .ensures)
 
 pub close-event-spec : {M : Type 1} → statement M
 close-event-spec =

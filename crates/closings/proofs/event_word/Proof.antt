@@ -11,7 +11,9 @@ use Rattle.closings.proofs.event_word.Lts as lts
 use Rattle.closings.proofs.above.Reads as above-reads
 
 -- What the three masks leave.
-masked : (s : tie.Start) → (bitAnd (s .args .class) 15 ≡ s .args .class % 16) × (bitAnd (s .args .category) 15 ≡ s .args .category % 16) × (bitAnd (s .args .kind) 255 ≡ s .args .kind % 256)
+masked : (s : tie.Start)
+    → (bitAnd (s .args .class) 15 ≡ s .args .class % 16) × (bitAnd (s .args .category) 15 ≡ s .args .category % 16)
+    × (bitAnd (s .args .kind) 255 ≡ s .args .kind % 256)
 masked s = (and-mask (s .args .class) 4, and-mask (s .args .category) 4, and-mask (s .args .kind) 8)
 
 above-requires : tie.Need-above-requires

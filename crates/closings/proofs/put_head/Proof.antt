@@ -33,7 +33,10 @@ same-length : tie.Need-same-length
 same-length c = search needs
 
 returns : tie.Need-returns
-returns c = let a = c .before .before .before .before .before .before .args in let n : a .end - a .place - 8 ≡ a .end - (a .place + 8) = omega arith in c .before .before .put-words .ensures ∙ ap (λ (m : ℕ). sets (now (a .out)) (a .place) (words (a .word ∷ m ∷ []))) n
+returns c =
+    let a = c .before .before .before .before .before .before .args in
+    let n : a .end - a .place - 8 ≡ a .end - (a .place + 8) = omega arith in
+    c .before .before .put-words .ensures ∙ ap (λ (m : ℕ). sets (now (a .out)) (a .place) (words (a .word ∷ m ∷ []))) n
 
 pub put-head-spec : {M : Type 1} → statement M
 put-head-spec =

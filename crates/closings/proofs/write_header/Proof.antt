@@ -1,14 +1,15 @@
 -- `closings::write_header` meets its contract: a refusal of `admitted` is its own, and the next place tells that there is room.
 -- The idea: the two words that are stored are the header.
-use Prim.Native.Nat.{_≤_}
-use mathlib.Core.Path.{_≡_, sym, ap, _∙_}
+use Prim.Native.Nat.{ℕ}
+use mathlib.Core.Path.{refl, ap, _∙_}
 use mathlib.Core.List.{[], _∷_}
 use denote.Ref.{now}
-use lib.ListN.{length}
-use Rattle.note.specs.Answers.{givenWriter, accepted, counts}
-use Rattle.note.specs.Writers.{writerGiven, wrote, headerWrote, headerOutput}
-use Rattle.stores.proofs.WriterLaws.{room-told, kept}
-use Rattle.closings.proofs.CloseLaws.{header-stored}
+use lib.Seq.{sets}
+use Rattle.theory.specs.Words.{bytes, put, puts}
+use Rattle.note.specs.Words.{words}
+use Rattle.note.specs.Files.{fileMark, versionWord, headerBytes}
+use Rattle.note.specs.Writers.{Written, headerWrote, headerOutput, recordWrote, recordOutput}
+use Rattle.stores.proofs.WriterLaws.{Admitted, refuses, has-room, lays}
 use borrow.Author.Needs.{needs}
 use Rattle.closings.proofs.write_header.Statement.{statement}
 use Rattle.closings.proofs.write_header.Tie as tie
@@ -18,16 +19,21 @@ use Rattle.closings.proofs.version_word.Reads as version-word-reads
 use Rattle.stores.proofs.admitted.Reads as admitted-reads
 use Rattle.stores.proofs.put_words.Reads as put-words-reads
 
--- Where the next place was answered: what `admitted` said, and what that tells.
-abbrev start : tie.After-place → tie.Start
-start c = c .before .before .before .before
+-- From where the next place was answered back to the call of `admitted`; from there to the start.
+abbrev asked : tie.After-place → tie.After-admitted
+asked c = c .before .before
 
-said : (c : tie.After-place) → accepted (counts (c .place .given .0 .0 ∷ [])) ≡ writerGiven (wrote (length (now (start c .args .out))) 0 0 8)
-unfolding givenWriter
-said c = ap givenWriter (sym (c .place .given .1)) ∙ c .before .before .admitted .ensures
+abbrev start : tie.After-admitted → tie.Start
+start c = c .before .before
 
-told : (c : tie.After-place) → 8 ≤ length (now (start c .args .out))
-told c = room-told _ _ _ _ (c .place .given .1) (c .before .before .admitted .ensures) .2
+-- The header, written as a record without a fault.
+abbrev header : tie.Start → Written
+header s = record { fault = 0; bytes = headerBytes (versionWord (s .args .major) (s .args .minor)) }
+
+-- `admitted` was asked the header's size.
+admitted : (c : tie.After-admitted) → Admitted (now (start c .args .out)) 0 (header (start c)) (c .admitted .result)
+unfolding put bytes
+admitted c = record { fault = 0; size = 8; fault-is = refl; size-is = λ z. refl; said = c .admitted .ensures }
 
 admitted-requires : tie.Need-admitted-requires
 admitted-requires c κs = search needs
@@ -45,22 +51,27 @@ slice-aggregate-put-words : tie.Need-slice-aggregate-put-words
 slice-aggregate-put-words c = search needs
 
 put-words-requires : tie.Need-put-words-requires
-put-words-requires c κs = told (c .before .before .before .before)
+unfolding put bytes
+put-words-requires c κs =
+    let next = c .before .before .before .before in
+    has-room (admitted (asked next)) (next .place .given .1) .1
 
 returns : tie.Need-returns
-unfolding givenWriter headerWrote headerOutput
-returns c =
-    let own = ap givenWriter (sym (c .before .number .given .1)) ∙ c .before .before .before .admitted .ensures in
-    (own, kept _ _ _ _ (c .before .number .given .1) (c .before .before .before .admitted .ensures))
+unfolding headerWrote headerOutput recordWrote recordOutput put bytes
+returns c = refuses (admitted (c .before .before .before)) (c .before .number .given .1)
 
 same-length : tie.Need-same-length
 same-length c = search needs
 
 returns-2 : tie.Need-returns-2
-unfolding givenWriter headerWrote
+unfolding headerWrote headerOutput recordWrote recordOutput puts put bytes
 returns-2 c =
-    let next = c .before .before .before .before .before .before .before in
-    (said next, c .before .before .put-words .ensures ∙ header-stored _ _ _ _ (c .before .before .before .before .version-word .ensures) (next .place .given .1) (next .before .before .admitted .ensures) (told next))
+    let stored = c .before .before in
+    let version = stored .before .before in
+    let next = version .before .before .before in
+    let out = now (start (asked next) .args .out) in
+    lays (admitted (asked next)) (next .place .given .1)
+    (stored .put-words .ensures ∙ ap (λ (v : ℕ). sets out 0 (words (fileMark ∷ v ∷ []))) (version .version-word .ensures))
 
 pub write-header-spec : {M : Type 1} → statement M
 write-header-spec =

@@ -44,14 +44,24 @@ or-unless-requires-4 c κs = search needs
 returns : tie.Need-returns
 unfolding sectionFault
 returns c =
-    let at1 = c .before in
-    let at2 = at1 .before in
-    let at3 = at2 .before in
-    let at4 = at3 .before in
-    let at5 = at4 .before in
-    let at6 = at5 .before in
-    let at7 = at6 .before in
-    rw (c .or-unless4 .ensures, at1 .or-unless3 .ensures, at2 .is-width .ensures, at3 .or-unless2 .ensures, at4 .or-unless .ensures, at5 .unless .ensures, at6 .is-filled2 .ensures, at7 .is-filled .ensures) (simp first-of-part)
+    let after-width = c .before in
+    let width = after-width .before in
+    let after-bound = width .before in
+    let after-times = after-bound .before in
+    let after-count = after-times .before in
+    let masked = after-count .before in
+    let filled = masked .before in
+    rw (
+      c .or-unless4 .ensures,
+      after-width .or-unless3 .ensures,
+      width .is-width .ensures,
+      after-bound .or-unless2 .ensures,
+      after-times .or-unless .ensures,
+      after-count .unless .ensures,
+      masked .is-filled2 .ensures,
+      filled .is-filled .ensures,
+    )
+    (simp first-of-part)
 
 pub section-fault-spec : {M : Type 1} → statement M
 section-fault-spec =

@@ -34,14 +34,24 @@ or-unless-requires-3 c κs = search needs
 
 returns : tie.Need-returns
 returns c =
-    let at1 = c .before in
-    let at2 = at1 .before in
-    let at3 = at2 .before in
-    let at4 = at3 .before in
-    let at5 = at4 .before in
-    let at6 = at5 .before in
-    let at7 = at6 .before in
-    rw (c .or-unless3 .ensures, at1 .earlier .ensures, at2 .count-fault .ensures, at3 .or-unless2 .ensures, at4 .or-unless .ensures, at5 .is-named .ensures, at6 .unless .ensures, at7 .is-channel .ensures) (simp first-of-part)
+    let after-count = c .before in
+    let count = after-count .before in
+    let after-delta = count .before in
+    let after-code = after-delta .before in
+    let code = after-code .before in
+    let after-channel = code .before in
+    let channel = after-channel .before in
+    rw (
+      c .or-unless3 .ensures,
+      after-count .earlier .ensures,
+      count .count-fault .ensures,
+      after-delta .or-unless2 .ensures,
+      after-code .or-unless .ensures,
+      code .is-named .ensures,
+      after-channel .unless .ensures,
+      channel .is-channel .ensures,
+    )
+    (simp first-of-part)
 
 pub trace-fault-spec : {M : Type 1} → statement M
 trace-fault-spec =
