@@ -58,9 +58,11 @@ module _ (k : Call) where
   abbrev pub Ends : Given → List ℕ → Type 0
   Ends given after = (given ≡ writerGiven result) × (after ≡ written result (k .out) (k .place) head)
 
+  -- A refusal changes no byte.
   ends-refused : (x p : ℕ) → givenWriter (Refused x p) ≡ writerGiven result → Ends (givenWriter (Refused x p)) (k .out)
   ends-refused x p h = (h, kept (k .out) (k .place) result head {r = Refused x p} refl h)
 
+  -- Over what `bounded` answered.
   module _ {r : WriterAnswer} (said : givenWriter r ≡ writerGiven first) where
     -- Refused before the contents are asked.
     pub refuses : {x p : ℕ} → r ≡ Refused x p → Ends (givenWriter (Refused x p)) (k .out)
@@ -98,6 +100,7 @@ once : (b : Bool) (p : ℕ) (r : Res ℕ) → need (unless b 13) p (need (unless
 once true p r = refl
 once false p r = refl
 
+-- Each container's closing is a case of any container's, as its definition has it.
 configuration-is : (out : List ℕ) (place end : ℕ) → closed out place end 0 0 entry ≡ configurationClosed out place end
 unfolding closed bounded configurationClosed
 configuration-is out place end = simp (need-bind, once)
@@ -128,6 +131,7 @@ pub word-whole : (class category type : ℕ) → eventFault class category type 
 word-whole class category type e = let (a, b, c) = admitted class category type e in omega arith
 
 module _ (out : List ℕ) (place end class category type : ℕ) where
+  -- The fault of the event's own word, and its two words.
   abbrev own-fault : ℕ
   own-fault = eventFault class category type
 

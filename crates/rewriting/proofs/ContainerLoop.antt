@@ -75,13 +75,15 @@ module _ {old : List ℕ} {place : ℕ} {part out rest : List ℕ} {at w m : ℕ
   abbrev context : Context
   context = contentsIn (i .state)
 
+  pub container-fits : (8 + m ≤ length rest) × (at + (8 + m) ≤ fileLimit)
+  container-fits = container-turn i (f .more) m (f .length-is)
+
   -- Its contents, as code cuts them.
   abbrev inner : List ℕ
   inner = take (8 + m - 8) (drop 8 rest)
 
   inner-size : length inner ≡ m
-  inner-size =
-      ap length (cut m rest) ∙ length-take-le m (drop 8 rest) (omega (arith, length-drop 8 rest, container-turn i (f .more) m (f .length-is) .0))
+  inner-size = ap length (cut m rest) ∙ length-take-le m (drop 8 rest) (omega (arith, length-drop 8 rest, container-fits .0))
 
   inner-reads : readRecords context (at + 8) inner ≡ ok (own .body)
   inner-reads =
@@ -96,7 +98,7 @@ module _ {old : List ℕ} {place : ℕ} {part out rest : List ℕ} {at w m : ℕ
   pub begin-ready : HasRoom out at (at + (8 + m)) × Begins w
   begin-ready =
       let (room, limit) = loop.inside containerItem i in (
-        (omega arith, omega (arith, container-turn i (f .more) m (f .length-is) .0, room), limit),
+        (omega arith, omega (arith, container-fits .0, room), limit),
         (i .state, ap (containerHead (i .state)) (f .kind-is) ∙ opened i (f .more) .head-ok),
       )
 

@@ -8,7 +8,8 @@ use lib.ListN.{length}
 use Rattle.theory.proofs.WordLaws.{Bytes-from}
 use Rattle.note.specs.Limits.{fileLimit}
 use Rattle.rewriting.proofs.CopyLoop.{Copying, Found, begin, ended}
-use Rattle.rewriting.proofs.ContainerLoop.{containerItem, same-containers, container-turn, begin-ready, records-ready, container-next}
+use Rattle.rewriting.proofs.ContainerLoop.{containerItem, same-containers, container-turn}
+use Rattle.rewriting.proofs.ContainerLoop.{container-fits, begin-ready, records-ready, container-next}
 use borrow.Author.Needs.{needs}
 use Rattle.rewriting.proofs.copy_containers.Statement.{statement}
 use Rattle.rewriting.proofs.copy_containers.Tie as tie
@@ -52,7 +53,7 @@ found c =
 
 sized : (c : tie.After-word-at2 Inv-loop μ-loop)
     → (8 + c .word-at2 .result ≤ length (now (head c .loop .rest))) × (head c .loop .at + (8 + c .word-at2 .result) ≤ fileLimit)
-sized c = container-turn (head c .loop .inv) (c .before .before .loop-test .taken) _ (c .word-at2 .ensures)
+sized c = container-fits (found c)
 
 -- In a turn: a container's two words stand there.
 words : (c : tie.In-loop Inv-loop μ-loop) → 8 ≤ length (now (c .before .loop .rest))
@@ -75,10 +76,10 @@ cast-size : tie.Need-cast-size Inv-loop μ-loop
 cast-size c = search needs
 
 add-size : tie.Need-add-size Inv-loop μ-loop
-add-size c = let (fits, limit) = sized c in omega (arith, limit)
+add-size c = omega (arith, sized c)
 
 add-end : tie.Need-add-end Inv-loop μ-loop
-add-end c = let (fits, limit) = sized c in omega (arith, limit)
+add-end c = omega (arith, sized c)
 
 begin-container-requires : tie.Need-begin-container-requires Inv-loop μ-loop
 begin-container-requires c κs = begin-ready (found (c .before))
@@ -93,7 +94,7 @@ part-copy-records-end : tie.Need-part-copy-records-end Inv-loop μ-loop
 part-copy-records-end c = sized (c .before .before .before .before) .0
 
 add-copy-records : tie.Need-add-copy-records Inv-loop μ-loop
-add-copy-records c = let (fits, limit) = sized (read (begun c)) in omega (arith, limit)
+add-copy-records c = omega (arith, sized (read (begun c)))
 
 copy-records-requires : tie.Need-copy-records-requires Inv-loop μ-loop
 copy-records-requires c κs = records-ready (found (read (begun c))) _ (begun c .begin-container .ensures)
@@ -108,7 +109,7 @@ part-rest-end : tie.Need-part-rest-end Inv-loop μ-loop
 part-rest-end c = search needs
 
 loop-less : tie.Need-loop-less Inv-loop μ-loop
-loop-less c = let (fits, limit) = sized (read (begun (written (c .before) .before))) in omega (arith, fits)
+loop-less c = omega (arith, sized (read (begun (written (c .before) .before))))
 
 loop-again : tie.Need-loop-again Inv-loop μ-loop
 loop-again c =

@@ -65,10 +65,10 @@ cast-size : tie.Need-cast-size Inv-loop μ-loop
 cast-size c = search needs
 
 add-size : tie.Need-add-size Inv-loop μ-loop
-add-size c = let (fits, limit) = sized c in omega (arith, limit)
+add-size c = omega (arith, sized c)
 
 word-at-requires-2 : tie.Need-word-at-requires-2 Inv-loop μ-loop
-word-at-requires-2 c κs = let (fits, limit) = sized c in omega (arith, fits)
+word-at-requires-2 c κs = omega (arith, sized c)
 
 sub-copy-record : tie.Need-sub-copy-record Inv-loop μ-loop
 sub-copy-record c = search needs
@@ -92,10 +92,10 @@ part-rest-end : tie.Need-part-rest-end Inv-loop μ-loop
 part-rest-end c = search needs
 
 add-at : tie.Need-add-at Inv-loop μ-loop
-add-at c = let (fits, limit) = sized (read (written (c .before)) .before) in omega (arith, limit)
+add-at c = omega (arith, sized (read (written (c .before)) .before))
 
 loop-less : tie.Need-loop-less Inv-loop μ-loop
-loop-less c = let (fits, limit) = sized (read (written (c .before)) .before) in omega (arith, fits)
+loop-less c = omega (arith, sized (read (written (c .before)) .before))
 
 loop-again : tie.Need-loop-again Inv-loop μ-loop
 loop-again c = let copied = written (c .before) in copied-next (found (read copied)) _ (copied .copy-record .ensures)

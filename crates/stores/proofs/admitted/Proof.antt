@@ -9,32 +9,22 @@ use Rattle.stores.proofs.admitted.Reads as reads
 use Rattle.stores.proofs.admitted.Lts as lts
 
 returns : tie.Need-returns
-returns c =
-    let a = c .before .args in
-    over (a .room) (a .place) (a .fault) (a .size) (c .if1 .taken)
+returns c = over _ _ _ _ (c .if1 .taken)
 
 returns-2 : tie.Need-returns-2
-returns-2 c =
-    let a = c .before .before .args in
-    faulty (a .room) (a .place) (a .fault) (a .size) (c .before .if1 .left) (c .if2 .taken)
+returns-2 c = faulty _ _ _ _ (c .before .if1 .left) (c .if2 .taken)
 
 returns-3 : tie.Need-returns-3
-returns-3 c =
-    let a = c .before .before .before .args in
-    no-room (a .room) (a .place) (a .fault) (a .size) (c .before .before .if1 .left) (c .before .if2 .left) (omega arith)
+returns-3 c = no-room _ _ _ _ (c .before .before .if1 .left) (c .before .if2 .left) (omega arith)
 
 returns-4 : tie.Need-returns-4
-returns-4 c =
-    let a = c .before .before .before .before .args in
-    no-room (a .room) (a .place) (a .fault) (a .size) (c .before .before .before .if1 .left) (c .before .before .if2 .left) (omega arith)
+returns-4 c = no-room _ _ _ _ (c .before .before .before .if1 .left) (c .before .before .if2 .left) (omega arith)
 
 add-t6 : tie.Need-add-t6
 add-t6 c = search needs
 
 returns-5 : tie.Need-returns-5
-returns-5 c =
-    let a = c .before .before .before .before .args in
-    room (a .room) (a .place) (a .fault) (a .size) (c .before .before .before .if1 .left) (c .before .before .if2 .left) (omega arith)
+returns-5 c = room _ _ _ _ (c .before .before .before .if1 .left) (c .before .before .if2 .left) (omega arith)
 
 pub admitted-spec : {M : Type 1} → statement M
 admitted-spec = tie.close (tie.spec returns returns-2 returns-3 returns-4 add-t6 returns-5)

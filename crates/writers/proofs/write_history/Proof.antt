@@ -20,15 +20,15 @@ use Rattle.stores.proofs.admitted.Reads as admitted-reads
 use Rattle.writers.proofs.history_size.Reads as history-size-reads
 use Rattle.writers.proofs.put_history.Reads as put-history-reads
 
--- From where the next place was answered back to the call of `admitted`; from there to where the size was asked, and to the start.
+-- From where the next place was answered back to the call of `admitted`; from there, and from the call of `history_fault`, to the start.
 abbrev asked : tie.After-next → tie.After-admitted
 asked c = c .before .before
 
-abbrev known : tie.After-history-fault → tie.After-shared-slice-known4
-known c = c .before
+abbrev start : tie.After-history-fault → tie.Start
+start c = c .before .before .before .before .before .before
 
-abbrev start : tie.After-shared-slice-known4 → tie.Start
-start c = c .before .before .before .before .before
+abbrev begun : tie.After-admitted → tie.Start
+begun c = start (c .before .before)
 
 -- The fields handed over.
 abbrev fields : tie.Start → History
@@ -38,9 +38,6 @@ fields s =
       veto = record { count = a .veto-count; times = now (a .veto-times); width = a .veto-width; masks = now (a .veto-masks) };
       trigger = record { count = a .trigger-count; times = now (a .trigger-times); width = a .trigger-width; masks = now (a .trigger-masks) };
     }
-
-abbrev begun : tie.After-admitted → tie.Start
-begun c = start (known (c .before .before))
 
 -- `admitted` was asked the history's fault and, where it has none, its size.
 admitted : (c : tie.After-admitted)
@@ -67,7 +64,7 @@ history-fault-requires c κs = search needs
 
 history-size-requires : tie.Need-history-size-requires
 history-size-requires c κs =
-    let s = start (known c) in
+    let s = start c in
     let l : length (now (s .args .veto-masks)) < 0x8000000000000000 = search needs in
     λ z. size-fits (fields s) (sym (c .history-fault .ensures) ∙ z) l
 
