@@ -10,7 +10,7 @@ use lib.ListN.{length, take, drop, length-drop}
 use lib.Seq.{sets, length-take-le}
 use Rattle.theory.specs.Words.{Bytes}
 use Rattle.theory.specs.Tests.{ok}
-use Rattle.theory.proofs.WordLaws.{Bytes-drop, Bytes-take}
+use Rattle.theory.proofs.WordLaws.{Bytes-part}
 use Rattle.theory.proofs.Items.{Item, Whole, Oks}
 use Rattle.theory.proofs.LoopLaws.{whole}
 use Rattle.theory.proofs.StructureLaws.{structure, inside, Opened, opens, length-is}
@@ -125,7 +125,7 @@ module _ {old : List ℕ} {place : ℕ} {part out rest : List ℕ} {at w m : ℕ
         let written = length-is order containerHead containerLate contents (i .state) at rest own (i .bytes) (reads i (f .more)) in
         let size : containerSize own ≡ 8 + m = ap (λ (n : ℕ). 8 + n) (written ∙ sym (f .length-is)) in
         let end : at + 8 + length inner ≡ at + (8 + m) = omega (arith, inner-size) in
-        let bytes : Bytes inner = Bytes-take (8 + m - 8) (drop 8 rest) (Bytes-drop 8 rest (i .bytes)) in
+        let bytes : Bytes inner = Bytes-part (8 + m - 8) 8 rest (i .bytes) in
         next containerItem i (f .more) (8 + m) size new
         (subst (λ (x : Container). Laid out new at (at + (8 + m)) (containerBytes x)) same
         (container-copied out mid at (at + (8 + m)) w (begin-ready .0) e context inner new (own .body) bytes inner-reads

@@ -7,14 +7,13 @@ use native.Mathlib.Omega.{arith}
 use lib.ListN.{length, take, drop, length-append}
 use Rattle.theory.specs.Words.{Bytes}
 use Rattle.theory.specs.Tests.{Res, ok}
-use Rattle.theory.proofs.WordLaws.{Bytes-drop}
 use Rattle.theory.proofs.Items.{Item}
 use Rattle.theory.proofs.LoopLaws.{whole, Ahead, ahead}
 use Rattle.note.specs.Limits.{fileLimit}
 use Rattle.note.specs.Words.{word}
 use Rattle.demands.specs.Outputs.{Laid}
 use Rattle.demands.proofs.OutputLaws.{none-laid, both-laid}
-use Rattle.containers.proofs.RecordLoop.{left}
+use Rattle.containers.proofs.RecordLoop.{left, Bytes-behind}
 use Rattle.rewriting.specs.Ready.{Ready, Stands}
 
 empty : (bs : List ℕ) → length bs ≤ 0 → bs ≡ []
@@ -96,7 +95,7 @@ module _ {S A : Type 0} (F : Item S A) where
             state = F .step (i .state) item;
             items = here .others;
             reads = ap₂ (whole F (F .step (i .state) item)) (ap (λ (k : ℕ). at + k) (sym en)) behind ∙ here .reads-others;
-            bytes = subst Bytes (left n rest) (Bytes-drop n rest (i .bytes));
+            bytes = Bytes-behind n rest (i .bytes);
             room = i .room;
             limit = i .limit;
           }

@@ -5,7 +5,7 @@ use mathlib.Core.List.{List}
 use Prim.Native.Nat.{ℕ, _+_, _-_, _≤_, _<_}
 use native.Mathlib.Omega.{arith}
 use lib.ListN.{length, take, drop}
-use Rattle.theory.proofs.WordLaws.{Bytes-drop, Bytes-take}
+use Rattle.theory.proofs.WordLaws.{Bytes-part}
 use Rattle.note.specs.Limits.{fileLimit}
 use Rattle.note.specs.Words.{word}
 use Rattle.note.specs.Records.{Record, recordBytes, recordSize, recordRule, kindOf}
@@ -62,7 +62,7 @@ module _ {old : List ℕ} {place : ℕ} {part out rest : List ℕ} {at k m : ℕ
 
   pub copyable : Copyable (kindOf k) cutBody (length out) at
   copyable = record {
-    bytes = Bytes-take (8 + m - 8) (drop 8 rest) (Bytes-drop 8 rest (i .bytes));
+    bytes = Bytes-part (8 + m - 8) 8 rest (i .bytes);
     follows = cut-follows;
     room = omega (arith, cut-size, f .length-is, read .fits, inside recordItem i .0);
     limit = inside recordItem i .1;

@@ -6,7 +6,7 @@ use mathlib.Core.List.{List}
 use denote.Ref.{now}
 use lib.ListN.{length}
 use Rattle.note.specs.Records.{kindOf}
-use Rattle.note.proofs.KindCases.{no-kind}
+use Rattle.rules.proofs.KindLaws.{no-arm}
 use Rattle.rules.proofs.LengthLaws.{least}
 use Rattle.copies.specs.Copying.{Copyable, Copied}
 use Rattle.copies.proofs.KindLaws.{asked, left, never}
@@ -144,9 +144,7 @@ returns-8 c =
     any-kind (arm .before) (arm .match .keys8) (c .before .before .copy-tlb .ensures)
 
 returns-9 : tie.Need-returns-9
-returns-9 c =
-    let ((((((((none, phonon), charge), administrative), trace), history), gps), trigger), tlb) = c .match .rest in
-    absurd (never (start (c .before) .pre) (no-kind _ phonon charge administrative trace history gps trigger tlb))
+returns-9 c = absurd (never (start (c .before) .pre) (no-arm (c .match .rest)))
 
 pub copy-record-spec : {M : Type 1} → statement M
 copy-record-spec =

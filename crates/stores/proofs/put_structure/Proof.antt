@@ -2,8 +2,6 @@
 -- The idea: stores in a row are one store of the structure.
 use mathlib.Core.Path.{refl}
 use denote.Ref.{now}
-use lib.ListN.{length}
-use Rattle.note.specs.Words.{words}
 use Rattle.stores.proofs.StructureLaws.{structured-stored}
 use borrow.Author.Needs.{needs}
 use Rattle.stores.proofs.put_structure.Statement.{statement}

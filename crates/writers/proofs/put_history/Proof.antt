@@ -2,7 +2,6 @@
 -- The idea: stores in a row are one store of the history's bytes.
 use mathlib.Core.Path.{refl}
 use denote.Ref.{now}
-use lib.ListN.{length}
 use Rattle.note.specs.History.{History}
 use Rattle.writers.proofs.HistoryLaws.{history-stored}
 use borrow.Author.Needs.{needs}
