@@ -1,5 +1,5 @@
 -- Each way through a closing, and the two containers' closings as cases of it.
--- The idea: what is answered before the contents are asked, then the contents; a configuration's own word has no fault and may stand alone.
+-- The idea: what is answered before the contents are asked, then the contents; a configuration's own word has no fault, and its contents may be none.
 use Prim.Native.Nat.{ℕ, zero, suc, _+_, _-_, _%_, _≤_}
 use mathlib.Core.Path.{_≡_, refl, sym, ap, _∙_, subst}
 use mathlib.Core.Bool.{Bool, true, false}

@@ -1,5 +1,5 @@
 -- What the closings of both containers have in common: the answer over any fault of the container's own word, any least size of its
--- contents and any context.
+-- contents and any context; and the room that their storing halves ask.
 use Prim.Native.Nat.{ℕ, _+_, _≤_}
 use mathlib.Core.List.{List}
 use lib.Dec.{leb}

@@ -114,7 +114,7 @@ pieces-bytes (p ∷ ps) h =
 abbrev pub Lays : Built → Built → List ℕ → Type 0
 Lays b after bytes = Laid (b .out) (after .out) (b .next) (after .next) bytes
 
--- No call lays nothing.
+-- Where no call is made, nothing is laid.
 none-lays : (b after : Built) → _≡_ {A = Res Built} (ok b) (ok after) → Lays b after []
 none-lays b after e = subst (λ (x : Built). Lays b x []) (ok-inj e) (none-laid (b .out) (b .next))
 

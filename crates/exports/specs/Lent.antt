@@ -45,16 +45,17 @@ unfoldable pub floatsAfter : ℕ → List Float → Given → List Float
 floatsAfter n old (accepted vs) = take n (floatsIn vs ++ replicate n plusZero)
 floatsAfter n old (refused number place) = old
 
--- One lent number after the call: the value; on a refusal what stood there.
+-- One lent number after the call: the value, 0 where an accepted call has none (Find's nothing); on a refusal what stood there.
 abbrev pub NumberAfter : ℕ → Given → ℕ → Type 0
 NumberAfter old given new = pos new ∷ [] ≡ wholesAfter 1 (pos old ∷ []) given
 
--- Channel's four numbers, and what it lends after the call: under another number than 0 what stood there.
+-- Channel's four numbers.
 abbrev pub channelNumbers : ChannelAnswer → List ℕ
 channelNumbers answer = answer .kind ∷ answer .detector ∷ answer .analysis .length ∷ answer .cold .length ∷ []
 
+-- A buffer lent to Channel after the call: the value, or under another number than 0 what stood there.
 abbrev pub channelAfter : List ℕ → ChannelAnswer → List ℕ → List ℕ
-channelAfter old answer new = cond (eqb (answer .number) 0) new old
+channelAfter old answer value = cond (eqb (answer .number) 0) value old
 
 -- 1 for true.
 abbrev pub bit : Bool → ℕ

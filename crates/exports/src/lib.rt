@@ -1,5 +1,5 @@
 // The reading calls for C: numbers and lent buffers alone. include/dwejrasq.h documents each. The visitor's call stands in `visiting`, the
-// writers' in `writing`.
+// writers' in `writing`, Rewrite's in `restoring`.
 use note::CodeAnswer;
 use note::FindAnswer;
 use note::RecordAnswer;

@@ -13,8 +13,8 @@ use Rattle.note.specs.Records.{unknownKind, kindOf}
 use Rattle.note.proofs.KindCases.{no-kind}
 
 -- What the arm knows, as the match gives it: one arm after the other, the last of them outermost.
-abbrev Neither : ℕ → Type 0
-Neither k =
+abbrev NoKindWord : ℕ → Type 0
+NoKindWord k =
     (((((((Unit {0} × (k ≡ phononKind .word → ⊥))
     × (k ≡ chargeKind .word → ⊥))
     × (k ≡ administrativeKind .word → ⊥))
@@ -24,6 +24,6 @@ Neither k =
     × (k ≡ triggerKind .word → ⊥))
     × (k ≡ tlbKind .word → ⊥)
 
-pub no-arm : {k : ℕ} → Neither k → kindOf k ≡ unknownKind
+pub no-arm : {k : ℕ} → NoKindWord k → kindOf k ≡ unknownKind
 no-arm {k} ((((((((u, phonon), charge), administrative), trace), history), gps), trigger), tlb) =
     no-kind k phonon charge administrative trace history gps trigger tlb

@@ -1,5 +1,6 @@
-// The eight record and entry writers. Each hands its fields' fault, its kind word, its body's words and the bytes behind them to
-// `write_structure`; a history, which has several parts, is stored by `put_history`. All is known before the first store.
+// The eight record and entry writers. Each record's hands its fields' fault, its kind word, its body's words and the bytes behind them to
+// `write_structure`, the entries', whose fields are all signed, by way of `write_entry`; a history, which has several parts, is stored by
+// `put_history`. All is known before the first store.
 use faults::history_fault;
 use faults::trace_fault;
 use fields::administrative_fault;
@@ -47,7 +48,7 @@ fn put_signed(ws: &mut [u32], fields: &[i32])
     }
 }
 
-// Writes an entry with this fault.
+// Writes an entry of this kind word from its signed fields, which have this fault.
 fn write_entry(out: &mut [u8], place: usize, fault: u32, kind: u32, fields: &[i32]) -> WriterAnswer
     requires { ⌜ length (now fields) ≤ 11 ⌝ }
     ensures { λ r. ⌜ Wrote (now (out .entry)) place (structureWritten fault kind (map unsigned (now (fields .entry))) []) r (now (out .exit)) ⌝ }

@@ -10,10 +10,10 @@ use Rattle.note.specs.Gps.{Gps}
 use Rattle.note.specs.Trigger.{Trigger}
 use Rattle.note.specs.Tlb.{Tlb}
 use Rattle.note.specs.Writers.{Written, recordWrote, recordOutput}
-use Rattle.telling.specs.Told.{Lent, Numbers, Told}
+use Rattle.telling.specs.Told.{Before, After, Told}
 
 -- What a caller is told of a record or an entry written from a place on, and the output afterwards.
-abbrev pub RecordTold : List ℕ → ℕ → Written → Lent → Numbers → List ℕ → Type 0
+abbrev pub RecordTold : List ℕ → ℕ → Written → Before → After → List ℕ → Type 0
 RecordTold out place w = Told (recordWrote out place w) (recordOutput out place w)
 
 -- The fields of an array, in the order of their words.

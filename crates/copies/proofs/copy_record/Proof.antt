@@ -28,12 +28,13 @@ use Rattle.copies.proofs.copy_trigger.Reads as copy-trigger-reads
 abbrev start : tie.After-slice-known → tie.Start
 start c = c .before .before
 
--- In the arm of a kind word: what is asked of the record is asked of that word's kind, and what is left of that kind is left of the record.
+-- In the arm of a kind word: what is asked of the record is asked of that word's kind.
 own-kind : (c : tie.After-slice-known) {w : ℕ} → start c .args .kind ≡ w
     → (let a = start c .args in
     (least w ≤ length (now (a .body))) × Copyable (kindOf w) (now (a .body)) (length (now (a .out))) (a .place))
 own-kind c e = asked e _ _ _ (start c .pre)
 
+-- And what a copy of that kind leaves is what a copy of the record leaves.
 any-kind : (c : tie.After-slice-known) {w : ℕ} → start c .args .kind ≡ w → {new : List ℕ}
     → (let a = start c .args in
     Copied (kindOf w) (now (a .body)) (now (a .out)) (a .place) new → Copied (kindOf (a .kind)) (now (a .body)) (now (a .out)) (a .place) new)

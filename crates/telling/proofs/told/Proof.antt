@@ -1,6 +1,6 @@
 -- Each case of an answer, and the lent numbers that follow it.
 use denote.Ref.{now}
-use Rattle.telling.specs.Told.{Lent}
+use Rattle.telling.specs.Told.{Before}
 use Rattle.telling.proofs.ToldLaws.{tells-next, tells-refusal}
 use borrow.Author.Needs.{needs}
 use Rattle.telling.proofs.told.Statement.{statement}
@@ -15,7 +15,7 @@ enum-known-answer-2 : tie.Need-enum-known-answer-2
 enum-known-answer-2 c = search needs
 
 -- The two lent numbers before the call.
-abbrev lent : tie.Start → Lent
+abbrev lent : tie.Start → Before
 lent s = record { next = now (s .args .next); refusal = now (s .args .refusal) }
 
 returns : tie.Need-returns

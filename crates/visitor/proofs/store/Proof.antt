@@ -19,7 +19,7 @@ Inv-loop file first rows₀ at₀ k₀ n₀ room rows at k n = Storing file at�
 abbrev μ-loop : tie.MeasureT-loop
 μ-loop file first rows₀ at₀ k₀ n₀ room rows at k n = (first - k) + (room - n)
 
--- Where a turn's step was taken and its yield read.
+-- From where a turn's yield was read back to the turn's start, and to the function's.
 abbrev turn : tie.After-last Inv-loop μ-loop → tie.In-loop Inv-loop μ-loop
 turn c = c .before .before
 
