@@ -4,7 +4,6 @@ use Prim.Native.Nat.{ℕ, _+_, _≤_, _<_}
 use mathlib.Core.Path.{_≡_, refl, sym, ap}
 use mathlib.Core.Bool.{Bool, true, false}
 use mathlib.Core.List.{[], _∷_}
-use native.Mathlib.Omega.{arith}
 use lib.Dec.{leb}
 use borrow.Author.Tests.{le-leb, lt-leb, leb-true}
 use Rattle.theory.specs.Tests.{Res, ok, bad, need, unless}
@@ -12,7 +11,8 @@ use Rattle.theory.proofs.TestLaws.{need-ok, ok-inj, positive}
 use Rattle.note.specs.Limits.{fileLimit}
 use Rattle.note.specs.Answers.{Given, accepted, refused, counts}
 use Rattle.note.specs.Writers.{writerGiven}
-use Rattle.demands.proofs.ClosingLaws.{within-ok}
+use Rattle.demands.specs.Outputs.{HasRoom}
+use Rattle.demands.proofs.ClosingLaws.{within-ok, within-grants}
 use Rattle.closings.specs.Closing.{bounded}
 
 -- A place or an end that doesn't lie as it must, by whichever test.
@@ -31,37 +31,33 @@ module _ (n place end fault least : ℕ) where
   unfolding bounded writerGiven
   over h = rw (lt-leb n fileLimit h)
 
-  module _ (limit : n ≤ fileLimit) where
-    pub outside : (end ≤ n → place + 8 ≤ end → ⊥) → refused 13 place ≡ answer
-    unfolding bounded writerGiven
-    outside h =
-        let lies-wrong : leb end n ≡ true → leb (place + 8) end ≡ true → ⊥ = λ b c. h (leb-true end n b) (leb-true (place + 8) end c) in
-        rw (le-leb n fileLimit limit) (ap writerGiven (sym (outside-one place _ (leb place n) (leb end n) (leb (place + 8) end) lies-wrong)))
+  pub outside : n ≤ fileLimit → (end ≤ n → place + 8 ≤ end → ⊥) → refused 13 place ≡ answer
+  unfolding bounded writerGiven
+  outside limit h =
+      let lies-wrong : leb end n ≡ true → leb (place + 8) end ≡ true → ⊥ = λ b c. h (leb-true end n b) (leb-true (place + 8) end c) in
+      rw (le-leb n fileLimit limit) (ap writerGiven (sym (outside-one place _ (leb place n) (leb end n) (leb (place + 8) end) lies-wrong)))
 
-    module _ (room : end ≤ n) (wide : place + 8 ≤ end) where
-      -- Place and end lie as they must: the other two tests are left.
-      passed : bounded n place end fault least ≡ need fault place (need (unless (leb (place + (8 + least)) end) 9) place (ok end))
-      unfolding bounded
-      passed =
-          let inside : place ≤ n = omega arith in
-          rw (le-leb n fileLimit limit, le-leb place n inside, le-leb end n room, le-leb (place + 8) end wide)
+  module _ (room : HasRoom n place end) where
+    -- Place and end lie as they must: the other two tests are left.
+    passed : bounded n place end fault least ≡ need fault place (need (unless (leb (place + (8 + least)) end) 9) place (ok end))
+    unfolding bounded
+    passed = within-grants n place end _ room
 
-      pub faulty : (fault ≡ 0 → ⊥) → refused fault place ≡ answer
-      unfolding writerGiven
-      faulty h = rw (passed, positive fault h)
+    pub faulty : (fault ≡ 0 → ⊥) → refused fault place ≡ answer
+    unfolding writerGiven
+    faulty h = rw (passed, positive fault h)
 
-      pub few : fault ≡ 0 → end < place + (8 + least) → refused 9 place ≡ answer
-      unfolding writerGiven
-      few e h = rw (passed, e, lt-leb (place + (8 + least)) end h)
+    pub few : fault ≡ 0 → end < place + (8 + least) → refused 9 place ≡ answer
+    unfolding writerGiven
+    few e h = rw (passed, e, lt-leb (place + (8 + least)) end h)
 
-      pub fine : fault ≡ 0 → place + (8 + least) ≤ end → accepted (counts (end ∷ [])) ≡ answer
-      unfolding writerGiven
-      fine e h = rw (passed, e, le-leb (place + (8 + least)) end h)
+    pub fine : fault ≡ 0 → place + (8 + least) ≤ end → accepted (counts (end ∷ [])) ≡ answer
+    unfolding writerGiven
+    fine e h = rw (passed, e, le-leb (place + (8 + least)) end h)
 
   -- What is known where nothing stood against the closing.
   pub record Bounds (next : ℕ) : Type 0 where
-    pub limit : n ≤ fileLimit
-    pub room : end ≤ n
+    pub room : HasRoom n place end
     pub wide : place + 8 ≤ end
     pub clean : fault ≡ 0
     pub is : end ≡ next
@@ -69,7 +65,7 @@ module _ (n place end fault least : ℕ) where
   pub bounds : (next : ℕ) → bounded n place end fault least ≡ ok next → Bounds next
   unfolding bounded
   bounds next e =
-      let (limit, room, wide, e1) = within-ok n place end _ next e in
+      let (room, e1) = within-ok n place end _ next e in
       let (f, e2) = need-ok fault place _ e1 in
       let (m, e3) = need-ok (unless (leb (place + (8 + least)) end) 9) place _ e2 in
-      record { limit = limit; room = room; wide = wide; clean = f; is = ok-inj e3 }
+      record { room = room; wide = room .0; clean = f; is = ok-inj e3 }

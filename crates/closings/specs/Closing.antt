@@ -1,11 +1,10 @@
 -- What the closings of both containers have in common: the answer over any fault of the container's own word, any least size of its
--- contents and any context; and the room that their storing halves ask.
-use Prim.Native.Nat.{ℕ, _+_, _≤_}
+-- contents and any context.
+use Prim.Native.Nat.{ℕ, _+_}
 use mathlib.Core.List.{List}
 use lib.Dec.{leb}
 use lib.ListN.{length}
 use Rattle.theory.specs.Tests.{Res, ok, need, bind, unless}
-use Rattle.note.specs.Limits.{fileLimit}
 use Rattle.note.specs.Records.{Context, readRecords}
 use Rattle.note.specs.Writers.{within, contentsOf, ended}
 
@@ -22,7 +21,3 @@ unfoldable pub closed : List ℕ → ℕ → ℕ → ℕ → ℕ → Context →
 closed out place end fault least c =
     bind (bounded (length out) place end fault least) (λ next.
     ended next (readRecords c (place + 8) (contentsOf out place end)))
-
--- A container from the place to the end, its two words included, lies in an output within the limit.
-abbrev pub HasRoom : List ℕ → ℕ → ℕ → Type 0
-HasRoom out place end = (place + 8 ≤ end) × (end ≤ length out) × (length out ≤ fileLimit)

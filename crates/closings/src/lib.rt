@@ -15,13 +15,15 @@ use stores::admitted;
 use stores::put_words;
 ghost use mathlib.Core.Path.{_≡_};
 ghost use Prim.Native.Nat.{_+_, _*_, _%_, _^_, _≤_, _<_};
+ghost use lib.ListN.{length};
 ghost use lib.Seq.{sets};
 ghost use Rattle.note.specs.Answers.{givenWriter};
 ghost use Rattle.note.specs.Events.{eventWord, eventFault};
 ghost use Rattle.note.specs.Files.{versionWord, configurationWord};
 ghost use Rattle.note.specs.Writers.{writerGiven, written, closingBytes, headerWrote, headerOutput, configurationClosed, configurationOutput, eventClosed, eventOutput};
 ghost use Rattle.record.specs.Steps.{contextOf};
-ghost use Rattle.closings.specs.Closing.{bounded, closed, HasRoom};
+ghost use Rattle.demands.specs.Outputs.{HasRoom};
+ghost use Rattle.closings.specs.Closing.{bounded, closed};
 
 // The bits of a number with the `k` bits of another below them. By shift (document 01); its callers mask.
 fn above(high: u32, k: u32, low: u32) -> u32
@@ -90,7 +92,7 @@ fn bounded(room: usize, place: usize, end: usize, fault: u32, least: usize) -> W
 
 // Stores a container's two words in front of its contents.
 fn put_head(out: &mut [u8], place: usize, end: usize, word: u32)
-    requires { ⌜ HasRoom (now out) place end ⌝ }
+    requires { ⌜ HasRoom (length (now out)) place end ⌝ }
     ensures { λ _. ⌜ now (out .exit) ≡ sets (now (out .entry)) place (closingBytes word place end) ⌝ }
 {
     put_words(out, place, &[word, (end - place - 8) as u32]);
@@ -170,7 +172,7 @@ pub fn close_event(
 
 /// Stores a configuration's two words in front of entries that end at `end`, as its closing does.
 pub fn begin_configuration(out: &mut [u8], place: usize, end: usize)
-    requires { ⌜ HasRoom (now out) place end ⌝ }
+    requires { ⌜ HasRoom (length (now out)) place end ⌝ }
     ensures { λ _. ⌜ now (out .exit) ≡ sets (now (out .entry)) place (closingBytes configurationWord place end) ⌝ }
 {
     put_head(out, place, end, CONFIGURATION);
@@ -178,7 +180,7 @@ pub fn begin_configuration(out: &mut [u8], place: usize, end: usize)
 
 /// Stores an event's two words in front of records that end at `end`, as its closing does.
 pub fn begin_event(out: &mut [u8], place: usize, end: usize, class: u32, category: u32, kind: u32)
-    requires room { ⌜ HasRoom (now out) place end ⌝ }
+    requires room { ⌜ HasRoom (length (now out)) place end ⌝ }
     requires word { ⌜ eventFault class category kind ≡ 0 ⌝ }
     ensures { λ _. ⌜ now (out .exit) ≡ sets (now (out .entry)) place (closingBytes (eventWord class category kind) place end) ⌝ }
 {

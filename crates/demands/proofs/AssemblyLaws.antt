@@ -177,7 +177,7 @@ module _ (head : Unit {0} → ℕ → ℕ) (late : Unit {0} → ℕ → ℕ → 
       let bytes : Bytes (contentsOf old place end) = subst Bytes (sym contents) (pieces-bytes ps h) in
       let again : readRecords c (place + 8) (recordsBytes rs) ≡ ok (k .read) = sym (ap (readRecords c (place + 8)) contents) ∙ k .contents in
       let same : k .read ≡ rs =
-      records-exact c (place + 8) rs (k .read) (pieces-kinds ps h) (omega (arith, l .ends, k .limit, k .room)) again in
+      records-exact c (place + 8) rs (k .read) (pieces-kinds ps h) (omega (arith, l .ends, k .room)) again in
       let left : written (ok next) old place (closingBytes word place end) ≡ output old place end =
       ap (λ (r : Res ℕ). written r old place (closingBytes word place end)) (sym e) ∙ sym (is old place end) in
       let whole : List Record → Container = λ xs. record { kind = word; body = xs } in

@@ -22,7 +22,7 @@ use Rattle.note.specs.Files.{configurationWord, configurationHead, configuratio
 use Rattle.note.specs.Writers.{written, contentsOf, ended, within, closingBytes}
 use Rattle.note.specs.Writers.{configurationClosed, configurationOutput, eventClosed, eventOutput}
 use Rattle.note.proofs.BoolLaws.{among-tells, upTo, one-up-to}
-use Rattle.demands.specs.Outputs.{Laid, Closed}
+use Rattle.demands.specs.Outputs.{Laid, HasRoom, Closed}
 use Rattle.demands.proofs.Bundles.{records, box, same-records}
 use Rattle.demands.proofs.RowLaws.{container-size}
 use Rattle.demands.proofs.OutputLaws.{structure-apart, laid-from, put-laid, refusal-keeps}
@@ -39,9 +39,7 @@ module _ (head : Unit {0} → ℕ → ℕ) (late : Unit {0} → ℕ → ℕ → 
 
   -- What an accepted closing has checked.
   pub record Checked (out : List ℕ) (place end next word : ℕ) : Type 0 where
-    pub limit : length out ≤ fileLimit
-    pub room : end ≤ length out
-    pub wide : place + 8 ≤ end
+    pub room : HasRoom (length out) place end
     pub fits : Fits 4 word
     pub head-ok : head tt word ≡ 0
     pub late-ok : late tt word (end - (place + 8)) ≡ 0
@@ -55,7 +53,7 @@ module _ (head : Unit {0} → ℕ → ℕ) (late : Unit {0} → ℕ → ℕ → 
     held = contentsOf out place end
 
     inner-size : length held ≡ end - (place + 8)
-    inner-size = length-take-le (end - (place + 8)) (drop (place + 8) out) (omega (arith, length-drop (place + 8) out, k .room, k .wide))
+    inner-size = length-take-le (end - (place + 8)) (drop (place + 8) out) (omega (arith, length-drop (place + 8) out, k .room))
 
     -- The contents are the records that were read from them, and the container is valid.
     inner : (held ≡ recordsBytes (k .read)) × records .Ok c (k .read)
@@ -69,7 +67,7 @@ module _ (head : Unit {0} → ℕ → ℕ) (late : Unit {0} → ℕ → ℕ → 
       head-ok = k .head-ok;
       late-ok = ap (late tt word) size ∙ k .late-ok;
       kind-word = k .fits;
-      length-word = omega (arith, size, k .limit, k .room);
+      length-word = omega (arith, size, k .room);
       body-ok = inner .1;
     }
 
@@ -86,7 +84,7 @@ module _ (head : Unit {0} → ℕ → ℕ) (late : Unit {0} → ℕ → ℕ → 
 
     eight-laid : Laid out new place (place + length eight) eight
     unfolding new
-    eight-laid = put-laid out eight place next (omega (arith, eight-size, k .wide, k .room))
+    eight-laid = put-laid out eight place next (omega (arith, eight-size, k .room))
 
     whole : Container
     whole = record { kind = word; body = k .read }
@@ -98,7 +96,7 @@ module _ (head : Unit {0} → ℕ → ℕ) (late : Unit {0} → ℕ → ℕ → 
         let B : List ℕ = recordsBytes (k .read) in
         let rest : List ℕ = drop end out in
         let at : place + length eight ≡ place + 8 = omega (arith, eight-size) in
-        let last : place + 8 + n ≡ end = omega (arith, k .wide) in
+        let last : place + 8 + n ≡ end = omega (arith, k .room) in
         let behind : drop (place + 8) out ≡ B ++ rest =
         sym (take-append-drop n (drop (place + 8) out))
         ∙ ap₂ (λ (x y : List ℕ). x ++ y) (inner .0) (drop-drop n (place + 8) out ∙ ap (λ (m : ℕ). drop m out) last) in
@@ -112,7 +110,7 @@ module _ (head : Unit {0} → ℕ → ℕ) (late : Unit {0} → ℕ → ℕ → 
 
     whole-size : length (containerBytes whole) ≡ end - place
     unfolding whole
-    whole-size = omega (arith, container-size whole, size, k .wide)
+    whole-size = omega (arith, container-size whole, size, k .room)
 
     pub container-laid : Laid out (written (ok next) out place (closingBytes word place end)) place end
         (containerBytes (record { kind = word; body = k .read }))
@@ -120,7 +118,7 @@ module _ (head : Unit {0} → ℕ → ℕ) (late : Unit {0} → ℕ → ℕ → 
     container-laid =
         let rest : List ℕ = drop end out in
         let all : List ℕ = containerBytes whole in
-        let last : place + (end - place) ≡ end = omega (arith, k .wide) in
+        let last : place + (end - place) ≡ end = omega (arith, k .room) in
         record {
           before = eight-laid .before;
           here = ap (take (length all)) new-from ∙ take-at all rest (length all) refl;
@@ -128,7 +126,7 @@ module _ (head : Unit {0} → ℕ → ℕ) (late : Unit {0} → ℕ → ℕ → 
               ∙ sym (drop-drop (end - place) place new)
               ∙ ap (drop (end - place)) new-from
               ∙ drop-at all rest (end - place) whole-size;
-          ends = omega (arith, whole-size, k .wide);
+          ends = omega (arith, whole-size, k .room);
           size = eight-laid .size;
         }
 
@@ -154,19 +152,19 @@ module _ (head : Unit {0} → ℕ → ℕ) (late : Unit {0} → ℕ → ℕ → 
 -- ---- the two kinds of container
 
 -- 13 is "place or end past the output, an end below place plus 8": what is known where neither 1 nor 13 was given.
-pub within-ok : (n place end : ℕ) (r : Res ℕ) (next : ℕ) → within n place end r ≡ ok next
-    → (n ≤ fileLimit) × (end ≤ n) × (place + 8 ≤ end) × (r ≡ ok next)
+pub within-ok : (n place end : ℕ) (r : Res ℕ) (next : ℕ) → within n place end r ≡ ok next → HasRoom n place end × (r ≡ ok next)
 within-ok n place end r next e =
     let (l, e1) = need-ok (unless (leb n fileLimit) 1) 0 _ e in
     let (p, e2) = need-ok (unless (leb place n) 13) place _ e1 in
     let (q, e3) = need-ok (unless (leb end n) 13) place _ e2 in
     let (w, e4) = need-ok (unless (leb (place + 8) end) 13) place r e3 in
-    (most-passed n fileLimit 0 l, most-passed end n 12 q, most-passed (place + 8) end 12 w, e4)
+    ((most-passed (place + 8) end 12 w, most-passed end n 12 q, most-passed n fileLimit 0 l), e4)
 
-within-grants : (n place end : ℕ) (r : Res ℕ) → n ≤ fileLimit → end ≤ n → place + 8 ≤ end → within n place end r ≡ r
-within-grants n place end r limit room wide =
+-- And where there is room, neither is given.
+pub within-grants : (n place end : ℕ) (r : Res ℕ) → HasRoom n place end → within n place end r ≡ r
+within-grants n place end r (wide, inside, limit) =
     let low : place ≤ n = omega arith in
-    rw (most-passes 1 limit, most-passes 13 low, most-passes 13 room, most-passes 13 wide)
+    rw (most-passes 1 limit, most-passes 13 low, most-passes 13 inside, most-passes 13 wide)
 
 ended-ok : (end next : ℕ) (r : Res (List Record)) → ended end r ≡ ok next → (rs : List Record) × (r ≡ ok rs) × (end ≡ next)
 ended-ok end next r e = let (rs, is, q) = bind-ok r (λ rs. ok end) e in (rs, is, ok-inj q)
@@ -181,15 +179,15 @@ module _ (out : List ℕ) (place end : ℕ) where
       → Checked configurationHead configurationLate entry out place end next configurationWord
   unfolding configurationClosed
   configuration-checked next e =
-      let (limit, room, wide, q) = within-ok (length out) place end _ next e in
+      let (room, q) = within-ok (length out) place end _ next e in
       let (rs, read, is) = ended-ok end next _ q in
-      record { limit = limit; room = room; wide = wide; fits = omega arith; head-ok = refl; late-ok = refl; read = rs; contents = read; is = is }
+      record { room = room; fits = omega arith; head-ok = refl; late-ok = refl; read = rs; contents = read; is = is }
 
   -- And what a closing asks is no more.
   pub configuration-grants : Checked configurationHead configurationLate entry out place end end configurationWord
       → configurationClosed out place end ≡ ok end
   unfolding configurationClosed
-  configuration-grants k = within-grants (length out) place end _ (k .limit) (k .room) (k .wide) ∙ ap (ended end) (k .contents)
+  configuration-grants k = within-grants (length out) place end _ (k .room) ∙ ap (ended end) (k .contents)
 
   pub configuration-closes : (next : ℕ) → Bytes out → configurationClosed out place end ≡ ok next
       → Closed readConfiguration entry out (configurationOutput out place end) place end next configurationWord
@@ -243,15 +241,13 @@ module _ (out : List ℕ) (place end class category type : ℕ) where
   pub event-checked : (next : ℕ) → closedEvent ≡ ok next → Checked eventHead eventLate (event none) out place end next firstWord
   unfolding eventClosed
   event-checked next e =
-      let (limit, room, wide, q) = within-ok (length out) place end _ next e in
+      let (room, q) = within-ok (length out) place end _ next e in
       let (fault, q1) = need-ok (eventFault class category type) place _ q in
       let (some, q2) = need-ok (unless (leb (place + 9) end) 9) place _ q1 in
       let (rs, read, is) = ended-ok end next _ q2 in
       let least : 1 ≤ end - (place + 8) = omega (arith, most-passed (place + 9) end 8 some) in
       record {
-        limit = limit;
         room = room;
-        wide = wide;
         fits = event-word-fits class category type fault;
         head-ok = event-word-admitted class category type fault;
         late-ok = most-passes 9 least;
@@ -262,7 +258,7 @@ module _ (out : List ℕ) (place end class category type : ℕ) where
 
   pub event-faultless : (next : ℕ) → closedEvent ≡ ok next → eventFault class category type ≡ 0
   unfolding eventClosed
-  event-faultless next e = need-ok (eventFault class category type) place _ (within-ok (length out) place end _ next e .3) .0
+  event-faultless next e = need-ok (eventFault class category type) place _ (within-ok (length out) place end _ next e .1) .0
 
   -- And what a closing asks is no more than that and a class, category and type without fault.
   pub event-grants : eventFault class category type ≡ 0 → Checked eventHead eventLate (event none) out place end end firstWord
@@ -270,7 +266,7 @@ module _ (out : List ℕ) (place end class category type : ℕ) where
   unfolding eventClosed
   event-grants fault k =
       let some : place + 9 ≤ end = omega (arith, most-passed 1 (end - (place + 8)) 8 (k .late-ok)) in
-      within-grants (length out) place end _ (k .limit) (k .room) (k .wide) ∙ rw (fault, most-passes 9 some) (ap (ended end) (k .contents))
+      within-grants (length out) place end _ (k .room) ∙ rw (fault, most-passes 9 some) (ap (ended end) (k .contents))
 
   pub event-closes : (next : ℕ) → Bytes out → closedEvent ≡ ok next
       → Closed readEvent (event none) out (eventOutput out place end class category type) place end next firstWord

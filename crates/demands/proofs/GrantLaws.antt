@@ -126,9 +126,7 @@ module _ (head : Unit {0} → ℕ → ℕ) (late : Unit {0} → ℕ → ℕ → 
       let l = records-laid (contentsFrom b) ps filled h e in
       let (n, contents) = laid-contents (b .out) old (recordsBytes rs) place end l in
       let k : Checked head late c old place end end word = record {
-        limit = omega (arith, l .size, r .limit);
-        room = omega (arith, l .size, l .ends, r .room);
-        wide = omega (arith, l .ends);
+        room = (omega (arith, l .ends), omega (arith, l .size, l .ends, r .room), omega (arith, l .size, r .limit));
         fits = v .kind-word;
         head-ok = v .head-ok;
         late-ok = ap (late tt word) n ∙ v .late-ok;

@@ -26,6 +26,10 @@ pub record SectionStands (bs : List ℕ) (from : ℕ) (s : Section) : Type 0 whe
   pub times : take (length (s .times)) (drop (timesFrom from s) bs) ≡ s .times
   pub masks : take (length (s .masks)) (drop (masksFrom from s) bs) ≡ s .masks
 
+-- A container from the place to the end, its two words included, lies in an output of n bytes, within the limit.
+abbrev pub HasRoom : ℕ → ℕ → ℕ → Type 0
+HasRoom n place end = (place + 8 ≤ end) × (end ≤ n) × (n ≤ fileLimit)
+
 -- "A container is closed from a given place to a given end, which is the next place, over contents already written after eight free bytes:
 -- they are checked by the reading rules, then the eight bytes are written"; "a container's contents, stay". From the place up to the end
 -- then stands the container with that first word and the records or entries read from the contents, and there it is read.

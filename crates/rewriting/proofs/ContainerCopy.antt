@@ -16,13 +16,13 @@ use Rattle.note.specs.Records.{Record, Context, recordsBytes, readRecords}
 use Rattle.note.specs.Events.{containerBytes, classOf, categoryOf, eventTypeOf, eventMark, eventWord, eventFault, eventWordRule}
 use Rattle.note.specs.Files.{configurationWord}
 use Rattle.note.specs.Writers.{written, closingBytes}
-use Rattle.demands.specs.Outputs.{Laid}
+use Rattle.demands.specs.Outputs.{Laid, HasRoom}
 use Rattle.demands.proofs.Bundles.{records, same-records}
 use Rattle.demands.proofs.OutputLaws.{put-laid, both-laid}
-use Rattle.closings.specs.Closing.{HasRoom}
 use Rattle.rewriting.specs.Ready.{Begins}
 
-module _ (old mid : List ℕ) (place end w : ℕ) (room : HasRoom old place end) (e : mid ≡ sets old place (closingBytes w place end)) where
+module _ (old mid : List ℕ) (place end w : ℕ) (room : HasRoom (length old) place end)
+    (e : mid ≡ sets old place (closingBytes w place end)) where
   abbrev head : List ℕ
   head = closingBytes w place end
 

@@ -19,10 +19,9 @@ use Rattle.note.specs.Words.{order, word}
 use Rattle.note.specs.Records.{Record, Context, readRecord, readRecords}
 use Rattle.note.specs.Events.{Container, containerBytes, containerSize}
 use Rattle.note.specs.Writers.{closingBytes}
-use Rattle.demands.specs.Outputs.{Laid}
+use Rattle.demands.specs.Outputs.{Laid, HasRoom}
 use Rattle.demands.proofs.Bundles.{records, eventItem, same-records}
 use Rattle.record.proofs.StepLaws.{cut}
-use Rattle.closings.specs.Closing.{HasRoom}
 use Rattle.rewriting.specs.Ready.{containerHead, containerLate, contentsIn, readContainer, readContainers, Begins, RecordsReady, Stands}
 use Rattle.rewriting.proofs.CopyLoop as loop
 use Rattle.rewriting.proofs.CopyLoop.{Copying, Found, here, next}
@@ -95,7 +94,7 @@ module _ {old : List ℕ} {place : ℕ} {part out rest : List ℕ} {at w m : ℕ
   same = λ j. record { kind = (f .kind-is ∙ sym (opened i (f .more) .kind-is)) j; body = own .body }
 
   -- Its two words have room.
-  pub begin-ready : HasRoom out at (at + (8 + m)) × Begins w
+  pub begin-ready : HasRoom (length out) at (at + (8 + m)) × Begins w
   begin-ready =
       let (room, limit) = loop.inside containerItem i in (
         (omega arith, omega (arith, container-fits .0, room), limit),

@@ -19,7 +19,7 @@ ghost use lib.ListN.{length};
 ghost use lib.Seq.{sets};
 ghost use Rattle.note.specs.Answers.{givenWriter};
 ghost use Rattle.note.specs.Writers.{writerGiven, closingBytes, rewriteWrote, rewriteOutput};
-ghost use Rattle.closings.specs.Closing.{HasRoom};
+ghost use Rattle.demands.specs.Outputs.{HasRoom};
 ghost use Rattle.rewriting.specs.Ready.{Begins, RecordsReady, ContainersReady, FileReady, Stands};
 
 // Writes again the records or entries that fill a part, whose first byte stands at the place in the file and in the output.
@@ -39,7 +39,7 @@ fn copy_records(part: &[u8], out: &mut [u8], place: usize)
 
 // Stores a container's two words in front of contents that end at `end`: a configuration's, or an event's from its class, category and type.
 fn begin_container(out: &mut [u8], place: usize, end: usize, word: u32)
-    requires room { ⌜ HasRoom (now out) place end ⌝ }
+    requires room { ⌜ HasRoom (length (now out)) place end ⌝ }
     requires word { ⌜ Begins word ⌝ }
     ensures { λ _. ⌜ now (out .exit) ≡ sets (now (out .entry)) place (closingBytes word place end) ⌝ }
 {

@@ -3,9 +3,9 @@
 use Prim.Native.Nat.{_+_, _-_}
 use native.Mathlib.Omega.{arith}
 use denote.Ref.{now}
-use lib.ListN.{drop, length-take}
+use lib.ListN.{length, drop, length-take}
+use Rattle.demands.specs.Outputs.{HasRoom}
 use Rattle.record.specs.Steps.{contextOf}
-use Rattle.closings.specs.Closing.{HasRoom}
 use Rattle.closings.proofs.CloseLaws.{Call, refuses, told, contents-refuse, shuts}
 use borrow.Author.Needs.{needs}
 use Rattle.closings.proofs.close.Statement.{statement}
@@ -42,10 +42,8 @@ call s =
     }
 
 -- Where the end was answered: there is room.
-room : (c : tie.After-next) → (let a = start (asked c) .args in HasRoom (now (a .out)) (a .place) (a .end))
-room c =
-    let k = told (call (start (asked c))) (asked c .bounded .ensures) (c .next .given .1) in
-    (k .wide, k .room, k .limit)
+room : (c : tie.After-next) → (let a = start (asked c) .args in HasRoom (length (now (a .out))) (a .place) (a .end))
+room c = told (call (start (asked c))) (asked c .bounded .ensures) (c .next .given .1) .room
 
 bounded-requires : tie.Need-bounded-requires
 bounded-requires c κs = search needs
