@@ -1,5 +1,6 @@
 -- A closing that is accepted leaves a container: read at the place, it has the first word that was asked for and the records of the contents.
--- The idea: the closing's checks are the reader's tests in another order; one law over any container's tests, then two lines for each kind.
+-- The idea: the closing's checks are the reader's tests in another order. One law over any container's tests takes what they have shown
+-- (`Checked`); then, for each of the two kinds: an accepted closing has shown it, and it asks no more.
 use mathlib.Core.Path.{_≡_, refl, sym, ap, ap₂, _∙_}
 use mathlib.Core.Bool.{true}
 use mathlib.Core.List.{List, [], _∷_, _++_, append-assoc, append-nil}
@@ -268,13 +269,14 @@ module _ (out : List ℕ) (place end class category type : ℕ) where
       let some : place + 9 ≤ end = omega (arith, most-passed 1 (end - (place + 8)) 8 (k .late-ok)) in
       within-grants (length out) place end _ (k .room) ∙ rw (fault, most-passes 9 some) (ap (ended end) (k .contents))
 
-  pub event-closes : (next : ℕ) → Bytes out → closedEvent ≡ ok next
-      → Closed readEvent (event none) out (eventOutput out place end class category type) place end next firstWord
+  pub event-closes : (next : ℕ) → Bytes out → eventClosed out place end class category type ≡ ok next
+      → Closed readEvent (event none) out (eventOutput out place end class category type) place end next (eventWord class category type)
   unfolding readEvent eventOutput
   event-closes next h e =
       rw e (closes eventHead eventLate (event none) out place end next firstWord (event-checked next e) (contents-bytes out place end h))
 
   -- A refusal leaves the output as it was.
-  pub event-refused : (c p : ℕ) → closedEvent ≡ bad c p → eventOutput out place end class category type ≡ out
+  pub event-refused : (c p : ℕ) → eventClosed out place end class category type ≡ bad c p
+      → eventOutput out place end class category type ≡ out
   unfolding eventOutput
   event-refused c p e = refusal-keeps closedEvent out (closingBytes firstWord place end) place c p e
