@@ -3,18 +3,18 @@
 use mathlib.Core.Path.{_≡_, sym, ap, _∙_, subst}
 use mathlib.Core.List.{List}
 use Prim.Native.Nat.{ℕ, _+_}
+use native.Mathlib.Omega.{arith}
 use lib.IntN.{ℤ}
 use lib.ListN.{length, getD}
-use borrow.Author.Tests.{le-leb}
 use Rattle.theory.specs.Words.{Bytes}
 use Rattle.theory.specs.Tests.{ok}
 use Rattle.theory.proofs.StructureLaws.{length-structure}
-use Rattle.note.specs.Limits.{fileLimit}
 use Rattle.note.specs.Words.{order, signed, unsigned}
 use Rattle.note.specs.Kinds.{Kind}
-use Rattle.note.specs.Writers.{Written, wrapped, wrote, recordWrote, recordOutput}
+use Rattle.note.specs.Writers.{Written, wrapped, recordWrote, recordOutput}
 use Rattle.demands.specs.Outputs.{Laid}
 use Rattle.demands.proofs.AgainLaws.{Again}
+use Rattle.demands.proofs.OutputLaws.{grants}
 use Rattle.demands.proofs.WriterLaws.{record-laid}
 use Rattle.answers.proofs.SignedLaws.{kept}
 use Rattle.copies.specs.Copying.{Copyable, Copied}
@@ -32,11 +32,11 @@ module _ (k : Kind) {F : Type 0} (write : F → Written) (of : List ℕ → F) (
   same = again b (c .bytes) (c .follows) .same
 
   granted : recordWrote old place (write (of b)) ≡ ok next
-  unfolding recordWrote wrote
+  unfolding recordWrote
   granted =
       let size : length (write (of b) .bytes) ≡ 8 + length b =
       ap length same ∙ length-structure order (λ (x : List ℕ). x) (record { kind = k .word; body = b }) in
-      rw (le-leb (length old) fileLimit (c .limit), again b (c .bytes) (c .follows) .fine, size, le-leb next (length old) (c .room))
+      grants _ place _ _ (c .limit) (again b (c .bytes) (c .follows) .fine) (omega (arith, size, c .room)) ∙ ap (λ (n : ℕ). ok (place + n)) size
 
   -- The fields that were handed on are the body's.
   pub copied : {f : F} → f ≡ of b → {new : List ℕ} → new ≡ recordOutput old place (write f) → Copied k b old place new
