@@ -23,7 +23,7 @@ use Rattle.demands.proofs.Follows.{file-sound}
 use Rattle.demands.proofs.RowLaws.{byte-has-one-row}
 use Rattle.demands.proofs.RecordLaws.{found-body}
 use Rattle.demands.proofs.SpotLaws.{placeOf, traces-found}
-use Rattle.demands.proofs.EditLaws.{Edit, new, read-old, read-new, edited-rows, trace-old, other-row}
+use Rattle.demands.proofs.EditLaws.{Edit, old, new, i, at, read-old, read-new, edited-rows, trace-old, other-row}
 use Rattle.demands.proofs.EditLaws.{same-fields, same-setting, other-sample, held-sample}
 
 -- a byte of a body that was found is the file's byte
@@ -39,51 +39,45 @@ byte-found bs place r m e l =
     ∙ getD-drop place bs (8 + m) 0
 
 module _ {bs : List ℕ} {v : ℕ} {c : Container} {p : Spot} {t : Record} {j m x : ℕ} (d : Edit bs (v, (c, plug p t)) p t j m x) where
-  abbrev f : File
-  f = (v, (c, plug p t))
-
-  abbrev i : ℕ
-  i = placeOf c p + (8 + m)
-
   -- The number of the sample that holds the byte.
-  same-holder : holder (startOf f j) i ≡ (m - 48) / 2 + 1
+  same-holder : holder (at d j) (i d) ≡ (m - 48) / 2 + 1
   same-holder =
       ap (λ (s : ℕ). (placeOf c p + (8 + m) - (s + 56)) / 2 + 1) (d .start) ∙ ap (λ (z : ℕ). z / 2 + 1) (omega (arith, d .from))
 
   -- another row's bytes are not row j's
-  elsewhere-owned : (k n : ℕ) → k < length (rowsOf f) → k ≢ j → n < own isBox (row (rowsOf f) k) → startOf f k + n ≢ i
+  elsewhere-owned : (k n : ℕ) → k < length (rowsOf (old d)) → k ≢ j → n < own isBox (row (rowsOf (old d)) k) → at d k + n ≢ i d
   elsewhere-owned k n l other o e =
-      let owns-k : Owns isBox (row (rowsOf f) k) i = subst (λ (z : ℕ). Owns isBox (row (rowsOf f) k) z) e (omega arith, omega arith) in
-      let mine : own isBox (row (rowsOf f) j) ≡ recordSize t = rw (d .trace) (d .whole) in
-      let owns-j : Owns isBox (row (rowsOf f) j) i = (omega (arith, d .start), omega (arith, mine, d .start, d .inside)) in
-      other (byte-has-one-row bs f (d .bytes) (read-old d) i k j l (d .below) owns-k owns-j)
+      let owns-k = subst (λ (z : ℕ). Owns isBox (row (rowsOf (old d)) k) z) e (omega arith, omega arith) in
+      let mine : own isBox (row (rowsOf (old d)) j) ≡ recordSize t = rw (d .trace) (d .whole) in
+      let owns-j : Owns isBox (row (rowsOf (old d)) j) (i d) = (omega (arith, d .start), omega (arith, mine, d .start, d .inside)) in
+      other (byte-has-one-row bs (old d) (d .bytes) (read-old d) (i d) k j l (d .below) owns-k owns-j)
 
   -- The demand, of a trace at its spot.
-  edit-spot : Edited bs f j i x
+  edit-spot : Edited bs (old d) j (i d) x
   unfolding recordAt settingAt sampleAt
   edit-spot = record {
     file = new d;
     accepted = read-new d;
     same-rows = edited-rows d;
     sample-changes = λ differs.
-        let there : recordFound bs (startOf f j) ≡ ok t = trace-old d j (d .below) refl in
-        let same : getD (t .body) m 0 ≡ getD bs i 0 =
-        byte-found bs (startOf f j) t m there (d .inside) ∙ ap (λ (s : ℕ). getD bs (s + (8 + m)) 0) (d .start) in
-        subst (λ (q : ℕ). sampleAt (set bs i x) (startOf f j) q ≢ sampleAt bs (startOf f j) q) (sym same-holder)
+        let there : recordFound bs (at d j) ≡ ok t = trace-old d j (d .below) refl in
+        let same : getD (t .body) m 0 ≡ getD bs (i d) 0 =
+        byte-found bs (at d j) t m there (d .inside) ∙ ap (λ (s : ℕ). getD bs (s + (8 + m)) 0) (d .start) in
+        subst (λ (q : ℕ). sampleAt (set bs (i d) x) (at d j) q ≢ sampleAt bs (at d j) q) (sym same-holder)
         (held-sample d j (d .below) refl (λ e. differs (e ∙ same)));
     other-samples-stay = λ k n l other. elim (ℕ-discrete k j) [
       | yes e ↦ other-sample d k l e n (λ q. other (e, q ∙ sym same-holder))
-      | no e ↦ ap (sampleGiven (startOf f k) n) (other-row d k l e)
+      | no e ↦ ap (sampleGiven (at d k) n) (other-row d k l e)
     ];
     fields-stay = λ k l. elim (ℕ-discrete k j) [
       | yes e ↦ same-fields d k l e
-      | no e ↦ ap (recordGiven (startOf f k)) (other-row d k l e)
+      | no e ↦ ap (recordGiven (at d k)) (other-row d k l e)
     ];
     settings-stay = λ k l. elim (ℕ-discrete k j) [
       | yes e ↦ same-setting d k l e
-      | no e ↦ ap (settingGiven (startOf f k)) (other-row d k l e)
+      | no e ↦ ap (settingGiven (at d k)) (other-row d k l e)
     ];
-    other-bytes-stay = λ k n l other o. getD-set-other bs i (startOf f k + n) x 0 (elsewhere-owned k n l other o);
+    other-bytes-stay = λ k n l other o. getD-set-other bs (i d) (at d k + n) x 0 (elsewhere-owned k n l other o);
   }
 
 -- Demand 3: in an accepted file, a byte from the 57th of a trace's row to its last, changed to any byte.

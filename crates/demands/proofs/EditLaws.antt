@@ -81,7 +81,7 @@ module _ {bs : List ℕ} {v : ℕ} {c : Container} {p : Spot} {t : Record} {j m 
   old = (v, (c, plug p t))
 
   -- The trace afterwards, and the file with it.
-  abbrev pub t′ : Record
+  abbrev t′ : Record
   t′ = edited t m x
 
   abbrev pub new : File
@@ -91,7 +91,7 @@ module _ {bs : List ℕ} {v : ℕ} {c : Container} {p : Spot} {t : Record} {j m 
   abbrev pub i : ℕ
   i = placeOf c p + (8 + m)
 
-  abbrev pub bs′ : List ℕ
+  abbrev bs′ : List ℕ
   bs′ = set bs i x
 
   -- The trace's rule doesn't look at the byte, so that the byte is free.
@@ -157,7 +157,7 @@ module _ {bs : List ℕ} {v : ℕ} {c : Container} {p : Spot} {t : Record} {j m 
   -- ---- what is read at a row
 
   -- Row k's first byte.
-  abbrev at : ℕ → ℕ
+  abbrev pub at : ℕ → ℕ
   at k = startOf old k
 
   pub read-old : readFile bs ≡ ok old
