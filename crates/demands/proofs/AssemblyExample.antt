@@ -7,8 +7,8 @@ use lib.ListN.{replicate}
 use Rattle.theory.specs.Tests.{ok}
 use Rattle.note.specs.Examples.{p14}
 use Rattle.note.proofs.Computing.{computing}
-use Rattle.demands.specs.Pieces.{administrative, tlb, writtenOf, recordOf, PieceFits}
-use Rattle.demands.specs.Assembly.{FilePieces, FileFits, FileFaultless, FilePlaced}
+use Rattle.demands.specs.Pieces.{administrative, tlb, writtenOf, PieceFits}
+use Rattle.demands.specs.Assembly.{FilePieces, FileFits}
 use Rattle.demands.specs.Assembly.{recordsAssembled, containerAssembled, eventsAssembled, fileAssembled}
 
 abbrev pieces : FilePieces
@@ -30,15 +30,7 @@ pub example-assembled : fileAssembled (replicate 96 255) pieces ≡ ok (record {
 unfolding computing writtenOf recordsAssembled containerAssembled eventsAssembled fileAssembled
 example-assembled = refl
 
+-- Its pieces fit, as every law of an assembly asks; that they are without fault and where they may stand is then `granted-exactly`'s.
 pub example-fits : FileFits pieces
 unfolding PieceFits
 example-fits = record { major = omega arith; minor = omega arith; entries = tt; events = (omega arith, tt) }
-
--- What its writers and its closings ask, it has.
-pub example-faultless : FileFaultless pieces
-unfolding computing writtenOf
-example-faultless = record { entries = tt; events = (record { word = refl; records = (refl, (refl, tt)) }, tt) }
-
-pub example-placed : FilePlaced pieces
-unfolding computing recordOf
-example-placed = record { entries = tt; events = (record { some = omega arith; records = (refl, refl, (refl, refl, tt)) }, tt) }

@@ -14,7 +14,7 @@ use Rattle.note.specs.Words.{order}
 use Rattle.note.specs.Records.{Record, Context, entry, event, none, isKind, isAllowed, recordHead, recordLate, recordRule, recordStep}
 use Rattle.note.specs.Records.{readRecord, readRecords}
 use Rattle.note.specs.Events.{Container, eventHead, eventLate, readEvent, readEvents}
-use Rattle.note.specs.Files.{File, fileMark, versionRule, configurationHead, configurationLate, readHeader, readConfiguration, readParts, fileBytes}
+use Rattle.note.specs.Files.{File, fileMark, versionRule, configurationHead, configurationLate, readHeader, readConfiguration, readParts}
 use Rattle.demands.specs.Valid.{ValidRecord, ValidRecords, ValidEvent, ValidEvents}
 
 -- A record's body, by the rule of the kind that its first word names.
@@ -46,7 +46,7 @@ headerItem = twoWords order fileMark 3 versionRule (omega arith) (omega arith)
 abbrev pub parts : Whole (Unit {0}) File
 parts = pair headerItem (pair configurationItem events)
 
--- ---- the same readers and bytes
+-- ---- the same readers
 
 pub same-record : (c : Context) (at : ℕ) (bs : List ℕ) → readRecord c at bs ≡ recordItem .read c at bs
 unfolding readRecord
@@ -67,9 +67,6 @@ same-events s at bs = refl
 pub same-parts : (bs : List ℕ) → readParts bs ≡ parts .read tt 0 bs
 unfolding readParts readHeader readConfiguration readEvents readEvent readRecords readRecord
 same-parts bs = refl
-
-pub same-bytes : (f : File) → fileBytes f ≡ parts .enc f
-same-bytes f = refl
 
 -- ---- valid is what the items ask
 
