@@ -9,7 +9,6 @@ use lib.Seq.{length-take-le}
 use borrow.Author.Tests.{le-leb, lt-leb}
 use Rattle.theory.specs.Words.{Bytes}
 use Rattle.theory.specs.Tests.{Res, ok, bad, bind}
-use Rattle.theory.specs.Structures.{readStructure}
 use Rattle.theory.proofs.WordLaws.{Bytes-part}
 use Rattle.theory.proofs.TestLaws.{positive}
 use Rattle.theory.proofs.StructureLaws.{opens, length-is, inside}
@@ -17,6 +16,7 @@ use Rattle.note.specs.Words.{order, word}
 use Rattle.note.specs.Records.{Record, Context, recordsBytes, readRecord, readRecords}
 use Rattle.note.specs.Events.{Container}
 use Rattle.demands.proofs.Bundles.{records, same-records}
+use Rattle.demands.proofs.ClosingLaws.{reader}
 use Rattle.record.proofs.StepLaws.{cut}
 use Rattle.containers.specs.declared.Count.{Count}
 use Rattle.containers.specs.declared.Count.the-variants as Count
@@ -43,11 +43,8 @@ abbrev pub contentsAnswer : Context → ℕ → List ℕ → ℕ → Count
 contentsAnswer inner at bs n = recordCount (readRecords inner (at + 8) (take (8 + n - 8) (drop 8 bs)))
 
 module _ (head : Unit {0} → ℕ → ℕ) (late : Unit {0} → ℕ → ℕ → ℕ) (inner : Context) where
-  abbrev pub read : ℕ → List ℕ → Res Container
-  read at bs = readStructure order head late (λ s at bs. readRecords inner (at + 8) bs) tt at bs
-
   -- A container that was read: its length word is its contents' length, and it fits.
-  pub sized : (at : ℕ) (bs : List ℕ) (c : Container) → Bytes bs → read at bs ≡ ok c
+  pub sized : (at : ℕ) (bs : List ℕ) (c : Container) → Bytes bs → reader head late inner tt at bs ≡ ok c
       → (length (recordsBytes (c .body)) ≡ word 4 bs) × (8 + word 4 bs ≤ length bs)
   unfolding readRecords readRecord
   sized at bs c h q = (
@@ -57,22 +54,22 @@ module _ (head : Unit {0} → ℕ → ℕ) (late : Unit {0} → ℕ → ℕ → 
 
   -- Each test of the two words that fails is the refusal; the tests before it have passed.
   module _ (at : ℕ) (bs : List ℕ) where
-    pub short : length bs < 8 → Bad 2 at ≡ containerStep (read at bs)
+    pub short : length bs < 8 → Bad 2 at ≡ containerStep (reader head late inner tt at bs)
     unfolding containerStep
     short h = rw (lt-leb 8 (length bs) h)
 
     module _ (h : 8 ≤ length bs) where
-      pub fault : (c : ℕ) → c ≡ head tt (word 0 bs) → (c ≡ 0 → ⊥) → Bad c at ≡ containerStep (read at bs)
+      pub fault : (c : ℕ) → c ≡ head tt (word 0 bs) → (c ≡ 0 → ⊥) → Bad c at ≡ containerStep (reader head late inner tt at bs)
       unfolding containerStep
       fault c ec z = rw (← ec, le-leb 8 (length bs) h, positive c z)
 
       module _ (z : head tt (word 0 bs) ≡ 0) (n : ℕ) (en : n ≡ word 4 bs) where
-        pub long : length bs - 8 < n → Bad 2 at ≡ containerStep (read at bs)
+        pub long : length bs - 8 < n → Bad 2 at ≡ containerStep (reader head late inner tt at bs)
         unfolding containerStep
         long l = rw (← en, le-leb 8 (length bs) h, z, lt-leb (8 + n) (length bs) (omega arith))
 
         pub late-fault : n ≤ length bs - 8 → (m : ℕ) → m ≡ late tt (word 0 bs) n → (m ≡ 0 → ⊥)
-            → Bad m at ≡ containerStep (read at bs)
+            → Bad m at ≡ containerStep (reader head late inner tt at bs)
         unfolding containerStep
         late-fault l m em y = rw (← en, le-leb 8 (length bs) h, z, le-leb (8 + n) (length bs) (omega arith), ← em, positive m y)
 
@@ -90,7 +87,7 @@ pub record Begun (head : Unit {0} → ℕ → ℕ) (late : Unit {0} → ℕ → 
 module _ {head : Unit {0} → ℕ → ℕ} {late : Unit {0} → ℕ → ℕ → ℕ} {bs : List ℕ} {k n : ℕ}
     (b : Begun head late bs k n) (inner : Context) (at : ℕ) where
   begun-reads : (r : Res (List Record)) → readRecords inner (at + 8) (take (8 + n - 8) (drop 8 bs)) ≡ r
-      → read head late inner at bs ≡ bind {B = Container} r (λ xs. ok (record { kind = k; body = xs }))
+      → reader head late inner tt at bs ≡ bind {B = Container} r (λ xs. ok (record { kind = k; body = xs }))
   begun-reads r e =
       let same : readRecords inner (at + 8) (take n (drop 8 bs)) ≡ r = ap (readRecords inner (at + 8)) (sym (cut n bs)) ∙ e in
       rw (
@@ -103,11 +100,11 @@ module _ {head : Unit {0} → ℕ → ℕ} {late : Unit {0} → ℕ → ℕ → 
         ← b .kind-is,
       )
 
-  pub contents-fault : (x p : ℕ) → Count.Bad x p ≡ contentsAnswer inner at bs n → Bad x p ≡ containerStep (read head late inner at bs)
+  pub contents-fault : (x p : ℕ) → Count.Bad x p ≡ contentsAnswer inner at bs n → Bad x p ≡ containerStep (reader head late inner tt at bs)
   unfolding containerStep
   contents-fault x p e = rw (begun-reads (bad x p) (count-bad _ x p e))
 
-  pub held : (m : ℕ) → Count.Good m ≡ contentsAnswer inner at bs n → Good k n m ≡ containerStep (read head late inner at bs)
+  pub held : (m : ℕ) → Count.Good m ≡ contentsAnswer inner at bs n → Good k n m ≡ containerStep (reader head late inner tt at bs)
   unfolding containerStep
   held m e =
       let contents : List ℕ = take n (drop 8 bs) in

@@ -31,6 +31,7 @@ use Rattle.demands.proofs.OutputLaws.{structure-apart, laid-from, put-l
 -- ---- any container
 
 module _ (head : Unit {0} → ℕ → ℕ) (late : Unit {0} → ℕ → ℕ → ℕ) (c : Context) where
+  -- The container's reader, its tests of its own words being these and its records read in the context c.
   abbrev pub reader : Unit {0} → ℕ → List ℕ → Res Container
   reader = readStructure order head late (λ s at bs. readRecords c (at + 8) bs)
 
