@@ -5,14 +5,14 @@ use mathlib.Core.Path.{_≡_, refl, sym, ap, subst, _∙_}
 use mathlib.Core.List.{List, [], _∷_}
 use native.Mathlib.Omega.{arith}
 use lib.ListN.{length, take, drop, length-drop}
-use lib.Seq.{drop-drop, length-take-le}
+use lib.Seq.{drop-drop, length-take-le, take-nil}
 use borrow.Author.Tests.{le-leb, lt-leb, ne-eqb}
-use Rattle.theory.proofs.TestLaws.{first-at, equal-passed, most-passed}
 use Rattle.note.specs.Words.{word}
-use Rattle.note.specs.Trace.{traceTests, samplesRule, countFault, traceRule, traceOf, sampleIn}
-use Rattle.note.specs.Records.{recordRule, kindOf}
+use Rattle.note.specs.Trace.{traceOf, sampleIn}
+use Rattle.note.specs.Records.{kindOf}
 use Rattle.note.specs.Answers.{accepted, refused, counts}
 use Rattle.note.specs.Calls.{recordFound, samplesPart, samplesAt, sampleAt}
+use Rattle.note.proofs.TraceLaws.{trace-length}
 use Rattle.record.specs.declared.Step.{Step}
 use Rattle.record.specs.declared.Step.the-variants.{Bad}
 use Rattle.record.specs.Steps.{stepOf}
@@ -20,34 +20,13 @@ use Rattle.record.proofs.StepLaws.{step-bad}
 use Rattle.answers.specs.Bodies.{bodyAt}
 use Rattle.answers.proofs.FoundLaws.{Found}
 
-take-none : (n : ℕ) → take {A = ℕ} n [] ≡ []
-take-none zero = refl
-take-none (suc n) = refl
-
 drop-take : (a n : ℕ) (xs : List ℕ) → drop a (take n xs) ≡ take (n - a) (drop a xs)
 drop-take zero n xs = let e : n ≡ n - 0 = omega arith in ap (λ (m : ℕ). take m xs) e
 drop-take (suc a) zero xs = let e : 0 ≡ 0 - suc a = omega arith in ap (λ (m : ℕ). take m (drop (suc a) xs)) e
-drop-take (suc a) (suc n) [] = sym (take-none (suc n - suc a))
+drop-take (suc a) (suc n) [] = sym (take-nil (suc n - suc a))
 drop-take (suc a) (suc n) (x ∷ xs) =
     let e : n - a ≡ suc n - suc a = omega arith in
     drop-take a n xs ∙ ap (λ (m : ℕ). take m (drop a xs)) e
-
-module _ (b : List ℕ) (e : recordRule 0x11 b ≡ 0) where
-  trace-follows : traceRule b ≡ 0
-  unfolding kindOf
-  trace-follows = e
-
-  trace-length : length b ≡ 48 + 2 * word 44 b
-  unfolding traceRule
-  trace-length = equal-passed (length b) (48 + 2 * word 44 b) 5 (first-at (traceTests b) trace-follows 4)
-
-  count-some : 2 ≤ word 44 b
-  unfolding traceRule samplesRule countFault
-  count-some = most-passed 2 (word 44 b) 10 (first-at _ (first-at _ (first-at (traceTests b) trace-follows 3) 1) 1)
-
-  count-even : word 44 b % 2 ≡ 0
-  unfolding traceRule samplesRule countFault
-  count-even = equal-passed (word 44 b % 2) 0 10 (first-at _ (first-at _ (first-at (traceTests b) trace-follows 3) 1) 0)
 
 -- Another kind.
 module _ {bs : List ℕ} {place k n : ℕ} (g : Found bs place k n) (other : k ≡ 0x11 → ⊥) where
@@ -67,14 +46,19 @@ module _ {bs : List ℕ} {place n : ℕ} (g : Found bs place 0x11 n) where
   abbrev count : ℕ
   count = word 44 (bodyAt bs place n)
 
+  -- What its rule says of its length and of the number of its samples.
+  counted : (length (bodyAt bs place n) ≡ 48 + 2 * count) × (count % 2 ≡ 0) × (2 ≤ count) × (count ≤ 32768)
+  unfolding kindOf
+  counted = trace-length (bodyAt bs place n) (g .follows)
+
   pub size-of-trace : n ≡ 48 + 2 * count
-  size-of-trace = sym (g .size) ∙ trace-length (bodyAt bs place n) (g .follows)
+  size-of-trace = sym (g .size) ∙ counted .0
 
   pub long : 48 ≤ n
   long = omega (arith, size-of-trace)
 
   pub some : 0 < n - 48
-  some = omega (arith, size-of-trace, count-some (bodyAt bs place n) (g .follows))
+  some = omega (arith, size-of-trace, counted .2)
 
   pub part-found : samplesPart bs place ≡ (place + 56, n - 48)
   unfolding samplesPart
@@ -101,7 +85,7 @@ module _ {bs : List ℕ} {place n : ℕ} (g : Found bs place 0x11 n) where
       rw cut-size (length-take-le (n - 48) (drop (place + 56) bs) inside)
 
   pub whole-words : (m : ℕ) → 1 ≤ m → m ≤ (n - 48) / 2 → 4 * ((m - 1) / 2) + 4 ≤ length cut
-  whole-words m l h = rw cut-long (omega (arith, size-of-trace, count-even (bodyAt bs place n) (g .follows), h, l))
+  whole-words m l h = rw cut-long (omega (arith, size-of-trace, counted .1, h, l))
 
   part-bytes : drop 48 (bodyAt bs place n) ≡ take (n - 48) (drop (place + 56) bs)
   part-bytes =
