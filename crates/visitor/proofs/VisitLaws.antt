@@ -4,9 +4,10 @@ use mathlib.Core.Logic.{_≢_}
 use mathlib.Core.Path.{_≡_, refl, sym, ap, ap₂, _∙_, subst}
 use mathlib.Core.List.{List, [], _∷_, _++_, append-nil, append-assoc}
 use Prim.Native.Nat.{ℕ, zero, suc, _+_, _-_, _/_, _≤_, _<_}
+use native.Mathlib.Nat.{min-le-left}
 use native.Mathlib.Omega.{arith}
-use lib.ListN.{length, take, drop, length-append, take-append-drop}
-use lib.Seq.{drop-drop, take-at}
+use lib.ListN.{length, take, drop, length-append, length-take, take-append-drop}
+use lib.Seq.{drop-drop, drop-nil, take-all, take-at}
 use Rattle.theory.specs.Words.{Bytes}
 use Rattle.theory.specs.Tests.{Res, ok, bad}
 use Rattle.theory.specs.Layout.{Row, noRow}
@@ -77,16 +78,6 @@ take-one xs n r ys e l =
     let size : length front ≡ n + 1 = length-append (take n xs) (r ∷ []) ∙ ap (λ (m : ℕ). m + 1) l in
     ap (take (n + 1)) whole ∙ take-at front ys (n + 1) size
 
-take-all : (m : ℕ) (ys : List Row) → length ys ≤ m → take m ys ≡ ys
-take-all zero [] h = refl
-take-all (suc m) [] h = refl
-take-all zero (y ∷ ys) h = absurd (omega arith)
-take-all (suc m) (y ∷ ys) h = ap (λ (t : List Row). y ∷ t) (take-all m ys (omega arith))
-
-drop-none : (m : ℕ) → _≡_ {A = List Row} (drop m []) []
-drop-none zero = refl
-drop-none (suc m) = refl
-
 -- ---- passing over rows and storing them
 
 -- k rows were passed over and n stored, and the walk stands before the others.
@@ -151,7 +142,7 @@ module _ {bs : List ℕ} {rs : List Row} {first : ℕ} {old new : List ℕ} {at 
       let m : k + n + (first - k) ≡ first + n = omega (arith, i .low) in
       let gone : drop n xs ≡ [] =
       drop-drop n first rs ∙ ap (λ (q : ℕ). drop q rs) (sym m) ∙ sym (drop-drop (first - k) (k + n) rs)
-      ∙ ap (drop (first - k)) z ∙ drop-none (first - k) in
+      ∙ ap (drop (first - k)) z ∙ drop-nil (first - k) in
       let whole : take n xs ≡ xs = sym (append-nil (take n xs)) ∙ ap (λ (t : List Row). take n xs ++ t) (sym gone) ∙ take-append-drop n xs in
       let size : length xs ≡ n = ap length (sym whole) ∙ i .some in
       let all : take room xs ≡ take n xs = take-all room xs (omega (arith, size)) ∙ sym whole in
@@ -215,9 +206,7 @@ unfolding startOf
 start-refusal bs c p e = rw e
 
 length-piece : (m : ℕ) (xs : List Row) → length (take m xs) ≤ m
-length-piece zero xs = omega arith
-length-piece (suc m) [] = omega arith
-length-piece (suc m) (x ∷ xs) = omega (arith, length-piece m xs)
+length-piece m xs = omega (arith, length-take m xs, min-le-left m (length xs))
 
 module _ (bs old : List ℕ) (k : ℕ) where
   pub visit-refused : startOf bs .number ≢ 0
