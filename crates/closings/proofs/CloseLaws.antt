@@ -3,11 +3,11 @@
 use Prim.Native.Nat.{ℕ, zero, suc, _+_, _-_, _%_, _≤_}
 use mathlib.Core.Path.{_≡_, refl, sym, ap, _∙_, subst}
 use mathlib.Core.Bool.{Bool, true, false}
-use mathlib.Core.List.{List, [], _∷_, _++_}
+use mathlib.Core.List.{List, [], _∷_}
 use native.Mathlib.Omega.{arith}
-use lib.ListN.{length, take, drop}
+use lib.ListN.{length}
 use lib.Seq.{sets}
-use Rattle.theory.specs.Tests.{Res, ok, bad, need, bind, unless}
+use Rattle.theory.specs.Tests.{Res, ok, need, bind, unless}
 use Rattle.theory.proofs.WordLaws.{length-puts}
 use Rattle.theory.proofs.TestLaws.{bind-ok}
 use Rattle.note.specs.Words.{order}
@@ -20,7 +20,7 @@ use Rattle.note.specs.Writers.{configurationClosed, configurationOutput, eventC
 use Rattle.demands.proofs.ClosingLaws.{admitted}
 use Rattle.note.specs.declared.WriterAnswer.{WriterAnswer}
 use Rattle.note.specs.declared.WriterAnswer.the-variants.{Next, Refused}
-use Rattle.stores.proofs.WriterLaws.{next-told, refusal-told, kept, stored}
+use Rattle.stores.proofs.WriterLaws.{next-told, refusal-told, kept, stored, written-unasked}
 use Rattle.containers.specs.declared.Count.{Count}
 use Rattle.containers.specs.declared.Count.the-variants.{Good, Bad}
 use Rattle.containers.specs.Counts.{recordCount}
@@ -118,13 +118,6 @@ event-is : (out : List ℕ) (place end class category type : ℕ)
 unfolding closed bounded eventClosed
 event-is out place end class category type = simp need-bind
 
--- The bytes of a closing that is refused aren't asked.
-bytes-unasked : (r : Res ℕ) (out : List ℕ) (place : ℕ) (a b : List ℕ) → ((next : ℕ) → r ≡ ok next → a ≡ b)
-    → written r out place a ≡ written r out place b
-unfolding written
-bytes-unasked (ok next) out place a b h = ap (λ (x : List ℕ). take place out ++ (x ++ drop (place + length x) out)) (h next refl)
-bytes-unasked (bad c p) out place a b h = refl
-
 -- The first word of an admitted class, category and type has room for them.
 pub word-whole : (class category type : ℕ) → eventFault class category type ≡ 0
     → eventWord (class % 16) (category % 16) (type % 256) ≡ eventWord class category type
@@ -159,6 +152,6 @@ module _ (out : List ℕ) (place end class category type : ℕ) where
       let is : r ≡ eventClosed out place end class category type = event-is out place end class category type in (
         answer ∙ ap writerGiven (same ∙ is),
         output ∙ ap (λ (x : Res ℕ). written x out place (closingBytes word place end)) same
-            ∙ bytes-unasked r out place _ _ (head-is word word-is)
+            ∙ written-unasked r out place _ _ (head-is word word-is)
             ∙ ap (λ (x : Res ℕ). written x out place own-head) is,
       )

@@ -1,7 +1,7 @@
 -- A writer's answer and the output that it leaves: each way through `wrote`, and what an answer tells a writer that was given it.
 -- The idea: a writer's answer determines `wrote`, and `wrote` determines the output; no kind of structure enters.
 use Prim.Native.Nat.{ℕ, zero, suc, _+_, _-_, _≤_, _<_}
-use mathlib.Core.Path.{_≡_, refl, sym, ap, _∙_, subst}
+use mathlib.Core.Path.{_≡_, refl, sym, ap, _∙_}
 use mathlib.Core.List.{List, append-assoc}
 use native.Mathlib.Omega.{arith}
 use lib.Dec.{leb}
@@ -10,7 +10,7 @@ use lib.Seq.{sets, sets-eq}
 use borrow.Author.Tests.{le-leb, lt-leb}
 use borrow.Rule.Slice.PartMut.{putMid, midOf}
 use Rattle.theory.specs.Tests.{Res, ok, bad, need, unless}
-use Rattle.theory.proofs.TestLaws.{need-ok, most-passed}
+use Rattle.theory.proofs.TestLaws.{need-ok, most-passed, positive}
 use Rattle.note.specs.declared.WriterAnswer.{WriterAnswer}
 use Rattle.note.specs.declared.WriterAnswer.the-variants.{Next, Refused}
 use Rattle.note.specs.Limits.{fileLimit}
@@ -33,10 +33,6 @@ refusal-told (bad d q) n h = let g = sym (ap givenWriter n) ∙ h in cc
 
 -- ---- the ways through a writer's answer
 
-fault-at : (f place : ℕ) (r : Res ℕ) → (f ≡ 0 → ⊥) → bad f place ≡ need f place r
-fault-at zero place r h = absurd (h refl)
-fault-at (suc f) place r h = refl
-
 module _ (n place fault size : ℕ) where
   abbrev answer : Given
   answer = writerGiven (wrote n place fault size)
@@ -47,7 +43,7 @@ module _ (n place fault size : ℕ) where
 
   pub faulty : n ≤ fileLimit → (fault ≡ 0 → ⊥) → givenWriter (Refused fault place) ≡ answer
   unfolding wrote writerGiven givenWriter
-  faulty h e = rw (le-leb n fileLimit h) (ap writerGiven (fault-at fault place _ e))
+  faulty h e = rw (le-leb n fileLimit h, positive fault e)
 
   pub no-room : n ≤ fileLimit → fault ≡ 0 → n < place + size → givenWriter (Refused 13 place) ≡ answer
   unfolding wrote writerGiven givenWriter
@@ -58,12 +54,11 @@ module _ (n place fault size : ℕ) where
   room h e l = rw (le-leb n fileLimit h, e, le-leb (place + size) n l)
 
   -- The next place was answered: nothing stood against it.
-  pub room-told : {r : WriterAnswer} {next : ℕ} → r ≡ Next next → givenWriter r ≡ answer
-      → (n ≤ fileLimit) × (fault ≡ 0) × (place + size ≤ n)
+  room-told : {next : ℕ} → wrote n place fault size ≡ ok next → (n ≤ fileLimit) × (fault ≡ 0) × (place + size ≤ n)
   unfolding wrote
-  room-told e h =
+  room-told e =
       let fits : Res ℕ = need (unless (leb (place + size) n) 13) place (ok (place + size)) in
-      let limit = need-ok (unless (leb n fileLimit) 1) 0 (need fault place fits) (next-told (wrote n place fault size) e h) in
+      let limit = need-ok (unless (leb n fileLimit) 1) 0 (need fault place fits) e in
       let fields = need-ok fault place fits (limit .1) in
       let last = need-ok (unless (leb (place + size) n) 13) place (ok (place + size)) (fields .1) in
       (most-passed n fileLimit 0 (limit .0), fields .0, most-passed (place + size) n 12 (last .0))
@@ -82,13 +77,20 @@ module _ (out : List ℕ) (place : ℕ) (w : Res ℕ) (bytes : List ℕ) {r : Wr
   unfolding written
   stored e h l = rw (next-told w e h) (sets-eq bytes out place l ∙ append-assoc (take place out) bytes (drop (place + length bytes) out))
 
+-- What is refused isn't asked for its bytes.
+pub written-unasked : (r : Res ℕ) (out : List ℕ) (place : ℕ) (a b : List ℕ) → ((next : ℕ) → r ≡ ok next → a ≡ b)
+    → written r out place a ≡ written r out place b
+unfolding written
+written-unasked (ok next) out place a b h = ap (written (ok next) out place) (h next refl)
+written-unasked (bad c p) out place a b h = refl
+
 -- ---- one record
 
 -- Of fields with a fault, the size isn't asked.
-size-unasked : (n place fault s t : ℕ) → (fault ≡ 0 → s ≡ t) → wrote n place fault s ≡ wrote n place fault t
+size-unasked : (n place fault : ℕ) {f s t : ℕ} → fault ≡ f → (fault ≡ 0 → s ≡ t) → wrote n place fault s ≡ wrote n place f t
 unfolding wrote
-size-unasked n place zero s t h = rw (h refl)
-size-unasked n place (suc f) s t h = refl
+size-unasked n place zero e h = rw (sym e, h refl)
+size-unasked n place (suc fault) e h = rw (sym e)
 
 -- What `admitted` was asked, of a record with that fault and, where it has none, that size; and what it answered.
 pub record Admitted (out : List ℕ) (place : ℕ) (w : Written) (r : WriterAnswer) : Type 0 where
@@ -101,9 +103,7 @@ pub record Admitted (out : List ℕ) (place : ℕ) (w : Written) (r : WriterAnsw
 module _ {out : List ℕ} {place : ℕ} {w : Written} {r : WriterAnswer} (a : Admitted out place w r) where
   own : givenWriter r ≡ writerGiven (recordWrote out place w)
   unfolding recordWrote
-  own =
-      a .said ∙ ap writerGiven (size-unasked (length out) place (a .fault) (a .size) (length (w .bytes)) (λ z. sym (a .size-is z))
-      ∙ ap (λ (f : ℕ). wrote (length out) place f (length (w .bytes))) (a .fault-is))
+  own = a .said ∙ ap writerGiven (size-unasked (length out) place (a .fault) (a .fault-is) (λ z. sym (a .size-is z)))
 
   -- A refusal is the writer's own.
   pub refuses : {c p : ℕ} → r ≡ Refused c p → Wrote out place w (Refused c p) out
@@ -113,7 +113,7 @@ module _ {out : List ℕ} {place : ℕ} {w : Written} {r : WriterAnswer} (a : Ad
   -- The next place was answered: the output is within the limit, and has room for the record.
   pub has-room : {next : ℕ} → r ≡ Next next → (length out ≤ fileLimit) × (place + length (w .bytes) ≤ length out)
   has-room n =
-      let (limit, clean, room) = room-told (length out) place (a .fault) (a .size) n (a .said) in
+      let (limit, clean, room) = room-told (length out) place (a .fault) (a .size) (next-told _ n (a .said)) in
       (limit, omega (arith, room, a .size-is clean))
 
   -- The record is written where its bytes were stored from the place on, or into the rest of the output, lent on from there.
@@ -126,20 +126,15 @@ module _ {out : List ℕ} {place : ℕ} {w : Written} {r : WriterAnswer} (a : Ad
   writes n rest q = lays n (rest-stored out place (w .bytes) rest (omega (arith, has-room n .1)) q)
 
 -- Of fields with a fault, the bytes aren't asked.
-refused-either : (c f p : ℕ) (out : List ℕ) (place : ℕ) (a b : List ℕ)
-    → written (need c 0 (bad f p)) out place a ≡ written (need c 0 (bad f p)) out place b
-unfolding written
-refused-either zero f p out place a b = refl
-refused-either (suc c) f p out place a b = refl
-
 module _ (out : List ℕ) (place : ℕ) (r : WriterAnswer) (after : List ℕ) where
-  others : (fault : ℕ) (a b : List ℕ) → (fault ≡ 0 → a ≡ b)
-      → Wrote out place (record { fault = fault; bytes = a }) r after → Wrote out place (record { fault = fault; bytes = b }) r after
-  unfolding recordOutput recordWrote wrote
-  others zero a b h s = subst (λ (bytes : List ℕ). Wrote out place (record { fault = 0; bytes = bytes }) r after) (h refl) s
-  others (suc f) a b h s = (s .0, s .1 ∙ refused-either (unless (leb (length out) fileLimit) 1) (suc f) place out place a b)
-
   pub bytes-unasked : (fault : ℕ) (bytes : List ℕ) (w : Written) → fault ≡ w .fault → (fault ≡ 0 → bytes ≡ w .bytes)
       → Wrote out place (record { fault = fault; bytes = bytes }) r after → Wrote out place w r after
-  bytes-unasked fault bytes w e h s =
-      subst (λ (f : ℕ). Wrote out place (record { fault = f; bytes = w .bytes }) r after) e (others fault bytes (w .bytes) h s)
+  unfolding recordOutput recordWrote
+  bytes-unasked fault bytes w e h (answer, output) =
+      let asked : Res ℕ = wrote (length out) place fault (length bytes) in
+      let same : asked ≡ recordWrote out place w = size-unasked (length out) place fault e (λ z. ap length (h z)) in
+      let clean : (next : ℕ) → asked ≡ ok next → fault ≡ 0 = λ next g. room-told (length out) place fault (length bytes) g .1 in (
+        answer ∙ ap writerGiven same,
+        output ∙ written-unasked asked out place bytes (w .bytes) (λ next g. h (clean next g))
+            ∙ ap (λ (x : Res ℕ). written x out place (w .bytes)) same,
+      )
