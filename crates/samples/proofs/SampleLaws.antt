@@ -1,7 +1,7 @@
 -- What a trace that was found shows: how long its samples are, that they fill whole words, and Sample's answer by each test's outcome.
 -- The idea: the rule's last test makes the body 48 + 2n bytes, and n is even.
 use Prim.Native.Nat.{ℕ, zero, suc, _+_, _-_, _*_, _/_, _%_, _≤_, _<_}
-use mathlib.Core.Path.{_≡_, refl, sym, ap, subst, _∙_}
+use mathlib.Core.Path.{_≡_, sym, ap, subst, _∙_}
 use mathlib.Core.List.{List, [], _∷_}
 use native.Mathlib.Omega.{arith}
 use lib.ListN.{length, take, drop, length-drop}
