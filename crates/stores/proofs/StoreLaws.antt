@@ -33,7 +33,7 @@ in-a-row l at [] = refl
 in-a-row l at (x ∷ []) = refl
 in-a-row l at (x ∷ (y ∷ ys)) = in-a-row (sets l at x) (at + length x) (y ∷ ys) ∙ sets-append l at x (joined (y ∷ ys))
 
--- A block more of a part, a byte more, and one word more of a list of words.
+-- A block more of a part, an element more, and one word more of a list of words.
 pub block-more : (l s : List ℕ) (at i j : ℕ) → i ≤ j → j ≤ length s
     → sets (sets l at (take i s)) (at + i) (take (j - i) (drop i s)) ≡ sets l at (take j s)
 block-more l s at i j h k =
@@ -41,8 +41,8 @@ block-more l s at i j h k =
     stored-next l at (at + i) (take i s) (take (j - i) (drop i s)) (omega (arith, length-take-le i s (omega arith)))
     ∙ ap (sets l at) (sym (take-add i (j - i) s) ∙ ap (λ (m : ℕ). take m s) both)
 
-pub byte-more : (l s : List ℕ) (at i : ℕ) → i < length s → set (sets l at (take i s)) (at + i) (getD s i 0) ≡ sets l at (take (i + 1) s)
-byte-more l s at i h =
+pub one-more : (l s : List ℕ) (at i : ℕ) → i < length s → set (sets l at (take i s)) (at + i) (getD s i 0) ≡ sets l at (take (i + 1) s)
+one-more l s at i h =
     stored-next l at (at + i) (take i s) (getD s i 0 ∷ []) (omega (arith, length-take-le i s (omega arith)))
     ∙ rw (add-one, take-suc s i 0)
 

@@ -6,7 +6,7 @@ use mathlib.Core.List.{List}
 use native.Mathlib.Omega.{arith}
 use lib.ListN.{length, length-set, take, set, getD}
 use lib.Seq.{sets, take-all}
-use Rattle.stores.proofs.StoreLaws.{byte-more}
+use Rattle.stores.proofs.StoreLaws.{one-more}
 use borrow.Author.Needs.{needs}
 use Rattle.stores.proofs.put_bytes.Statement.{statement}
 use Rattle.stores.proofs.put_bytes.Tie as tie
@@ -44,7 +44,7 @@ loop-again c =
       omega arith,
       simp length-set (turn .inv .1),
       ap (λ (l : List ℕ). set l (a .at + turn .i) (getD (a .bytes .now) (turn .i) 0)) (turn .inv .2)
-          ∙ byte-more (a .out .now) (a .bytes .now) (a .at) (turn .i) (c .before .loop-test .taken),
+          ∙ one-more (a .out .now) (a .bytes .now) (a .at) (turn .i) (c .before .loop-test .taken),
     )
 
 same-length : tie.Need-same-length Inv-loop μ-loop

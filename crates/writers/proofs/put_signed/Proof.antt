@@ -10,7 +10,7 @@ use lib.IntN.{pos}
 use lib.ListN.{length, length-map, length-set, take, set, getD, List·getD-map}
 use lib.Seq.{sets, take-all}
 use Rattle.note.specs.Words.{unsigned}
-use Rattle.stores.proofs.StoreLaws.{byte-more}
+use Rattle.stores.proofs.StoreLaws.{one-more}
 use Rattle.writers.proofs.SignedLaws.{handed-on}
 use borrow.Author.Needs.{needs}
 use Rattle.writers.proofs.put_signed.Statement.{statement}
@@ -69,7 +69,7 @@ loop-again c =
       ap (λ (l : List ℕ). set l i (c .from-signed .result)) stored
           ∙ ap (set so-far i) word
           ∙ ap (λ (k : ℕ). set so-far k (getD ws i 0)) first
-          ∙ byte-more (a .ws .now) ws 0 i more,
+          ∙ one-more (a .ws .now) ws 0 i more,
     )
 
 same-length : tie.Need-same-length Inv-loop μ-loop
