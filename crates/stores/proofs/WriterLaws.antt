@@ -125,16 +125,29 @@ module _ {out : List ℕ} {place : ℕ} {w : Written} {r : WriterAnswer} (a : Ad
       → Wrote out place w (Next next) (putMid place (length out - place) out rest)
   writes n rest q = lays n (rest-stored out place (w .bytes) rest (omega (arith, has-room n .1)) q)
 
--- Of fields with a fault, the bytes aren't asked.
-module _ (out : List ℕ) (place : ℕ) (r : WriterAnswer) (after : List ℕ) where
-  pub bytes-unasked : (fault : ℕ) (bytes : List ℕ) (w : Written) → fault ≡ w .fault → (fault ≡ 0 → bytes ≡ w .bytes)
-      → Wrote out place (record { fault = fault; bytes = bytes }) r after → Wrote out place w r after
+-- A call of a writer: the output, the place, the answer and the output afterwards; the fields handed on, and those that were meant.
+pub record WriterCall : Type 0 where
+  pub out : List ℕ
+  pub place : ℕ
+  pub answer : WriterAnswer
+  pub after : List ℕ
+  pub handed : Written
+  pub meant : Written
+
+module _ (k : WriterCall) where
+  abbrev Did : Written → Type 0
+  Did w = Wrote (k .out) (k .place) w (k .answer) (k .after)
+
+  -- Of fields with a fault, the bytes aren't asked: handed on with the fault that was meant, and where this is none with the bytes that were
+  -- meant, what was meant is written. The call is found from what is known of it: `_` stands for it.
+  pub bytes-unasked : k .handed .fault ≡ k .meant .fault → (k .handed .fault ≡ 0 → k .handed .bytes ≡ k .meant .bytes)
+      → Did (k .handed) → Did (k .meant)
   unfolding recordOutput recordWrote
-  bytes-unasked fault bytes w e h (answer, output) =
-      let asked : Res ℕ = wrote (length out) place fault (length bytes) in
-      let same : asked ≡ recordWrote out place w = size-unasked (length out) place fault e (λ z. ap length (h z)) in
-      let clean : (next : ℕ) → asked ≡ ok next → fault ≡ 0 = λ next g. room-told (length out) place fault (length bytes) g .1 in (
-        answer ∙ ap writerGiven same,
-        output ∙ written-unasked asked out place bytes (w .bytes) (λ next g. h (clean next g))
-            ∙ ap (λ (x : Res ℕ). written x out place (w .bytes)) same,
+  bytes-unasked e h (told, output) =
+      let n : ℕ = length (k .out) in
+      let asked : Res ℕ = wrote n (k .place) (k .handed .fault) (length (k .handed .bytes)) in
+      let same : asked ≡ recordWrote (k .out) (k .place) (k .meant) = size-unasked n (k .place) _ e (λ z. ap length (h z)) in (
+        told ∙ ap writerGiven same,
+        output ∙ written-unasked asked (k .out) (k .place) _ (k .meant .bytes) (λ next g. h (room-told n (k .place) _ _ g .1))
+            ∙ ap (λ (x : Res ℕ). written x (k .out) (k .place) (k .meant .bytes)) same,
       )

@@ -33,7 +33,7 @@ returns : tie.Need-returns
 unfolding structured administrativeWritten administrativeBytes puts put bytes
 returns c =
     let stored = c .before .before in
-    bytes-unasked _ _ _ _ _ _ _ (stored .before .before .before .administrative-fault .ensures) (λ z. refl) (stored .write-structure .ensures)
+    bytes-unasked _ (stored .before .before .before .administrative-fault .ensures) (λ z. refl) (stored .write-structure .ensures)
 
 pub write-administrative-spec : {M : Type 1} → statement M
 write-administrative-spec =

@@ -82,7 +82,7 @@ returns c =
     let clock : ℕ → ℕ = λ s. s * 268435456 + bcd 2 (a .hour) * 65536 + bcd 2 (a .minute) * 256 + bcd 2 (a .second) in
     let clock-kept : fault .gps-fault .result ≡ 0 → tenths .before .gps-clock .result ≡ clock (a .status) =
     λ z. tenths .before .gps-clock .ensures ∙ ap clock (status-kept _ (sym (fault .gps-fault .ensures) ∙ z)) in
-    bytes-unasked _ _ _ _ _ _ _ (fault .gps-fault .ensures)
+    bytes-unasked _ (fault .gps-fault .ensures)
     (λ z. λ i. structured 0x60 ((year i * 65536 + day i) ∷ clock-kept z i ∷ tenths .eight-digits .ensures i ∷ []) [])
     (stored .write-structure .ensures)
 

@@ -33,7 +33,7 @@ returns : tie.Need-returns
 unfolding structured tlbWritten tlbBytes puts put bytes
 returns c =
     let stored = c .before .before in
-    bytes-unasked _ _ _ _ _ _ _ (stored .before .before .before .tlb-fault .ensures) (λ z. refl) (stored .write-structure .ensures)
+    bytes-unasked _ (stored .before .before .before .tlb-fault .ensures) (λ z. refl) (stored .write-structure .ensures)
 
 pub write-tlb-spec : {M : Type 1} → statement M
 write-tlb-spec =

@@ -41,7 +41,7 @@ returns c =
     let s = asked .before .before .before in
     let a = s .args in
     let t0 = handed-on (a .t0) (s .fits .t0) (time .from-signed .ensures) in
-    bytes-unasked _ _ _ _ _ _ _ (asked .trace-fault .ensures)
+    bytes-unasked _ (asked .trace-fault .ensures)
     (λ z. λ i. structured 0x11
     (0x11 ∷ 12 ∷ a .address ∷ a .channel ∷ a .code ∷ 0x12 ∷ 12 ∷ t0 i ∷ a .delta-t ∷ a .n ∷ 0x13 ∷ a .n ∷ []) (now (a .samples)))
     (stored .write-structure .ensures)
