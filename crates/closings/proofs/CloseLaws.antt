@@ -20,7 +20,7 @@ use Rattle.note.specs.Writers.{configurationClosed, configurationOutput, eventC
 use Rattle.demands.proofs.ClosingLaws.{admitted}
 use Rattle.note.specs.declared.WriterAnswer.{WriterAnswer}
 use Rattle.note.specs.declared.WriterAnswer.the-variants.{Next, Refused}
-use Rattle.stores.proofs.WriterLaws.{next-told, refusal-told, kept, stored, written-unasked}
+use Rattle.stores.proofs.WriterLaws.{next-told, refusal-told, unchanged, stored, written-unasked}
 use Rattle.containers.specs.declared.Count.{Count}
 use Rattle.containers.specs.declared.Count.the-variants.{Good, Bad}
 use Rattle.containers.specs.Counts.{recordCount}
@@ -60,7 +60,7 @@ module _ (k : Call) where
 
   -- A refusal changes no byte.
   ends-refused : (x p : ℕ) → givenWriter (Refused x p) ≡ writerGiven result → Ends (givenWriter (Refused x p)) (k .out)
-  ends-refused x p h = (h, kept (k .out) (k .place) result head {r = Refused x p} refl h)
+  ends-refused x p h = (h, unchanged (k .out) (k .place) result head {r = Refused x p} refl h)
 
   -- Over what `bounded` answered.
   module _ {r : WriterAnswer} (said : givenWriter r ≡ writerGiven first) where

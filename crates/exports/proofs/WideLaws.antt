@@ -14,13 +14,15 @@ use denote.Laws.{Is}
 use denote.Plain.{UInt, uint-vals}
 use denote.Signed.{SInt, sint-vals}
 use denote.Floats.{FloatOf, float-vals}
+use Rattle.note.proofs.SignedLaws.{unsigned-again}
 use Rattle.answers.proofs.SignedLaws.{signed-fits}
 
 pub widened : (n : ℕ) → SFits w64 (toZ w32 n)
 widened n = signed-fits w64 (omega arith) n
 
-kept : (z : ℤ) → mag z < 2 ^ hbits w32 → toZ w64 (ofZ w64 (toZ w32 (ofZ w32 z))) ≡ z
-kept z f = toZ-ofZ (widened (ofZ w32 z)) ∙ toZ-ofZ (record { sfits = f })
+-- A signed word widened is the same number, and so is a count.
+wide-again : (z : ℤ) → mag z < 2 ^ hbits w32 → toZ w64 (ofZ w64 (toZ w32 (ofZ w32 z))) ≡ z
+wide-again z f = toZ-ofZ (widened (ofZ w32 z)) ∙ unsigned-again z (record { sfits = f })
 
 counted : (n : ℕ) → n < 2 ^ bits w32 → toZ w64 n ≡ pos n
 counted n f = toZ-pos w64 (omega (arith, f))
@@ -59,7 +61,7 @@ wholes (float ∷ ss) f zs = wholes ss (f .1) zs
 
 same : (ss : List Sort) (f : Fields ss) → Held ss f → (zs : List ℤ) → stored ss f zs ≡ wholes ss f zs
 same [] f h zs = refl
-same (signed ∷ ss) f h zs = λ i. kept (f .0) (h .0 .1) i ∷ same ss (f .1) (h .1) zs i
+same (signed ∷ ss) f h zs = λ i. wide-again (f .0) (h .0 .1) i ∷ same ss (f .1) (h .1) zs i
 same (count ∷ ss) f h zs = λ i. counted (f .0) (h .0 .1) i ∷ same ss (f .1) (h .1) zs i
 same (float ∷ ss) f h zs = same ss (f .1) (h .1) zs
 

@@ -67,9 +67,9 @@ module _ (n place fault size : ℕ) where
 
 module _ (out : List ℕ) (place : ℕ) (w : Res ℕ) (bytes : List ℕ) {r : WriterAnswer} where
   -- A refusal changes no byte.
-  pub kept : {c p : ℕ} → r ≡ Refused c p → givenWriter r ≡ writerGiven w → out ≡ written w out place bytes
+  pub unchanged : {c p : ℕ} → r ≡ Refused c p → givenWriter r ≡ writerGiven w → out ≡ written w out place bytes
   unfolding written
-  kept e h = rw (refusal-told w e h)
+  unchanged e h = rw (refusal-told w e h)
 
   -- The bytes were stored from the place on.
   pub stored : {next : ℕ} → r ≡ Next next → givenWriter r ≡ writerGiven w → place + length bytes ≤ length out
@@ -108,7 +108,7 @@ module _ {out : List ℕ} {place : ℕ} {w : Written} {r : WriterAnswer} (a : Ad
   -- A refusal is the writer's own.
   pub refuses : {c p : ℕ} → r ≡ Refused c p → Wrote out place w (Refused c p) out
   unfolding recordOutput
-  refuses n = (sym (ap givenWriter n) ∙ own, kept out place (recordWrote out place w) (w .bytes) n own)
+  refuses n = (sym (ap givenWriter n) ∙ own, unchanged out place (recordWrote out place w) (w .bytes) n own)
 
   -- The next place was answered: the output is within the limit, and has room for the record.
   pub has-room : {next : ℕ} → r ≡ Next next → (length out ≤ fileLimit) × (place + length (w .bytes) ≤ length out)

@@ -4,7 +4,8 @@ use Rattle.note.specs.Writers.{chargeWritten}
 use denote.Ref.{now}
 use lib.IntN.{pos}
 use lib.ListN.{getD}
-use Rattle.writing.proofs.HandedLaws.{kept, handed}
+use Rattle.note.proofs.SignedLaws.{unsigned-again}
+use Rattle.writing.proofs.HandedLaws.{same-fields}
 use Rattle.writing.specs.Handed.{chargeFrom}
 use borrow.Author.Needs.{needs}
 use Rattle.writing.proofs.dwj_write_charge.Statement.{statement}
@@ -61,16 +62,16 @@ returns c =
     let at0 = at1 .before in
     let s = at0 .before .before .before in
     let zs = now (s .args .fields) in
-    let w = handed chargeWritten (now (s .args .out)) (s .args .place)
+    let w = same-fields chargeWritten (now (s .args .out)) (s .args .place)
     (λ i. record {
-      code = kept (getD zs 0 (pos 0)) (at0 .write-charge-arg2 .given) i;
-      tower = kept (getD zs 1 (pos 0)) (at1 .write-charge-arg3 .given) i;
-      gain = kept (getD zs 2 (pos 0)) (at2 .write-charge-arg4 .given) i;
-      bias = kept (getD zs 3 (pos 0)) (at3 .write-charge-arg5 .given) i;
-      rtfOffset = kept (getD zs 4 (pos 0)) (at4 .write-charge-arg6 .given) i;
-      deltaT = kept (getD zs 5 (pos 0)) (at5 .write-charge-arg7 .given) i;
-      t0 = kept (getD zs 6 (pos 0)) (at6 .write-charge-arg8 .given) i;
-      traceLength = kept (getD zs 7 (pos 0)) (at7 .write-charge-arg9 .given) i;
+      code = unsigned-again (getD zs 0 (pos 0)) (record { sfits = at0 .write-charge-arg2 .given }) i;
+      tower = unsigned-again (getD zs 1 (pos 0)) (record { sfits = at1 .write-charge-arg3 .given }) i;
+      gain = unsigned-again (getD zs 2 (pos 0)) (record { sfits = at2 .write-charge-arg4 .given }) i;
+      bias = unsigned-again (getD zs 3 (pos 0)) (record { sfits = at3 .write-charge-arg5 .given }) i;
+      rtfOffset = unsigned-again (getD zs 4 (pos 0)) (record { sfits = at4 .write-charge-arg6 .given }) i;
+      deltaT = unsigned-again (getD zs 5 (pos 0)) (record { sfits = at5 .write-charge-arg7 .given }) i;
+      t0 = unsigned-again (getD zs 6 (pos 0)) (record { sfits = at6 .write-charge-arg8 .given }) i;
+      traceLength = unsigned-again (getD zs 7 (pos 0)) (record { sfits = at7 .write-charge-arg9 .given }) i;
     }) (written .write-charge .ensures) in
     (c .told .ensures _ (w .0), w .1)
 

@@ -4,7 +4,8 @@ use Rattle.note.specs.Writers.{phononWritten}
 use denote.Ref.{now}
 use lib.IntN.{pos}
 use lib.ListN.{getD}
-use Rattle.writing.proofs.HandedLaws.{kept, handed}
+use Rattle.note.proofs.SignedLaws.{unsigned-again}
+use Rattle.writing.proofs.HandedLaws.{same-fields}
 use Rattle.writing.specs.Handed.{phononFrom}
 use borrow.Author.Needs.{needs}
 use Rattle.writing.proofs.dwj_write_phonon.Statement.{statement}
@@ -73,19 +74,19 @@ returns c =
     let at0 = at1 .before in
     let s = at0 .before .before .before in
     let zs = now (s .args .fields) in
-    let w = handed phononWritten (now (s .args .out)) (s .args .place)
+    let w = same-fields phononWritten (now (s .args .out)) (s .args .place)
     (λ i. record {
-      code = kept (getD zs 0 (pos 0)) (at0 .write-phonon-arg2 .given) i;
-      tower = kept (getD zs 1 (pos 0)) (at1 .write-phonon-arg3 .given) i;
-      gain = kept (getD zs 2 (pos 0)) (at2 .write-phonon-arg4 .given) i;
-      qetBias = kept (getD zs 3 (pos 0)) (at3 .write-phonon-arg5 .given) i;
-      squidBias = kept (getD zs 4 (pos 0)) (at4 .write-phonon-arg6 .given) i;
-      lockpoint = kept (getD zs 5 (pos 0)) (at5 .write-phonon-arg7 .given) i;
-      rtfOffset = kept (getD zs 6 (pos 0)) (at6 .write-phonon-arg8 .given) i;
-      variableGain = kept (getD zs 7 (pos 0)) (at7 .write-phonon-arg9 .given) i;
-      deltaT = kept (getD zs 8 (pos 0)) (at8 .write-phonon-arg10 .given) i;
-      t0 = kept (getD zs 9 (pos 0)) (at9 .write-phonon-arg11 .given) i;
-      traceLength = kept (getD zs 10 (pos 0)) (at10 .write-phonon-arg12 .given) i;
+      code = unsigned-again (getD zs 0 (pos 0)) (record { sfits = at0 .write-phonon-arg2 .given }) i;
+      tower = unsigned-again (getD zs 1 (pos 0)) (record { sfits = at1 .write-phonon-arg3 .given }) i;
+      gain = unsigned-again (getD zs 2 (pos 0)) (record { sfits = at2 .write-phonon-arg4 .given }) i;
+      qetBias = unsigned-again (getD zs 3 (pos 0)) (record { sfits = at3 .write-phonon-arg5 .given }) i;
+      squidBias = unsigned-again (getD zs 4 (pos 0)) (record { sfits = at4 .write-phonon-arg6 .given }) i;
+      lockpoint = unsigned-again (getD zs 5 (pos 0)) (record { sfits = at5 .write-phonon-arg7 .given }) i;
+      rtfOffset = unsigned-again (getD zs 6 (pos 0)) (record { sfits = at6 .write-phonon-arg8 .given }) i;
+      variableGain = unsigned-again (getD zs 7 (pos 0)) (record { sfits = at7 .write-phonon-arg9 .given }) i;
+      deltaT = unsigned-again (getD zs 8 (pos 0)) (record { sfits = at8 .write-phonon-arg10 .given }) i;
+      t0 = unsigned-again (getD zs 9 (pos 0)) (record { sfits = at9 .write-phonon-arg11 .given }) i;
+      traceLength = unsigned-again (getD zs 10 (pos 0)) (record { sfits = at10 .write-phonon-arg12 .given }) i;
     }) (written .write-phonon .ensures) in
     (c .told .ensures _ (w .0), w .1)
 
