@@ -58,7 +58,6 @@ module _ (n place end fault least : ℕ) where
   -- What is known where nothing stood against the closing.
   pub record Bounds (next : ℕ) : Type 0 where
     pub room : HasRoom n place end
-    pub wide : place + 8 ≤ end
     pub clean : fault ≡ 0
     pub is : end ≡ next
 
@@ -68,4 +67,4 @@ module _ (n place end fault least : ℕ) where
       let (room, e1) = within-ok n place end _ next e in
       let (f, e2) = need-ok fault place _ e1 in
       let (m, e3) = need-ok (unless (leb (place + (8 + least)) end) 9) place _ e2 in
-      record { room = room; wide = room .0; clean = f; is = ok-inj e3 }
+      record { room = room; clean = f; is = ok-inj e3 }

@@ -86,7 +86,7 @@ module _ (k : Call) where
     shuts {next} {m} n e good-is shut =
         let own : givenWriter (Next next) ≡ writerGiven result = rw (next-told first n said, count-good contents m (sym good-is ∙ e) .1) in
         let size : length head ≡ 8 = length-puts order 4 (k .word ∷ (k .end - (k .place + 8)) ∷ []) in
-        let fits : k .place + length head ≤ length (k .out) = omega (arith, size, told n .room, told n .wide) in
+        let fits : k .place + length head ≤ length (k .out) = omega (arith, size, told n .room) in
         (own, shut ∙ stored (k .out) (k .place) result head {r = Next next} refl own fits)
 
 -- ---- the two containers
