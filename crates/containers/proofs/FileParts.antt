@@ -2,7 +2,7 @@
 -- The idea: an accepted file is its tree's bytes, so what lies behind its header and its two words is what its parts write.
 use mathlib.Core.Path.{_≡_, refl, sym, ap, ap₂, _∙_, subst}
 use mathlib.Core.List.{List, _++_, append-assoc}
-use Prim.Native.Nat.{ℕ, _+_, _-_, _≤_}
+use Prim.Native.Nat.{ℕ, _+_, _≤_}
 use native.Mathlib.Omega.{arith}
 use lib.ListN.{length, take, drop}
 use lib.Seq.{take-at, drop-at, drop-drop}
@@ -21,7 +21,7 @@ use Rattle.demands.proofs.Follows.{file-sound}
 use Rattle.demands.proofs.RowLaws.{file-length}
 use Rattle.containers.specs.declared.Count.the-variants.{Good, Bad}
 use Rattle.containers.specs.Counts.{rowsOfEvents, fileRows}
-use Rattle.containers.proofs.RecordLoop.{left}
+use Rattle.containers.proofs.RecordLoop.{behindOf, left}
 use Rattle.containers.proofs.ContainerLaws.{counted}
 
 -- What check's answer says of the file.
@@ -91,13 +91,13 @@ module _ (bs : List ℕ) (f : File) (h : Bytes bs) (e : readFile bs ≡ ok f) wh
       ∙ records .complete entry 16 (conf .body) (records-ok entry (conf .body) (sound .1 .entries-valid))
 
   -- The events, from the place q on.
-  events-part : (q : ℕ) → q ≡ 16 + word 12 bs → take (length bs - q) (drop q bs) ≡ eventsBytes es
+  events-part : (q : ℕ) → q ≡ 16 + word 12 bs → behindOf q bs ≡ eventsBytes es
   events-part q eq =
       let k : q ≡ 16 + n = omega (arith, eq, length-is) in
       sym (left q bs) ∙ ap (λ (x : ℕ). drop x bs) k ∙ sym (drop-drop n 16 bs) ∙ ap (drop n) behind-words
       ∙ drop-at (recordsBytes (conf .body)) (eventsBytes es) n refl
 
-  pub events-read : (q : ℕ) → q ≡ 16 + word 12 bs → readEvents tt q (take (length bs - q) (drop q bs)) ≡ ok es
+  pub events-read : (q : ℕ) → q ≡ 16 + word 12 bs → readEvents tt q (behindOf q bs) ≡ ok es
   events-read q eq =
       ap (readEvents tt q) (events-part q eq) ∙ same-events tt q (eventsBytes es)
       ∙ events .complete tt q es (events-ok es (sound .1 .events-valid))

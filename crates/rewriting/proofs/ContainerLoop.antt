@@ -22,6 +22,7 @@ use Rattle.note.specs.Writers.{closingBytes}
 use Rattle.demands.specs.Outputs.{Laid, HasRoom}
 use Rattle.demands.proofs.Bundles.{records, eventItem, same-records}
 use Rattle.record.proofs.StepLaws.{cut}
+use Rattle.containers.proofs.RecordLoop.{behindOf}
 use Rattle.rewriting.specs.Ready.{containerHead, containerLate, contentsIn, readContainer, readContainers, Begins, RecordsReady, Stands}
 use Rattle.rewriting.proofs.CopyLoop as loop
 use Rattle.rewriting.proofs.CopyLoop.{Copying, Found, here, next}
@@ -118,7 +119,7 @@ module _ {old : List ℕ} {place : ℕ} {part out rest : List ℕ} {at w m : ℕ
     )
 
     pub container-next : (new : List ℕ) → Stands inner mid (at + 8) new
-        → Copying containerItem old place part new (take (length rest - (8 + m)) (drop (8 + m) rest)) (at + (8 + m))
+        → Copying containerItem old place part new (behindOf (8 + m) rest) (at + (8 + m))
     unfolding item
     container-next new stands =
         let written = length-is order containerHead containerLate contents (i .state) at rest own (i .bytes) (reads i (f .more)) in

@@ -2,9 +2,9 @@
 -- The idea: the part is what was written and what is left; what is left is read as items, so the next one is its own bytes.
 use mathlib.Core.Path.{_≡_, refl, sym, ap, ap₂, _∙_, subst}
 use mathlib.Core.List.{List, [], _∷_, _++_, append-assoc, append-nil}
-use Prim.Native.Nat.{ℕ, _+_, _-_, _≤_, _<_}
+use Prim.Native.Nat.{ℕ, _+_, _≤_, _<_}
 use native.Mathlib.Omega.{arith}
-use lib.ListN.{length, take, drop, length-append}
+use lib.ListN.{length, drop, length-append}
 use Rattle.theory.specs.Words.{Bytes}
 use Rattle.theory.specs.Tests.{Res, ok}
 use Rattle.theory.proofs.Items.{Item}
@@ -13,7 +13,7 @@ use Rattle.note.specs.Limits.{fileLimit}
 use Rattle.note.specs.Words.{word}
 use Rattle.demands.specs.Outputs.{Laid}
 use Rattle.demands.proofs.OutputLaws.{none-laid, both-laid}
-use Rattle.containers.proofs.RecordLoop.{left, Bytes-behind}
+use Rattle.containers.proofs.RecordLoop.{behindOf, left, Bytes-behind}
 use Rattle.rewriting.specs.Ready.{Ready, Stands}
 
 empty : (bs : List ℕ) → length bs ≤ 0 → bs ≡ []
@@ -81,13 +81,13 @@ module _ {S A : Type 0} (F : Item S A) where
 
       -- It was written too.
       pub next : (n : ℕ) → F .size (here .item) ≡ n → (new : List ℕ) → Laid out new at (at + n) (F .enc (here .item))
-          → Copying old place part new (take (length rest - n) (drop n rest)) (at + n)
+          → Copying old place part new (behindOf n rest) (at + n)
       next n en new m =
           let item : A = here .item in
           let more : List ℕ = F .enc item in
-          let behind : take (length rest - n) (drop n rest) ≡ drop (F .size item) rest =
+          let behind : behindOf n rest ≡ drop (F .size item) rest =
           sym (left n rest) ∙ ap (λ (k : ℕ). drop k rest) (sym en) in
-          let parts : rest ≡ more ++ take (length rest - n) (drop n rest) = own ∙ ap (λ (x : List ℕ). more ++ x) (sym behind) in
+          let parts : rest ≡ more ++ behindOf n rest = own ∙ ap (λ (x : List ℕ). more ++ x) (sym behind) in
           record {
             front = i .front ++ more;
             splits = i .splits ∙ ap (λ (x : List ℕ). i .front ++ x) parts ∙ sym (append-assoc (i .front) more _);

@@ -5,7 +5,7 @@ use mathlib.Core.Bool.{true}
 use mathlib.Core.List.{List, _∷_, _++_}
 use Prim.Native.Nat.{ℕ, _+_, _-_, _/_, _%_, _≤_}
 use native.Mathlib.Omega.{arith}
-use lib.ListN.{length, take, drop}
+use lib.ListN.{length}
 use borrow.Author.Tests.{le-leb}
 use Rattle.theory.specs.Words.{Bytes}
 use Rattle.theory.specs.Tests.{ok}
@@ -24,7 +24,7 @@ use Rattle.demands.proofs.Bundles.{records-ok, events-ok}
 use Rattle.demands.proofs.Follows.{file-sound}
 use Rattle.demands.proofs.OutputLaws.{both-laid}
 use Rattle.demands.proofs.WriterLaws.{header-laid}
-use Rattle.containers.proofs.RecordLoop.{left, length-behind}
+use Rattle.containers.proofs.RecordLoop.{behindOf, left, length-behind}
 use Rattle.containers.proofs.FileParts.{version-is, room, behind-header}
 use Rattle.rewriting.specs.Ready.{readContainers, ContainersReady, FileReady, Stands}
 use Rattle.rewriting.proofs.ContainerLoop.{containerItem, same-containers, events-are}
@@ -62,7 +62,7 @@ module _ (bs old : List ℕ) (h : Bytes bs) (r : FileReady bs (length old)) wher
 
   -- The containers behind it.
   abbrev behind : List ℕ
-  behind = take (length bs - 8) (drop 8 bs)
+  behind = behindOf 8 bs
 
   behind-is : behind ≡ containerBytes conf ++ eventsBytes (eventsOf tree)
   behind-is = sym (left 8 bs) ∙ behind-header bs tree h (r .reads)

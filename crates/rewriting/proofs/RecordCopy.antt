@@ -13,6 +13,7 @@ use Rattle.note.proofs.KindCases.{kind-cases}
 use Rattle.demands.specs.Outputs.{Laid}
 use Rattle.demands.proofs.Bundles.{recordItem, same-record}
 use Rattle.record.proofs.StepLaws.{Read, read-shows, cut}
+use Rattle.containers.proofs.RecordLoop.{behindOf}
 use Rattle.copies.specs.Copying.{Copyable, Copied}
 use Rattle.rewriting.proofs.CopyLoop.{Copying, Found, inside, here, next}
 
@@ -69,7 +70,7 @@ module _ {old : List ℕ} {place : ℕ} {part out rest : List ℕ} {at k m : ℕ
   }
 
   pub copied-next : (new : List ℕ) → Copied (kindOf k) cutBody out at new
-      → Copying recordItem old place part new (take (length rest - (8 + m)) (drop (8 + m) rest)) (at + (8 + m))
+      → Copying recordItem old place part new (behindOf (8 + m) rest) (at + (8 + m))
   copied-next new h =
       let item : Record = here recordItem i (f .more) .item in
       let own : Record = record { kind = kindOf k .word; body = cutBody } in
