@@ -17,7 +17,7 @@ use Rattle.note.specs.Records.{Record, Context, recordsBytes, readRecord, readR
 use Rattle.note.specs.Events.{Container}
 use Rattle.demands.proofs.Bundles.{records, same-records}
 use Rattle.demands.proofs.ClosingLaws.{reader}
-use Rattle.record.proofs.StepLaws.{cut}
+use Rattle.record.proofs.StepLaws.{cutBody, cut}
 use Rattle.containers.specs.declared.Count.{Count}
 use Rattle.containers.specs.declared.Count.the-variants as Count
 use Rattle.containers.specs.declared.Holding.the-variants.{Good, Bad}
@@ -40,7 +40,7 @@ count-bad (bad c′ p′) c p e = cc
 
 -- What the records' reader answers of a container's contents, as code cuts them: n bytes behind the two words, in the context inner.
 abbrev pub contentsAnswer : Context → ℕ → List ℕ → ℕ → Count
-contentsAnswer inner at bs n = recordCount (readRecords inner (at + 8) (take (8 + n - 8) (drop 8 bs)))
+contentsAnswer inner at bs n = recordCount (readRecords inner (at + 8) (cutBody n bs))
 
 module _ (head : Unit {0} → ℕ → ℕ) (late : Unit {0} → ℕ → ℕ → ℕ) (inner : Context) where
   -- A container that was read: its length word is its contents' length, and it fits.
@@ -86,7 +86,7 @@ pub record Begun (head : Unit {0} → ℕ → ℕ) (late : Unit {0} → ℕ → 
 -- The container is then what its contents are read as.
 module _ {head : Unit {0} → ℕ → ℕ} {late : Unit {0} → ℕ → ℕ → ℕ} {bs : List ℕ} {k n : ℕ}
     (b : Begun head late bs k n) (inner : Context) (at : ℕ) where
-  begun-reads : (r : Res (List Record)) → readRecords inner (at + 8) (take (8 + n - 8) (drop 8 bs)) ≡ r
+  begun-reads : (r : Res (List Record)) → readRecords inner (at + 8) (cutBody n bs) ≡ r
       → reader head late inner tt at bs ≡ bind {B = Container} r (λ xs. ok (record { kind = k; body = xs }))
   begun-reads r e =
       let same : readRecords inner (at + 8) (take n (drop 8 bs)) ≡ r = ap (readRecords inner (at + 8)) (sym (cut n bs)) ∙ e in
@@ -108,7 +108,7 @@ module _ {head : Unit {0} → ℕ → ℕ} {late : Unit {0} → ℕ → ℕ → 
   unfolding containerStep
   held m e =
       let contents : List ℕ = take n (drop 8 bs) in
-      let (xs, q, size) = count-good (readRecords inner (at + 8) (take (8 + n - 8) (drop 8 bs))) m e in
+      let (xs, q, size) = count-good (readRecords inner (at + 8) (cutBody n bs)) m e in
       let r : records .read inner (at + 8) contents ≡ ok xs =
       sym (same-records inner (at + 8) contents) ∙ ap (readRecords inner (at + 8)) (sym (cut n bs)) ∙ q in
       let by : Bytes contents = Bytes-part n 8 bs (b .bytes) in

@@ -2,7 +2,7 @@
 -- The idea: the theory's loop over items, for the note's event item; an event's length word is its contents' length.
 use mathlib.Core.Path.{_≡_, refl, sym, ap, _∙_, subst}
 use mathlib.Core.List.{List, [], _∷_, _++_}
-use Prim.Native.Nat.{ℕ, _+_, _-_, _≤_, _<_}
+use Prim.Native.Nat.{ℕ, _+_, _≤_, _<_}
 use native.Mathlib.Omega.{arith}
 use lib.ListN.{length, take, drop, length-append}
 use Rattle.theory.specs.Words.{Bytes}
@@ -13,7 +13,7 @@ use Rattle.note.specs.Words.{order, word}
 use Rattle.note.specs.Records.{Record, event, none, recordBytes, recordsBytes, readRecords}
 use Rattle.note.specs.Events.{Container, containerSize, eventHead, eventLate, readEvent, readEvents}
 use Rattle.demands.proofs.Bundles.{records, eventItem, same-records, same-event, same-events}
-use Rattle.record.proofs.StepLaws.{cut}
+use Rattle.record.proofs.StepLaws.{cutBody, cut}
 use Rattle.containers.specs.declared.Count.the-variants as Count
 use Rattle.containers.specs.declared.Holding.{Holding}
 use Rattle.containers.specs.declared.Holding.the-variants.{Good, Bad}
@@ -43,7 +43,7 @@ pub record Shown (at : ℕ) (rest : List ℕ) (e : Container) : Type 0 where
   pub kind-is : e .kind ≡ word 0 rest
   pub size : length (recordsBytes (e .body)) ≡ word 4 rest
   pub fits : 8 + word 4 rest ≤ length rest
-  pub contents : readRecords (event none) (at + 8) (take (8 + word 4 rest - 8) (drop 8 rest)) ≡ ok (e .body)
+  pub contents : readRecords (event none) (at + 8) (cutBody (word 4 rest) rest) ≡ ok (e .body)
 
 pub event-shows : (at : ℕ) (rest : List ℕ) (e : Container) → Bytes rest → eventItem .read tt at rest ≡ ok e → Shown at rest e
 event-shows at rest e h r =

@@ -8,12 +8,11 @@ use Prim.Native.Nat.{ℕ, _+_, _-_, _≤_, _<_}
 use native.Mathlib.Decide.{ℕ-discrete}
 use native.Mathlib.Omega.{arith}
 use lib.Dec.{eqb}
-use lib.ListN.{length, take, drop, length-drop}
-use lib.Seq.{length-take-le}
+use lib.ListN.{length, take, drop}
 use borrow.Author.Tests.{eq-eqb, ne-eqb}
 use Rattle.theory.specs.Words.{Bytes}
 use Rattle.theory.specs.Tests.{Res, ok}
-use Rattle.theory.proofs.WordLaws.{Bytes-part, word-of-part}
+use Rattle.theory.proofs.WordLaws.{word-of-part}
 use Rattle.theory.proofs.TestLaws.{ok-inj}
 use Rattle.theory.proofs.LoopLaws.{Ahead, ahead}
 use Rattle.note.specs.Limits.{fileLimit}
@@ -27,7 +26,7 @@ use Rattle.demands.specs.Valid.{ValidRecord, ValidEvent}
 use Rattle.demands.proofs.Bundles.{recordItem, eventItem, same-record, same-records, same-events, record-valid, event-valid}
 use Rattle.demands.proofs.EventLaws.{first-administrative}
 use Rattle.rules.proofs.LengthLaws.{long-enough}
-use Rattle.record.proofs.StepLaws.{Read, read-shows, cut}
+use Rattle.record.proofs.StepLaws.{Read, read-shows, cutBody, cut-length, cut-bytes}
 use Rattle.containers.proofs.RecordLoop.{recordAt, behindOf, left, length-behind, Bytes-behind}
 use Rattle.containers.proofs.EventLoop.{Shown, event-shows}
 use Rattle.find.specs.Search.{Searchable, tracesRead}
@@ -199,13 +198,13 @@ module _ {number code : ℕ} {answer : List ℕ} {at : ℕ} {bs : List ℕ} (i :
 
     -- its records' part, as code cuts it
     abbrev inner : List ℕ
-    inner = take (8 + word 4 bs - 8) (drop 8 bs)
+    inner = cutBody (word 4 bs) bs
 
     inner-length : length inner ≡ word 4 bs
-    inner-length = ap length (cut (word 4 bs) bs) ∙ length-take-le (word 4 bs) (drop 8 bs) (omega (arith, length-drop 8 bs, event-fits))
+    inner-length = cut-length (word 4 bs) bs event-fits
 
     inner-bytes : Bytes inner
-    inner-bytes = Bytes-part (8 + word 4 bs - 8) 8 bs (i .bytes)
+    inner-bytes = cut-bytes (word 4 bs) bs (i .bytes)
 
     -- its first record, which is administrative
     inner-front : Ahead recordItem (event none) (at + 8) inner (front-event .item .body)
@@ -267,11 +266,11 @@ module _ {number code : ℕ} {answer : List ℕ} {at : ℕ} {bs : List ℕ} (i :
 
     -- into an event of the number
     pub into : (m : ℕ) → m ≡ word 4 bs → word 24 bs ≡ number
-        → Looking number code answer (at + (8 + m)) (laterTraces (8 + m) at bs) (at + 8) (take (8 + m - 8) (drop 8 bs))
+        → Looking number code answer (at + (8 + m)) (laterTraces (8 + m) at bs) (at + 8) (cutBody m bs)
     into m em same =
         let rs : List Record = front-event .item .body in
         let later : List TraceAt = laterTraces (8 + word 4 bs) at bs in
-        subst (λ (x : ℕ). Looking number code answer (at + (8 + x)) (laterTraces (8 + x) at bs) (at + 8) (take (8 + x - 8) (drop 8 bs))) (sym em)
+        subst (λ (x : ℕ). Looking number code answer (at + (8 + x)) (laterTraces (8 + x) at bs) (at + 8) (cutBody x bs)) (sym em)
         (record {
           state = event none;
           rs = rs;

@@ -8,7 +8,9 @@ use native.Mathlib.Omega.{arith}
 use lib.ListN.{length, take, drop, length-drop}
 use lib.Seq.{length-take-le}
 use borrow.Author.Tests.{le-leb, lt-leb}
+use Rattle.theory.specs.Words.{Bytes}
 use Rattle.theory.specs.Tests.{Res, ok, bad, need, bind, unless}
+use Rattle.theory.proofs.WordLaws.{Bytes-part}
 use Rattle.theory.proofs.TestLaws.{need-ok, ok-inj, positive}
 use Rattle.theory.proofs.StructureLaws.{opens}
 use Rattle.note.specs.Words.{order, word}
@@ -17,9 +19,18 @@ use Rattle.record.specs.declared.Step.{Step}
 use Rattle.record.specs.declared.Step.the-variants.{Good, Bad}
 use Rattle.record.specs.Steps.{stepOf}
 
--- The body as code cuts it out of its part.
-pub cut : (n : ℕ) (bs : List ℕ) → take (8 + n - 8) (drop 8 bs) ≡ take n (drop 8 bs)
+-- The body of a structure whose length word is n, as code cuts it out of its part.
+abbrev pub cutBody : ℕ → List ℕ → List ℕ
+cutBody n bs = take (8 + n - 8) (drop 8 bs)
+
+pub cut : (n : ℕ) (bs : List ℕ) → cutBody n bs ≡ take n (drop 8 bs)
 cut n bs = let e : 8 + n - 8 ≡ n = omega arith in rw e
+
+pub cut-length : (n : ℕ) (bs : List ℕ) → 8 + n ≤ length bs → length (cutBody n bs) ≡ n
+cut-length n bs h = ap length (cut n bs) ∙ length-take-le n (drop 8 bs) (omega (arith, length-drop 8 bs, h))
+
+pub cut-bytes : (n : ℕ) (bs : List ℕ) → Bytes bs → Bytes (cutBody n bs)
+cut-bytes n bs = Bytes-part (8 + n - 8) 8 bs
 
 module _ (s : Context) (at : ℕ) (bs : List ℕ) where
   pub short : length bs < 8 → Bad 2 at ≡ stepOf (readRecord s at bs)
@@ -63,7 +74,7 @@ module _ {s : Context} {bs : List ℕ} {k n : ℕ} (a : Sized s bs k n) (at : �
   unfolding stepOf
   misplaced p = rw (sized-reads, p)
 
-  module _ (p : isAllowed s k ≡ true) (c : ℕ) (ec : c ≡ recordRule k (take (8 + n - 8) (drop 8 bs))) where
+  module _ (p : isAllowed s k ≡ true) (c : ℕ) (ec : c ≡ recordRule k (cutBody n bs)) where
     is : recordRule k (take n (drop 8 bs)) ≡ c
     is = ap (recordRule k) (sym (cut n bs)) ∙ sym ec
 
@@ -124,8 +135,8 @@ read-good s at bs k n e =
     subst (λ (x : ℕ). Read s at bs x n) k-is (subst (λ (y : ℕ). Read s at bs (word 0 bs) y) n-is r)
 
 -- The body of a good step, as code cuts it.
-pub body-follows : (s : Context) (at : ℕ) (bs : List ℕ) (k n : ℕ) → Read s at bs k n → recordRule k (take (8 + n - 8) (drop 8 bs)) ≡ 0
+pub body-follows : (s : Context) (at : ℕ) (bs : List ℕ) (k n : ℕ) → Read s at bs k n → recordRule k (cutBody n bs) ≡ 0
 body-follows s at bs k n g = ap (recordRule k) (cut n bs) ∙ g .follows
 
-pub body-length : (s : Context) (at : ℕ) (bs : List ℕ) (k n : ℕ) → Read s at bs k n → length (take (8 + n - 8) (drop 8 bs)) ≡ n
+pub body-length : (s : Context) (at : ℕ) (bs : List ℕ) (k n : ℕ) → Read s at bs k n → length (cutBody n bs) ≡ n
 body-length s at bs k n g = ap length (cut n bs) ∙ g .size

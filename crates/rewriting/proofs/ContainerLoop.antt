@@ -4,13 +4,11 @@
 use mathlib.Core.Path.{_≡_, refl, sym, ap, _∙_, subst}
 use mathlib.Core.Bool.{Bool, false}
 use mathlib.Core.List.{List, [], _∷_}
-use Prim.Native.Nat.{ℕ, _+_, _-_, _≤_, _<_}
+use Prim.Native.Nat.{ℕ, _+_, _≤_, _<_}
 use native.Mathlib.Omega.{arith}
-use lib.ListN.{length, take, drop, length-drop}
-use lib.Seq.{sets, length-take-le}
-use Rattle.theory.specs.Words.{Bytes}
+use lib.ListN.{length, take, drop}
+use lib.Seq.{sets}
 use Rattle.theory.specs.Tests.{ok}
-use Rattle.theory.proofs.WordLaws.{Bytes-part}
 use Rattle.theory.proofs.Items.{Item, Whole, Oks}
 use Rattle.theory.proofs.LoopLaws.{whole}
 use Rattle.theory.proofs.StructureLaws.{structure, inside, Opened, opens, length-is}
@@ -21,7 +19,7 @@ use Rattle.note.specs.Events.{Container, containerBytes, containerSize}
 use Rattle.note.specs.Writers.{closingBytes}
 use Rattle.demands.specs.Outputs.{Laid, HasRoom}
 use Rattle.demands.proofs.Bundles.{records, eventItem, same-records}
-use Rattle.record.proofs.StepLaws.{cut}
+use Rattle.record.proofs.StepLaws.{cutBody, cut, cut-length, cut-bytes}
 use Rattle.containers.proofs.RecordLoop.{behindOf}
 use Rattle.rewriting.specs.Ready.{containerHead, containerLate, contentsIn, readContainer, readContainers, Begins, RecordsReady, Stands}
 use Rattle.rewriting.proofs.CopyLoop as loop
@@ -80,14 +78,14 @@ module _ {old : List ℕ} {place : ℕ} {part out rest : List ℕ} {at w m : ℕ
 
   -- Its contents, as code cuts them.
   abbrev inner : List ℕ
-  inner = take (8 + m - 8) (drop 8 rest)
+  inner = cutBody m rest
 
   inner-size : length inner ≡ m
-  inner-size = ap length (cut m rest) ∙ length-take-le m (drop 8 rest) (omega (arith, length-drop 8 rest, container-fits .0))
+  inner-size = cut-length m rest (container-fits .0)
 
   inner-reads : readRecords context (at + 8) inner ≡ ok (own .body)
   inner-reads =
-      ap (λ (n : ℕ). readRecords context (at + 8) (take (8 + n - 8) (drop 8 rest))) (f .length-is)
+      ap (λ (n : ℕ). readRecords context (at + 8) (cutBody n rest)) (f .length-is)
       ∙ ap (readRecords context (at + 8)) (cut (word 4 rest) rest)
       ∙ same-records context (at + 8) (take (word 4 rest) (drop 8 rest)) ∙ opened i (f .more) .body-is
 
@@ -125,8 +123,7 @@ module _ {old : List ℕ} {place : ℕ} {part out rest : List ℕ} {at w m : ℕ
         let written = length-is order containerHead containerLate contents (i .state) at rest own (i .bytes) (reads i (f .more)) in
         let size : containerSize own ≡ 8 + m = ap (λ (n : ℕ). 8 + n) (written ∙ sym (f .length-is)) in
         let end : at + 8 + length inner ≡ at + (8 + m) = omega (arith, inner-size) in
-        let bytes : Bytes inner = Bytes-part (8 + m - 8) 8 rest (i .bytes) in
         next containerItem i (f .more) (8 + m) size new
         (subst (λ (x : Container). Laid out new at (at + (8 + m)) (containerBytes x)) same
-        (container-copied out mid at (at + (8 + m)) w (begin-ready .0) e context inner new (own .body) bytes inner-reads
+        (container-copied out mid at (at + (8 + m)) w (begin-ready .0) e context inner new (own .body) (cut-bytes m rest (i .bytes)) inner-reads
         (subst (λ (n : ℕ). Laid mid new (at + 8) n inner) end stands)))

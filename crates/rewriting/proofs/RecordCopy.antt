@@ -2,17 +2,16 @@
 -- The idea: it was read, so its kind word, its length word and its body are what code reads there, and its body follows its kind's rule.
 use mathlib.Core.Path.{_≡_, refl, sym, ap, _∙_, subst}
 use mathlib.Core.List.{List}
-use Prim.Native.Nat.{ℕ, _+_, _-_, _≤_, _<_}
+use Prim.Native.Nat.{ℕ, _+_, _≤_, _<_}
 use native.Mathlib.Omega.{arith}
 use lib.ListN.{length, take, drop}
-use Rattle.theory.proofs.WordLaws.{Bytes-part}
 use Rattle.note.specs.Limits.{fileLimit}
 use Rattle.note.specs.Words.{word}
 use Rattle.note.specs.Records.{Record, recordBytes, recordSize, recordRule, kindOf}
 use Rattle.note.proofs.KindCases.{kind-cases}
 use Rattle.demands.specs.Outputs.{Laid}
 use Rattle.demands.proofs.Bundles.{recordItem, same-record}
-use Rattle.record.proofs.StepLaws.{Read, read-shows, cut}
+use Rattle.record.proofs.StepLaws.{Read, read-shows, cutBody, cut, cut-bytes}
 use Rattle.containers.proofs.RecordLoop.{behindOf}
 use Rattle.copies.specs.Copying.{Copyable, Copied}
 use Rattle.rewriting.proofs.CopyLoop.{Copying, Found, inside, here, next}
@@ -49,34 +48,31 @@ module _ {old : List ℕ} {place : ℕ} {part out rest : List ℕ} {at k m : ℕ
   read = shown i (f .more) .0
 
   -- Its body, as code cuts it.
-  abbrev cutBody : List ℕ
-  cutBody = take (8 + m - 8) (drop 8 rest)
-
-  cut-is : cutBody ≡ body i (f .more)
+  cut-is : cutBody m rest ≡ body i (f .more)
   cut-is = cut m rest ∙ ap (λ (n : ℕ). take n (drop 8 rest)) (f .length-is)
 
-  cut-size : length cutBody ≡ m
+  cut-size : length (cutBody m rest) ≡ m
   cut-size = ap length cut-is ∙ read .size ∙ sym (f .length-is)
 
-  cut-follows : recordRule k cutBody ≡ 0
+  cut-follows : recordRule k (cutBody m rest) ≡ 0
   cut-follows = (λ j. recordRule (f .kind-is j) (cut-is j)) ∙ read .follows
 
-  pub copyable : Copyable (kindOf k) cutBody (length out) at
+  pub copyable : Copyable (kindOf k) (cutBody m rest) (length out) at
   copyable = record {
-    bytes = Bytes-part (8 + m - 8) 8 rest (i .bytes);
+    bytes = cut-bytes m rest (i .bytes);
     follows = cut-follows;
     room = omega (arith, cut-size, f .length-is, read .fits, inside recordItem i .0);
     limit = inside recordItem i .1;
   }
 
-  pub copied-next : (new : List ℕ) → Copied (kindOf k) cutBody out at new
+  pub copied-next : (new : List ℕ) → Copied (kindOf k) (cutBody m rest) out at new
       → Copying recordItem old place part new (behindOf (8 + m) rest) (at + (8 + m))
   copied-next new h =
       let item : Record = here recordItem i (f .more) .item in
-      let own : Record = record { kind = kindOf k .word; body = cutBody } in
+      let own : Record = record { kind = kindOf k .word; body = cutBody m rest } in
       let is : own ≡ item =
-      (λ j. record { kind = (named k cutBody cut-follows ∙ f .kind-is) j; body = cut-is j }) ∙ sym (shown i (f .more) .1) in
+      (λ j. record { kind = (named k (cutBody m rest) cut-follows ∙ f .kind-is) j; body = cut-is j }) ∙ sym (shown i (f .more) .1) in
       let size : recordSize item ≡ 8 + m = ap recordSize (sym is) ∙ ap (λ (n : ℕ). 8 + n) cut-size in
-      let end : at + (8 + length cutBody) ≡ at + (8 + m) = ap (λ (n : ℕ). at + (8 + n)) cut-size in
+      let end : at + (8 + length (cutBody m rest)) ≡ at + (8 + m) = ap (λ (n : ℕ). at + (8 + n)) cut-size in
       next recordItem i (f .more) (8 + m) size new
       (subst (λ (r : Record). Laid out new at (at + (8 + m)) (recordBytes r)) is (subst (λ (n : ℕ). Laid out new at n (recordBytes own)) end h))

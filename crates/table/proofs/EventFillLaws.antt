@@ -4,8 +4,7 @@ use mathlib.Core.Path.{_≡_, sym, ap, ap₂, _∙_, subst}
 use mathlib.Core.List.{List, [], _∷_, _++_, map, append-nil, map-append}
 use Prim.Native.Nat.{ℕ, _+_, _-_, _*_, _%_, _≤_, _<_}
 use native.Mathlib.Omega.{arith}
-use lib.ListN.{length, take, drop, length-map, length-drop}
-use lib.Seq.{length-take-le}
+use lib.ListN.{length, length-map}
 use Rattle.theory.specs.Words.{Bytes}
 use Rattle.theory.specs.Tests.{ok}
 use Rattle.theory.specs.Layout.{Row, Child, Node, total, extents, childRows, rows, rowCount}
@@ -21,7 +20,7 @@ use Rattle.demands.proofs.Bundles.{eventItem, events, same-events}
 use Rattle.demands.proofs.RowLaws.{children-total}
 use Rattle.containers.proofs.RecordLoop.{behindOf, Bytes-behind}
 use Rattle.containers.proofs.EventLoop.{Shown, event-shows, on-event, few}
-use Rattle.record.proofs.StepLaws.{cut}
+use Rattle.record.proofs.StepLaws.{cutBody, cut-length}
 use Rattle.rows.specs.declared.Row as code
 use Rattle.rows.specs.Buffers.{rowOf, stored}
 use Rattle.table.specs.Filling.{Fillable, FillableEvents, Filled, FilledEvents}
@@ -88,8 +87,8 @@ module _ {from : ℕ} {bs rows₀ : List ℕ} {first : ℕ} {now rest : List ℕ
       contents-size : length (recordsBytes (this .body)) ≡ m
       contents-size = coming .size ∙ sym em
 
-      contents : readRecords (event none) (at + 8) (take (8 + m - 8) (drop 8 rest)) ≡ ok (this .body)
-      contents = subst (λ (y : ℕ). readRecords (event none) (at + 8) (take (8 + y - 8) (drop 8 rest)) ≡ ok (this .body)) (sym em) (coming .contents)
+      contents : readRecords (event none) (at + 8) (cutBody m rest) ≡ ok (this .body)
+      contents = subst (λ (y : ℕ). readRecords (event none) (at + 8) (cutBody y rest) ≡ ok (this .body)) (sym em) (coming .contents)
 
       -- its children, which its length word measures
       abbrev ch : List Child
@@ -142,10 +141,9 @@ module _ {from : ℕ} {bs rows₀ : List ℕ} {first : ℕ} {now rest : List ℕ
           )
 
       -- its records can be filled, from the row behind its own on
-      pub fillable : Fillable (at + 8) (take (8 + m - 8) (drop 8 rest)) (length now) (n + 1)
+      pub fillable : Fillable (at + 8) (cutBody m rest) (length now) (n + 1)
       fillable =
-          let size : length (take (8 + m - 8) (drop 8 rest)) ≡ m =
-          ap length (cut m rest) ∙ length-take-le m (drop 8 rest) (omega (arith, length-drop 8 rest, sized .0)) in
+          let size : length (cutBody m rest) ≡ m = cut-length m rest (sized .0) in
           record { context = event none; records = this .body; reads = contents; within = omega (arith, size, sized .1); fits = rows-fit }
 
       -- its own row, and its rows
@@ -170,7 +168,7 @@ module _ {from : ℕ} {bs rows₀ : List ℕ} {first : ℕ} {now rest : List ℕ
       row-is = omega (arith, i .row, length-rows (first + 1) from (nodes (i .es)))
 
       -- Where its records were filled.
-      module _ (filled : List ℕ) (next : ℕ) (g : Filled (at + 8) (take (8 + m - 8) (drop 8 rest)) now (n + 1) (n + 1) filled next) where
+      module _ (filled : List ℕ) (next : ℕ) (g : Filled (at + 8) (cutBody m rest) now (n + 1) (n + 1) filled next) where
         records-filled : (filled ≡ stored now (n + 1) (childRows (n + 1) (at + 8) ch)) × (next ≡ n + 1 + length (this .body))
         records-filled = g (event none) (this .body) contents
 

@@ -3,7 +3,7 @@
 use mathlib.Core.Path.{_≡_, refl, sym, ap, ap₂, _∙_, subst}
 use mathlib.Core.Bool.{true}
 use mathlib.Core.List.{List, [], _∷_, _++_, map-append}
-use Prim.Native.Nat.{ℕ, _+_, _-_, _*_, _≤_, _<_}
+use Prim.Native.Nat.{ℕ, _+_, _*_, _≤_, _<_}
 use native.Mathlib.Nat.{add-zero}
 use native.Mathlib.Omega.{arith}
 use lib.ListN.{length, take, drop, length-append, length-map}
@@ -17,7 +17,7 @@ use Rattle.note.specs.Words.{word}
 use Rattle.note.specs.Records.{Record, Context, behind, readRecords}
 use Rattle.note.specs.Rows.{childOf, childrenOf}
 use Rattle.demands.proofs.Bundles.{recordItem, same-record, same-records}
-use Rattle.record.proofs.StepLaws.{Read, read-shows, cut, body-follows, body-length}
+use Rattle.record.proofs.StepLaws.{Read, read-shows, cutBody, cut, body-follows, body-length}
 use Rattle.containers.proofs.RecordLoop.{recordAt, behindOf, on}
 use Rattle.rows.specs.declared.Row as code
 use Rattle.rows.specs.declared.Values.{Values}
@@ -113,7 +113,7 @@ module _ {s₀ : Context} {from : ℕ} {bs rows₀ : List ℕ} {first parent : �
     row-is : n ≡ first + length old
     row-is = omega (arith, i .row, length-childRows parent from (childrenOf (i .xs)), length-map (i .xs) childOf)
 
-    module _ (v : Values) (ev : v ≡ valuesOf k (take (8 + m - 8) (drop 8 rest))) where
+    module _ (v : Values) (ev : v ≡ valuesOf k (cutBody m rest)) where
       mine-is : rowOf (putRow v at m parent) ≡ mine
       unfolding childOf valuesOf rowOf
       mine-is =
@@ -154,7 +154,7 @@ module _ {from : ℕ} {bs rows₀ : List ℕ} {first parent : ℕ} {rows rest : 
 
     -- its body, as code cuts it, holds its row's values
     pub valued : (k m : ℕ) → k ≡ word 0 rest → m ≡ word 4 rest
-        → (hasValues k (take (8 + m - 8) (drop 8 rest)) ≡ true) × (length (take (8 + m - 8) (drop 8 rest)) ≤ fileLimit)
+        → (hasValues k (cutBody m rest) ≡ true) × (length (cutBody m rest) ≤ fileLimit)
     valued k m ek em =
         let r = shown here (p .records) (p .reads) l k m ek em in (
           rule-has-values k _ (body-follows (here .state) at rest k m r),
@@ -168,7 +168,7 @@ module _ {from : ℕ} {bs rows₀ : List ℕ} {first parent : ℕ} {rows rest : 
 -- Behind a turn, and at the end.
 module _ {from : ℕ} {bs rows₀ : List ℕ} {first parent : ℕ} {rows rest : List ℕ} {at n : ℕ}
     (i : Filling from bs rows₀ first parent rows rest at n) where
-  pub next : 0 < length rest → (k m : ℕ) → k ≡ word 0 rest → m ≡ word 4 rest → (v : Values) → v ≡ valuesOf k (take (8 + m - 8) (drop 8 rest))
+  pub next : 0 < length rest → (k m : ℕ) → k ≡ word 0 rest → m ≡ word 4 rest → (v : Values) → v ≡ valuesOf k (cutBody m rest)
       → (rows′ : List ℕ) → rows′ ≡ stored rows n (rowOf (putRow v at m parent) ∷ [])
       → Filling from bs rows₀ first parent rows′ (behindOf (8 + m) rest) (at + (8 + m)) (n + 1)
   next l k m ek em v ev rows′ ew s rs w = next-in (i s rs w) rs w l k m ek em v ev rows′ ew

@@ -1,8 +1,8 @@
 -- What stands at the front of a structure's bytes, and how many structures its contents are by their length words alone.
 -- The idea: a structure's bytes are its two words and its body, whatever follows.
-use mathlib.Core.Path.{_≡_, refl, sym, ap, ap₂, _∙_}
+use mathlib.Core.Path.{_≡_, refl, sym, ap, _∙_}
 use mathlib.Core.List.{List, [], _∷_, _++_, append-assoc}
-use Prim.Native.Nat.{ℕ, zero, suc, _+_, _-_, _≤_}
+use Prim.Native.Nat.{ℕ, zero, suc, _+_, _≤_}
 use native.Mathlib.Omega.{arith}
 use lib.ListN.{length, take, drop, length-append}
 use lib.Seq.{take-at, drop-at, drop-drop}
@@ -14,8 +14,9 @@ use Rattle.theory.proofs.StructureLaws.{second-word, length-two, drop-two}
 use Rattle.note.specs.Words.{order, word}
 use Rattle.note.specs.Records.{Record, Context, behind, recordBytes, recordsBytes}
 use Rattle.demands.specs.Valid.{ValidRecords}
+use Rattle.record.proofs.StepLaws.{cutBody, cut}
 use Rattle.walk.specs.Steps.{stands, countFrom, countIn}
-use Rattle.walk.proofs.StepLaws.{long-enough, Found, cutBody}
+use Rattle.walk.proofs.StepLaws.{long-enough, Found}
 
 -- The bytes p begin with a structure's two words and its body, and go on with `rest`.
 pub record Front (p : List ℕ) (kind : ℕ) (body rest : List ℕ) : Type 0 where
@@ -48,11 +49,10 @@ module _ {B : Type 0} (bodyBytes : B → List ℕ) (c : Structure B) (rest : Lis
       let size : length bytes ≡ 8 + n + length rest =
       omega (arith, ap length shape, length-two order (c .kind) n (bodyOf ++ rest), length-append bodyOf rest) in
       let fits : 8 + word 4 bytes ≤ length bytes = omega (arith, en, size) in
-      let same : 8 + n - 8 ≡ n = omega arith in
       record {
         found = record { is-here = long-enough bytes (omega (arith, size)) ∙ le-leb (8 + word 4 bytes) (length bytes) fits; length-is = sym en };
         kind-is = sym (ap (word 0) shape ∙ word-after-put order 4 (c .kind) (put order 4 n ++ (bodyOf ++ rest)) hk);
-        body-is = ap₂ take same contents ∙ take-at bodyOf rest n refl;
+        body-is = cut n bytes ∙ ap (take n) contents ∙ take-at bodyOf rest n refl;
         behind-is = sym (drop-drop n 8 bytes) ∙ ap (drop n) contents ∙ drop-at bodyOf rest n refl;
         size = size;
       }

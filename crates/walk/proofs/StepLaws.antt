@@ -7,13 +7,13 @@ use Prim.Native.Nat.{ℕ, zero, suc, _+_, _-_, _≤_, _<_}
 use native.Mathlib.Omega.{arith}
 use lib.Dec.{leb, eqb}
 use lib.ListN.{length, take, drop, length-drop}
-use lib.Seq.{length-take-le}
 use borrow.Author.Tests.{le-leb, lt-leb, lt-ltb, le-ltb, eq-eqb, ne-eqb, leb-true}
 use Rattle.note.specs.Limits.{fileLimit}
 use Rattle.note.specs.Words.{word}
 use Rattle.note.specs.Files.{readFile}
 use Rattle.note.specs.declared.WalkerYield.{WalkerYield}
 use Rattle.note.specs.declared.WalkerYield.the-variants.{Row, End}
+use Rattle.record.proofs.StepLaws.{cutBody, cut, cut-length}
 use Rattle.containers.proofs.RecordLoop.{left}
 use Rattle.containers.proofs.FileParts.{file-good, file-bad}
 use Rattle.containers.specs.declared.Count.the-variants.{Good, Bad}
@@ -132,22 +132,16 @@ pub record Found (bs : List ℕ) (n : ℕ) : Type 0 where
   pub is-here : stands bs ≡ true
   pub length-is : n ≡ word 4 bs
 
--- The body of a structure whose length word is n, as code cuts it.
-abbrev pub cutBody : ℕ → List ℕ → List ℕ
-cutBody n bs = take (8 + n - 8) (drop 8 bs)
-
 module _ {bs : List ℕ} {n : ℕ} (f : Found bs n) where
   pub fits : 8 + n ≤ length bs
   fits = omega (arith, f .length-is, standing bs (f .is-here) .1)
 
   cut-is : cutBody n bs ≡ bodyIn bs
-  cut-is = let e : 8 + n - 8 ≡ word 4 bs = omega (arith, f .length-is) in ap (λ (m : ℕ). take m (drop 8 bs)) e
+  cut-is = cut n bs ∙ ap (λ (m : ℕ). take m (drop 8 bs)) (f .length-is)
 
   -- No more children are counted than their container's length word says bytes.
   pub few-children : (c : ℕ) → c ≡ countIn (cutBody n bs) → c ≤ n
-  few-children c ec =
-      let size : length (cutBody n bs) ≡ 8 + n - 8 = length-take-le (8 + n - 8) (drop 8 bs) (omega (arith, length-drop 8 bs, fits)) in
-      omega (arith, ec, few-counted (cutBody n bs), size)
+  few-children c ec = omega (arith, ec, few-counted (cutBody n bs), cut-length n bs fits)
 
   module _ (at : Spot) (k : ℕ) (ek : k ≡ word 0 bs) where
     pub record-empty : hasValues k (cutBody n bs) ≡ false → ended at ≡ recordStep bs at

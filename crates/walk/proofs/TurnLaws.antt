@@ -16,12 +16,13 @@ use Rattle.note.specs.Rows.{childOf}
 use Rattle.note.specs.declared.WalkerYield.{WalkerYield}
 use Rattle.note.specs.declared.WalkerYield.the-variants.{Row, End}
 use Rattle.demands.specs.Valid.{ValidRecord, ValidRecords}
+use Rattle.record.proofs.StepLaws.{cutBody}
 use Rattle.rows.specs.Values.{hasValues, valuesOf}
 use Rattle.rows.proofs.ValueLaws.{rule-has-values}
 use Rattle.containers.proofs.RecordLoop.{left}
 use Rattle.walk.specs.declared.Spot.{Spot}
 use Rattle.walk.specs.Steps.{countIn, containerRow, stayed, recordStep, containerStep, stepOf, rowYield}
-use Rattle.walk.proofs.StepLaws.{too-short, behind, cutBody, header-here, record-here, container-here, container-none}
+use Rattle.walk.proofs.StepLaws.{too-short, behind, header-here, record-here, container-here, container-none}
 use Rattle.walk.proofs.StepLaws.{Usable, step-header, step-record, step-container}
 use Rattle.walk.proofs.FrontLaws.{Front, front, records-counted}
 

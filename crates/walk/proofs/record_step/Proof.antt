@@ -5,9 +5,10 @@ use mathlib.Core.Path.{_≡_, sym, _∙_}
 use native.Mathlib.Omega.{arith}
 use denote.Ref.{now}
 use borrow.Author.Tests.{not-true, not-false}
+use Rattle.record.proofs.StepLaws.{cutBody}
 use Rattle.rows.specs.Values.{hasValues}
 use Rattle.walk.specs.Steps.{stands}
-use Rattle.walk.proofs.StepLaws.{standing, record-none, Found, cutBody, fits, record-empty, record-here}
+use Rattle.walk.proofs.StepLaws.{standing, record-none, Found, fits, record-empty, record-here}
 use borrow.Author.Needs.{needs}
 use Rattle.walk.proofs.record_step.Statement.{statement}
 use Rattle.walk.proofs.record_step.Tie as tie
