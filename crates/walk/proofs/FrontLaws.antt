@@ -1,7 +1,7 @@
 -- What stands at the front of a structure's bytes, and how many structures its contents are by their length words alone.
 -- The idea: a structure's bytes are its two words and its body, whatever follows.
 use mathlib.Core.Path.{_≡_, refl, sym, ap, _∙_}
-use mathlib.Core.List.{List, [], _∷_, _++_, append-assoc}
+use mathlib.Core.List.{List, [], _∷_, _++_}
 use Prim.Native.Nat.{ℕ, zero, suc, _+_, _≤_}
 use native.Mathlib.Omega.{arith}
 use lib.ListN.{length, take, drop, length-append}
@@ -14,6 +14,7 @@ use Rattle.theory.proofs.StructureLaws.{second-word, length-two, drop-two}
 use Rattle.note.specs.Words.{order, word}
 use Rattle.note.specs.Records.{Record, Context, behind, recordBytes, recordsBytes}
 use Rattle.demands.specs.Valid.{ValidRecords}
+use Rattle.demands.proofs.OutputLaws.{structure-apart}
 use Rattle.record.proofs.StepLaws.{cutBody, cut}
 use Rattle.walk.specs.Steps.{stands, countFrom, countIn}
 use Rattle.walk.proofs.StepLaws.{long-enough, Found}
@@ -34,9 +35,7 @@ module _ {B : Type 0} (bodyBytes : B → List ℕ) (c : Structure B) (rest : Lis
   bytes = structureBytes order bodyBytes c ++ rest
 
   shape : bytes ≡ put order 4 (c .kind) ++ (put order 4 (length bodyOf) ++ (bodyOf ++ rest))
-  shape =
-      append-assoc (put order 4 (c .kind)) (put order 4 (length bodyOf) ++ bodyOf) rest
-      ∙ ap (λ (r : List ℕ). put order 4 (c .kind) ++ r) (append-assoc (put order 4 (length bodyOf)) bodyOf rest)
+  shape = structure-apart bodyBytes c rest
 
   -- Behind a structure's two words: its body, and what follows.
   pub contents : drop 8 bytes ≡ bodyOf ++ rest

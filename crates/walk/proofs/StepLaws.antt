@@ -1,12 +1,12 @@
 -- One law for each way through a step, and the count of structures turn by turn.
 -- The idea: each premise is a test that the code has taken, so the definition computes to the answer.
-use mathlib.Core.Path.{_≡_, refl, sym, ap, _∙_}
-use mathlib.Core.Bool.{Bool, true, false, cond, _&&_, and-eq-true-iff}
+use mathlib.Core.Path.{_≡_, sym, ap, _∙_}
+use mathlib.Core.Bool.{Bool, true, false, cond, and-false, and-eq-true-iff}
 use mathlib.Core.List.{List}
 use Prim.Native.Nat.{ℕ, zero, suc, _+_, _-_, _≤_, _<_}
 use native.Mathlib.Omega.{arith}
 use lib.Dec.{leb, eqb}
-use lib.ListN.{length, take, drop, length-drop}
+use lib.ListN.{length, take, drop}
 use borrow.Author.Tests.{le-leb, lt-leb, lt-ltb, le-ltb, eq-eqb, ne-eqb, leb-true}
 use Rattle.note.specs.Limits.{fileLimit}
 use Rattle.note.specs.Words.{word}
@@ -14,7 +14,7 @@ use Rattle.note.specs.Files.{readFile}
 use Rattle.note.specs.declared.WalkerYield.{WalkerYield}
 use Rattle.note.specs.declared.WalkerYield.the-variants.{Row, End}
 use Rattle.record.proofs.StepLaws.{cutBody, cut, cut-length}
-use Rattle.containers.proofs.RecordLoop.{left}
+use Rattle.containers.proofs.RecordLoop.{behindOf, left, length-behind}
 use Rattle.containers.proofs.FileParts.{file-good, file-bad}
 use Rattle.containers.specs.declared.Count.the-variants.{Good, Bad}
 use Rattle.containers.specs.Counts.{fileRows}
@@ -45,10 +45,6 @@ standing bs e =
 
 -- ---- counting
 
--- What is left of the bytes behind the first n, as code cuts it.
-abbrev pub behind : ℕ → List ℕ → List ℕ
-behind n bs = take (length bs - n) (drop n bs)
-
 -- So many structures were counted, and the rest counts on.
 pub record Counting (bs rest : List ℕ) (count : ℕ) : Type 0 where
   pub fuel : ℕ
@@ -69,18 +65,18 @@ module _ {bs rest : List ℕ} {count : ℕ} (i : Counting bs rest count) where
       go zero q = omega (arith, q)
       go (suc f) q = let z : countFrom (suc f) rest ≡ 0 = rw e in omega (arith, q, z)
 
-  pub counts-on : (n : ℕ) → n ≡ word 4 rest → 8 ≤ length rest → 8 + n ≤ length rest → Counting bs (behind (8 + n) rest) (count + 1)
+  pub counts-on : (n : ℕ) → n ≡ word 4 rest → 8 ≤ length rest → 8 + n ≤ length rest → Counting bs (behindOf (8 + n) rest) (count + 1)
   unfolding countFrom
   counts-on n en l h = go (i .fuel) (i .enough) (i .same)
     where
       next : List ℕ
-      next = behind (8 + n) rest
+      next = behindOf (8 + n) rest
 
       go : (f : ℕ) → length rest ≤ f → count + countFrom f rest ≡ countIn bs → Counting bs next (count + 1)
       go zero m q = absurd (omega arith)
       go (suc f) m q =
           let same : next ≡ drop (8 + n) rest = sym (left (8 + n) rest) in
-          let size : length next ≡ length rest - (8 + n) = ap length same ∙ length-drop (8 + n) rest in
+          let size : length next ≡ length rest - (8 + n) = length-behind (8 + n) rest in
           let here : stands rest ≡ true = long-enough rest l ∙ le-leb (8 + word 4 rest) (length rest) (omega (arith, en)) in
           let step : countFrom (suc f) rest ≡ suc (countFrom f next) = rw (here, same, en) in
           record { fuel = f; enough = omega (arith, size); same = omega (arith, q, step); low = omega (arith, size, i .low) }
@@ -170,10 +166,6 @@ pub step-refused : (bs : List ℕ) (at : Spot) → (at .number ≡ 0 → ⊥) �
 unfolding stepOf
 step-refused bs at n = rw (ne-eqb (at .number) 0 n)
 
-and-false : (b : Bool) → b && false ≡ false
-and-false true = refl
-and-false false = refl
-
 -- Of an accepted file: a number that fails its test ends the walk, whatever the others are.
 module _ (bs : List ℕ) (at : Spot) (z : at .number ≡ 0) where
   unusable : usable bs at ≡ false → ended at ≡ stepOf bs at
@@ -226,8 +218,8 @@ module _ {bs : List ℕ} {at : Spot} (u : Usable bs at) where
     unfolding stepOf
     step-record m = rw (zero-is, used, ne-eqb (at .place) 0 h, lt-ltb (at .place) (at .end) m)
 
-    pub step-container : at .end ≤ at .place → containerStep (behind (at .place) bs) at ≡ stepOf bs at
+    pub step-container : at .end ≤ at .place → containerStep (behindOf (at .place) bs) at ≡ stepOf bs at
     unfolding stepOf
     step-container m =
-        let all : behind (at .place) bs ≡ drop (at .place) bs = sym (left (at .place) bs) in
+        let all : behindOf (at .place) bs ≡ drop (at .place) bs = sym (left (at .place) bs) in
         rw (zero-is, used, ne-eqb (at .place) 0 h, le-ltb (at .place) (at .end) m, all)

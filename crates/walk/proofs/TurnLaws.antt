@@ -19,10 +19,10 @@ use Rattle.demands.specs.Valid.{ValidRecord, ValidRecords}
 use Rattle.record.proofs.StepLaws.{cutBody}
 use Rattle.rows.specs.Values.{hasValues, valuesOf}
 use Rattle.rows.proofs.ValueLaws.{rule-has-values}
-use Rattle.containers.proofs.RecordLoop.{left}
+use Rattle.containers.proofs.RecordLoop.{behindOf, left}
 use Rattle.walk.specs.declared.Spot.{Spot}
 use Rattle.walk.specs.Steps.{countIn, containerRow, stayed, recordStep, containerStep, stepOf, rowYield}
-use Rattle.walk.proofs.StepLaws.{too-short, behind, header-here, record-here, container-here, container-none}
+use Rattle.walk.proofs.StepLaws.{too-short, header-here, record-here, container-here, container-none}
 use Rattle.walk.proofs.StepLaws.{Usable, step-header, step-record, step-container}
 use Rattle.walk.proofs.FrontLaws.{Front, front, records-counted}
 
@@ -77,7 +77,7 @@ module _ (bs : List ℕ) (limit : length bs ≤ fileLimit) where
       → stepOf bs (here (length bs) end parent n y) ≡ here (length bs) end parent n End
   unfolding stayed
   end-turn end parent n y one low within =
-      let rest : List ℕ = behind (length bs) bs in
+      let rest : List ℕ = behindOf (length bs) bs in
       let none : length bs - length bs ≡ 0 = omega arith in
       let empty : rest ≡ [] = ap (λ (m : ℕ). take m (drop (length bs) bs)) none in
       sym (step-container (ready y low within (omega arith)) (λ z. absurd (omega arith)) within)
