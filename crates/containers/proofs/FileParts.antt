@@ -18,6 +18,7 @@ use Rattle.note.specs.Files.{File, versionOf, configurationOf, eventsOf, fileMa
 use Rattle.demands.specs.Valid.{Valid}
 use Rattle.demands.proofs.Bundles.{records, events, headerItem, same-records, same-events, records-ok, events-ok}
 use Rattle.demands.proofs.Follows.{file-sound}
+use Rattle.demands.proofs.OutputLaws.{structure-apart}
 use Rattle.demands.proofs.RowLaws.{file-length}
 use Rattle.containers.specs.declared.Count.the-variants.{Good, Bad}
 use Rattle.containers.specs.Counts.{rowsOfEvents, fileRows}
@@ -55,11 +56,6 @@ module _ (bs : List ℕ) (f : File) (h : Bytes bs) (e : readFile bs ≡ ok f) wh
   pub behind-header : drop 8 bs ≡ containerBytes conf ++ eventsBytes es
   behind-header = ap (drop 8) (sound .0) ∙ drop-at (headerBytes (versionOf f)) (containerBytes conf ++ eventsBytes es) 8 header-size
 
-  shape : containerBytes conf ++ eventsBytes es ≡ put order 4 (conf .kind) ++ (put order 4 n ++ (recordsBytes (conf .body) ++ eventsBytes es))
-  shape =
-      append-assoc (put order 4 (conf .kind)) (put order 4 n ++ recordsBytes (conf .body)) (eventsBytes es)
-      ∙ ap (λ (r : List ℕ). put order 4 (conf .kind) ++ r) (append-assoc (put order 4 n) (recordsBytes (conf .body)) (eventsBytes es))
-
   pub version-is : word 4 bs ≡ versionOf f
   version-is =
       ap (word 4) (sound .0 ∙ append-assoc (put order 4 fileMark) (put order 4 (versionOf f)) (containerBytes conf ++ eventsBytes es))
@@ -68,7 +64,7 @@ module _ (bs : List ℕ) (f : File) (h : Bytes bs) (e : readFile bs ≡ ok f) wh
   -- The configuration's length word, and the room that it leaves.
   pub length-is : word 12 bs ≡ n
   length-is =
-      sym (word-of-drop order 4 4 8 bs) ∙ ap (word 4) (behind-header ∙ shape)
+      sym (word-of-drop order 4 4 8 bs) ∙ ap (word 4) (behind-header ∙ structure-apart recordsBytes conf (eventsBytes es))
       ∙ second-word order (conf .kind) n (recordsBytes (conf .body) ++ eventsBytes es) (sound .1 .configuration-fits)
 
   pub room : (16 + n ≤ length bs) × (length bs ≤ fileLimit)
@@ -78,7 +74,7 @@ module _ (bs : List ℕ) (f : File) (h : Bytes bs) (e : readFile bs ≡ ok f) wh
 
   behind-words : drop 16 bs ≡ recordsBytes (conf .body) ++ eventsBytes es
   behind-words =
-      sym (drop-drop 8 8 bs) ∙ ap (drop 8) (behind-header ∙ shape)
+      sym (drop-drop 8 8 bs) ∙ ap (drop 8) (behind-header ∙ structure-apart recordsBytes conf (eventsBytes es))
       ∙ drop-two order (conf .kind) n (recordsBytes (conf .body) ++ eventsBytes es)
 
   -- The entries.

@@ -34,16 +34,14 @@ module _ {B : Type 0} (bodyBytes : B → List ℕ) (c : Structure B) (rest : Lis
   abbrev bytes : List ℕ
   bytes = structureBytes order bodyBytes c ++ rest
 
-  shape : bytes ≡ put order 4 (c .kind) ++ (put order 4 (length bodyOf) ++ (bodyOf ++ rest))
-  shape = structure-apart bodyBytes c rest
-
   -- Behind a structure's two words: its body, and what follows.
   pub contents : drop 8 bytes ≡ bodyOf ++ rest
-  contents = ap (drop 8) shape ∙ drop-two order (c .kind) (length bodyOf) (bodyOf ++ rest)
+  contents = ap (drop 8) (structure-apart bodyBytes c rest) ∙ drop-two order (c .kind) (length bodyOf) (bodyOf ++ rest)
 
   pub front : Fits 4 (c .kind) → Fits 4 (length bodyOf) → Front bytes (c .kind) bodyOf rest
   front hk hn =
       let n : ℕ = length bodyOf in
+      let shape = structure-apart bodyBytes c rest in
       let en : word 4 bytes ≡ n = ap (word 4) shape ∙ second-word order (c .kind) n (bodyOf ++ rest) hn in
       let size : length bytes ≡ 8 + n + length rest =
       omega (arith, ap length shape, length-two order (c .kind) n (bodyOf ++ rest), length-append bodyOf rest) in
