@@ -77,14 +77,14 @@ module _ (k : Call) where
     pub contents-refuse : {next x p : ℕ} {q : Count} → r ≡ Next next → q ≡ recordCount contents → q ≡ Bad x p
         → Ends (givenWriter (Refused x p)) (k .out)
     unfolding closed writerGiven givenWriter
-    contents-refuse {x = x} {p = p} n e bad-is = ends-refused x p (rw (next-told first n said, count-bad contents x p (sym bad-is ∙ e)))
+    contents-refuse {x = x} {p = p} n e bad-is = ends-refused x p (rw (next-told first n said, count-bad length (sym bad-is ∙ e)))
 
     -- Closed: the two words were stored.
     pub shuts : {next m : ℕ} {q : Count} {after : List ℕ} → r ≡ Next next → q ≡ recordCount contents → q ≡ Good m
         → after ≡ sets (k .out) (k .place) head → Ends (givenWriter (Next next)) after
     unfolding closed writerGiven givenWriter
     shuts {next} {m} n e good-is shut =
-        let own : givenWriter (Next next) ≡ writerGiven result = rw (next-told first n said, count-good contents m (sym good-is ∙ e) .1) in
+        let own : givenWriter (Next next) ≡ writerGiven result = rw (next-told first n said, count-good length (sym good-is ∙ e) .1) in
         let size : length head ≡ 8 = length-puts order 4 (k .word ∷ (k .end - (k .place + 8)) ∷ []) in
         let fits : k .place + length head ≤ length (k .out) = omega (arith, size, told n .room) in
         (own, shut ∙ stored (k .out) (k .place) result head {r = Next next} refl own fits)

@@ -21,22 +21,23 @@ use Rattle.record.proofs.StepLaws.{cutBody, cut}
 use Rattle.containers.specs.declared.Count.{Count}
 use Rattle.containers.specs.declared.Count.the-variants as Count
 use Rattle.containers.specs.declared.Holding.the-variants.{Good, Bad}
-use Rattle.containers.specs.Counts.{recordCount, containerStep}
+use Rattle.containers.specs.Counts.{countOf, recordCount, containerStep}
 
-abbrev pub counted : Count → Type 0
+abbrev counted : Count → Type 0
 counted (Count.Good n) = Unit {0}
 counted (Count.Bad c p) = ⊥
 
--- What a count says of what was read.
-pub count-good : (r : Res (List Record)) (m : ℕ) → Count.Good m ≡ recordCount r → (xs : List Record) × (r ≡ ok xs) × (length xs ≡ m)
-unfolding recordCount
-count-good (ok xs) m e = (xs, refl, cc)
-count-good (bad c p) m e = absurd (subst counted e tt)
+-- What a count says of what was read: records, events or a file.
+module _ {A : Type 0} (size : A → ℕ) where
+  pub count-good : {r : Res A} {m : ℕ} → Count.Good m ≡ countOf size r → (x : A) × (r ≡ ok x) × (size x ≡ m)
+  unfolding countOf
+  count-good {r = ok x} e = (x, refl, cc)
+  count-good {r = bad c p} e = absurd (subst counted e tt)
 
-pub count-bad : (r : Res (List Record)) (c p : ℕ) → Count.Bad c p ≡ recordCount r → r ≡ bad c p
-unfolding recordCount
-count-bad (ok xs) c p e = cc
-count-bad (bad c′ p′) c p e = cc
+  pub count-bad : {r : Res A} {c p : ℕ} → Count.Bad c p ≡ countOf size r → r ≡ bad c p
+  unfolding countOf
+  count-bad {r = ok x} e = cc
+  count-bad {r = bad c′ p′} e = cc
 
 -- What the records' reader answers of a container's contents, as code cuts them: n bytes behind the two words, in the context inner.
 abbrev pub contentsAnswer : Context → ℕ → List ℕ → ℕ → Count
@@ -102,13 +103,13 @@ module _ {head : Unit {0} → ℕ → ℕ} {late : Unit {0} → ℕ → ℕ → 
 
   pub contents-fault : (x p : ℕ) → Count.Bad x p ≡ contentsAnswer inner at bs n → Bad x p ≡ containerStep (reader head late inner tt at bs)
   unfolding containerStep
-  contents-fault x p e = rw (begun-reads (bad x p) (count-bad _ x p e))
+  contents-fault x p e = rw (begun-reads (bad x p) (count-bad length e))
 
   pub held : (m : ℕ) → Count.Good m ≡ contentsAnswer inner at bs n → Good k n m ≡ containerStep (reader head late inner tt at bs)
   unfolding containerStep
   held m e =
       let contents : List ℕ = take n (drop 8 bs) in
-      let (xs, q, size) = count-good (readRecords inner (at + 8) (cutBody n bs)) m e in
+      let (xs, q, size) = count-good length e in
       let r : records .read inner (at + 8) contents ≡ ok xs =
       sym (same-records inner (at + 8) contents) ∙ ap (readRecords inner (at + 8)) (sym (cut n bs)) ∙ q in
       let by : Bytes contents = Bytes-part n 8 bs (b .bytes) in

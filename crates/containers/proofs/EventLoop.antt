@@ -17,7 +17,7 @@ use Rattle.record.proofs.StepLaws.{cutBody, cut}
 use Rattle.containers.specs.declared.Count.the-variants as Count
 use Rattle.containers.specs.declared.Holding.{Holding}
 use Rattle.containers.specs.declared.Holding.the-variants.{Good, Bad}
-use Rattle.containers.specs.Counts.{containerStep, rowsOfEvents, eventRows}
+use Rattle.containers.specs.Counts.{countOf, containerStep, rowsOfEvents, eventRows}
 use Rattle.containers.proofs.RecordLoop.{behindOf, left, Bytes-behind}
 use Rattle.containers.proofs.ContainerLaws.{sized}
 
@@ -98,12 +98,12 @@ module _ {from : ℕ} {bs : List ℕ} {at : ℕ} {rest : List ℕ} {count : ℕ}
   low = i .low
 
   pub done : length rest ≤ 0 → Count.Good count ≡ eventRows (readEvents tt from bs)
-  unfolding eventRows
+  unfolding countOf
   done h = ap Count.Good (sym (i .size)) ∙ ap eventRows (ended eventItem (i .is) (omega arith) ∙ sym (same-events tt from bs))
 
   pub stops : 0 < length rest → (c p : ℕ) → Bad c p ≡ containerStep (readEvent tt at rest)
       → Count.Bad c p ≡ eventRows (readEvents tt from bs)
-  unfolding eventRows
+  unfolding countOf
   stops l c p e =
       let r : eventItem .read tt at rest ≡ bad c p = sym (same-event tt at rest) ∙ holding-bad (readEvent tt at rest) c p e in
       ap eventRows (stopped eventItem (i .is) l c p r ∙ sym (same-events tt from bs))

@@ -1,6 +1,6 @@
 -- One law for each way through check: the limit, the header's words, the configuration, the events.
 -- The idea: the definition reads the same parts in the same order; what code cuts off the front is what the definition drops.
-use mathlib.Core.Path.{_≡_, refl, sym, ap, ap₂, _∙_, subst}
+use mathlib.Core.Path.{_≡_, sym, ap, ap₂, _∙_}
 use mathlib.Core.List.{List, [], _∷_}
 use Prim.Native.Nat.{ℕ, _+_, _%_, _≤_, _<_}
 use native.Mathlib.Omega.{arith}
@@ -22,22 +22,10 @@ use Rattle.containers.specs.declared.Count.{Count}
 use Rattle.containers.specs.declared.Count.the-variants as Count
 use Rattle.containers.specs.declared.Holding.{Holding}
 use Rattle.containers.specs.declared.Holding.the-variants as Holding
-use Rattle.containers.specs.Counts.{containerStep, rowsOfEvents, eventRows, fileRows}
+use Rattle.containers.specs.Counts.{countOf, containerStep, rowsOfEvents, eventRows, fileRows}
 use Rattle.containers.proofs.RecordLoop.{behindOf, left, length-behind, Bytes-behind}
-use Rattle.containers.proofs.ContainerLaws.{counted, sized}
+use Rattle.containers.proofs.ContainerLaws.{count-good, count-bad, sized}
 use Rattle.containers.proofs.EventLoop.{holding-good, holding-bad, few}
-
--- What a count of rows says of the events that were read.
-pub rows-good : (r : Res (List Container)) (m : ℕ) → Count.Good m ≡ eventRows r
-    → (es : List Container) × (r ≡ ok es) × (rowsOfEvents es ≡ m)
-unfolding eventRows
-rows-good (ok es) m e = (es, refl, cc)
-rows-good (bad c p) m e = absurd (subst counted e tt)
-
-rows-bad : (r : Res (List Container)) (c p : ℕ) → Count.Bad c p ≡ eventRows r → r ≡ bad c p
-unfolding eventRows
-rows-bad (ok es) c p e = cc
-rows-bad (bad c′ p′) c p e = cc
 
 -- Events have no more rows than bytes.
 few-rows : (es : List Container) → rowsOfEvents es ≤ length (eventsBytes es)
@@ -47,22 +35,22 @@ few-rows (e ∷ es) = omega (arith, length-append (containerBytes e) (eventsByte
 -- Each test of the header that fails is the refusal; the tests before it have passed.
 module _ (bs : List ℕ) where
   pub over : fileLimit < length bs → Count.Bad 1 0 ≡ fileRows (readFile bs)
-  unfolding readFile fileRows
+  unfolding readFile countOf
   over h = rw (lt-leb (length bs) fileLimit h)
 
   module _ (h : length bs ≤ fileLimit) where
     pub short : length bs < 8 → Count.Bad 2 0 ≡ fileRows (readFile bs)
-    unfolding readFile readParts readHeader fileRows
+    unfolding readFile readParts readHeader countOf
     short l = rw (le-leb (length bs) fileLimit h, lt-leb 8 (length bs) l)
 
     module _ (l : 8 ≤ length bs) (w : ℕ) (ew : w ≡ word 0 bs) where
       pub unmarked : (w ≡ fileMark → ⊥) → Count.Bad 3 0 ≡ fileRows (readFile bs)
-      unfolding readFile readParts readHeader fileRows
+      unfolding readFile readParts readHeader countOf
       unmarked n = rw (le-leb (length bs) fileLimit h, le-leb 8 (length bs) l, ← ew, ne-eqb w fileMark n)
 
       pub other-format : w ≡ fileMark → (v : ℕ) → v ≡ word 4 bs → (v % 65536 ≡ format → ⊥)
           → Count.Bad 4 0 ≡ fileRows (readFile bs)
-      unfolding readFile readParts readHeader fileRows
+      unfolding readFile readParts readHeader countOf
       other-format m v ev n =
           rw (le-leb (length bs) fileLimit h, le-leb 8 (length bs) l, ← ew, eq-eqb w fileMark m, ← ev, ne-eqb (v % 65536) format n)
 
@@ -108,7 +96,7 @@ pub record Configured (bs : List ℕ) (n t : ℕ) : Type 0 where
 
 module _ {bs : List ℕ} (h : Headed bs) where
   pub configuration-fault : (c p : ℕ) → Holding.Bad c p ≡ configurationAnswer bs → Count.Bad c p ≡ fileRows (readFile bs)
-  unfolding fileRows
+  unfolding countOf
   configuration-fault c p q =
       let r : readConfiguration tt 8 (drop 8 bs) ≡ bad c p = ap (readConfiguration tt 8) (left 8 bs) ∙ holding-bad _ c p q in
       rw (headed-reads h, r)
@@ -146,20 +134,20 @@ module _ {bs : List ℕ} {n t : ℕ} (i : Configured bs n t) where
       headed-reads (i .headed) ∙ rw (i .reads, r-is)
 
   pub events-fault : (c p : ℕ) → Count.Bad c p ≡ eventsAnswer bs n → Count.Bad c p ≡ fileRows (readFile bs)
-  unfolding fileRows
-  events-fault c p e = rw (file-reads (bad c p) (rows-bad _ c p e))
+  unfolding countOf
+  events-fault c p e = rw (file-reads (bad c p) (count-bad rowsOfEvents e))
 
   module _ (x : ℕ) (e : Count.Good x ≡ eventsAnswer bs n) where
     pub few-events : x ≤ length bs
     few-events =
         let z : List ℕ = behindOf (16 + n) bs in
-        let (es, r, s) = rows-good (readEvents tt (16 + n) z) x e in
+        let (es, r, s) = count-good rowsOfEvents e in
         let by : Bytes z = Bytes-behind (16 + n) bs (i .headed .bytes) in
         let all : z ≡ eventsBytes es = events .sound tt (16 + n) z es by (sym (same-events tt (16 + n) z) ∙ r) .0 in
         omega (arith, few-rows es, ap length all, length-behind (16 + n) bs)
 
     pub whole : Count.Good (2 + t + x) ≡ fileRows (readFile bs)
-    unfolding fileRows
+    unfolding countOf
     whole =
-        let (es, r, s) = rows-good (readEvents tt (16 + n) (behindOf (16 + n) bs)) x e in
+        let (es, r, s) = count-good rowsOfEvents e in
         rw (file-reads (ok es) r) (ap₂ (λ (a b : ℕ). Count.Good (2 + a + b)) (sym (i .entries)) (sym s))

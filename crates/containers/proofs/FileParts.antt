@@ -1,13 +1,13 @@
 -- Where the parts of a file that was checked lie: its entries and its events, as code cuts them out, are read as the file's own.
 -- The idea: an accepted file is its tree's bytes, so what lies behind its header and its two words is what its parts write.
-use mathlib.Core.Path.{_≡_, refl, sym, ap, ap₂, _∙_, subst}
+use mathlib.Core.Path.{_≡_, refl, sym, ap, ap₂, _∙_}
 use mathlib.Core.List.{List, _++_, append-assoc}
 use Prim.Native.Nat.{ℕ, _+_, _≤_}
 use native.Mathlib.Omega.{arith}
 use lib.ListN.{length, take, drop}
 use lib.Seq.{take-at, drop-at, drop-drop}
 use Rattle.theory.specs.Words.{Bytes, put}
-use Rattle.theory.specs.Tests.{Res, ok, bad}
+use Rattle.theory.specs.Tests.{ok}
 use Rattle.theory.proofs.WordLaws.{word-of-drop}
 use Rattle.theory.proofs.StructureLaws.{second-word, drop-two}
 use Rattle.note.specs.Limits.{fileLimit}
@@ -20,22 +20,7 @@ use Rattle.demands.proofs.Bundles.{records, events, headerItem, same-records, s
 use Rattle.demands.proofs.Follows.{file-sound}
 use Rattle.demands.proofs.OutputLaws.{structure-apart}
 use Rattle.demands.proofs.RowLaws.{file-length}
-use Rattle.containers.specs.declared.Count.the-variants.{Good, Bad}
-use Rattle.containers.specs.Counts.{rowsOfEvents, fileRows}
 use Rattle.containers.proofs.RecordLoop.{behindOf, left}
-use Rattle.containers.proofs.ContainerLaws.{counted}
-
--- What check's answer says of the file.
-pub file-bad : (r : Res File) (c p : ℕ) → Bad c p ≡ fileRows r → r ≡ bad c p
-unfolding fileRows
-file-bad (ok f) c p e = cc
-file-bad (bad c′ p′) c p e = cc
-
-pub file-good : (r : Res File) (n : ℕ) → Good n ≡ fileRows r
-    → (f : File) × (r ≡ ok f) × (2 + length (configurationOf f .body) + rowsOfEvents (eventsOf f) ≡ n)
-unfolding fileRows
-file-good (ok f) n e = (f, refl, cc)
-file-good (bad c p) n e = absurd (subst counted e tt)
 
 module _ (bs : List ℕ) (f : File) (h : Bytes bs) (e : readFile bs ≡ ok f) where
   abbrev conf : Container

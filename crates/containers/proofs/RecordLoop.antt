@@ -15,7 +15,7 @@ use Rattle.record.specs.Steps.{stepOf}
 use Rattle.record.specs.declared.Step.the-variants as Step
 use Rattle.record.proofs.StepLaws.{Read, read-good, step-bad}
 use Rattle.containers.specs.declared.Count.the-variants.{Good, Bad}
-use Rattle.containers.specs.Counts.{recordCount}
+use Rattle.containers.specs.Counts.{countOf, recordCount}
 
 -- The record at the front, as its step says it.
 abbrev pub recordAt : ℕ → ℕ → List ℕ → Record
@@ -69,12 +69,12 @@ module _ {s₀ : Context} {from : ℕ} {bs : List ℕ} {s : Context} {at : ℕ} 
   low = i .low
 
   pub done : length rest ≤ 0 → Good count ≡ recordCount (readRecords s₀ from bs)
-  unfolding recordCount
+  unfolding countOf
   done h = ap Good (sym (i .size)) ∙ ap recordCount (ended recordItem (i .is) (omega arith) ∙ sym (same-records s₀ from bs))
 
   pub refused : 0 < length rest → (c p : ℕ) → Step.Bad c p ≡ stepOf (readRecord s at rest)
       → Bad c p ≡ recordCount (readRecords s₀ from bs)
-  unfolding recordCount readRecord
+  unfolding countOf readRecord
   refused l c p e = ap recordCount (stopped recordItem (i .is) l c p (step-bad (readRecord s at rest) c p e) ∙ sym (same-records s₀ from bs))
 
   module _ (l : 0 < length rest) (k n : ℕ) (e : Step.Good k n ≡ stepOf (readRecord s at rest)) where

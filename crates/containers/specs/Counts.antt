@@ -11,9 +11,13 @@ use Rattle.containers.specs.declared.Count.the-variants as Count
 use Rattle.containers.specs.declared.Holding.{Holding}
 use Rattle.containers.specs.declared.Holding.the-variants as Holding
 
-unfoldable pub recordCount : Res (List Record) → Count
-recordCount (ok rs) = Count.Good (length rs)
-recordCount (bad c p) = Count.Bad c p
+-- What was read, measured in records or in rows; or the refusal.
+unfoldable pub countOf : {A : Type 0} → (A → ℕ) → Res A → Count
+countOf size (ok x) = Count.Good (size x)
+countOf size (bad c p) = Count.Bad c p
+
+abbrev pub recordCount : Res (List Record) → Count
+recordCount = countOf length
 
 unfoldable pub containerStep : Res Container → Holding
 containerStep (ok c) = Holding.Good (c .kind) (length (recordsBytes (c .body))) (length (c .body))
@@ -24,11 +28,12 @@ abbrev pub rowsOfEvents : List Container → ℕ
 rowsOfEvents [] = 0
 rowsOfEvents (e ∷ es) = 1 + length (e .body) + rowsOfEvents es
 
-unfoldable pub eventRows : Res (List Container) → Count
-eventRows (ok es) = Count.Good (rowsOfEvents es)
-eventRows (bad c p) = Count.Bad c p
+abbrev pub eventRows : Res (List Container) → Count
+eventRows = countOf rowsOfEvents
 
 -- The rows of a file: the header's, the configuration's and its entries', the events'.
-unfoldable pub fileRows : Res File → Count
-fileRows (ok f) = Count.Good (2 + length (configurationOf f .body) + rowsOfEvents (eventsOf f))
-fileRows (bad c p) = Count.Bad c p
+abbrev pub rowsOfFile : File → ℕ
+rowsOfFile f = 2 + length (configurationOf f .body) + rowsOfEvents (eventsOf f)
+
+abbrev pub fileRows : Res File → Count
+fileRows = countOf rowsOfFile

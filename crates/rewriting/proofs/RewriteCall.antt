@@ -16,8 +16,8 @@ use Rattle.demands.proofs.Follows.{file-sound}
 use Rattle.demands.proofs.OutputLaws.{laid-is, refusal-keeps}
 use Rattle.demands.proofs.RewriteLaws.{fields-restore, rewrite-restores}
 use Rattle.containers.specs.declared.Count.the-variants.{Good, Bad}
-use Rattle.containers.specs.Counts.{fileRows}
-use Rattle.containers.proofs.FileParts.{file-bad, file-good}
+use Rattle.containers.specs.Counts.{rowsOfFile, fileRows}
+use Rattle.containers.proofs.ContainerLaws.{count-good, count-bad}
 use Rattle.rewriting.specs.Ready.{FileReady, Stands}
 
 module _ (bs old : List ℕ) where
@@ -35,7 +35,7 @@ module _ (bs old : List ℕ) where
 
   pub file-refuses : length old ≤ fileLimit → (c p : ℕ) → Bad c p ≡ fileRows (readFile bs) → Rewrites (refused c p) old
   unfolding rewriteWrote
-  file-refuses limit c p e = refuses c p (rw (le-leb (length old) fileLimit limit, file-bad (readFile bs) c p e))
+  file-refuses limit c p e = refuses c p (rw (le-leb (length old) fileLimit limit, count-bad rowsOfFile e))
 
 -- A file that was checked, and an output within the limit.
 pub record Checked (bs old : List ℕ) : Type 0 where
@@ -46,11 +46,11 @@ pub record Checked (bs old : List ℕ) : Type 0 where
 
 module _ {bs old : List ℕ} (k : Checked bs old) where
   tree : File
-  tree = file-good (readFile bs) (k .rows) (k .good) .0
+  tree = count-good rowsOfFile (k .good) .0
 
   reads : readFile bs ≡ ok tree
   unfolding tree
-  reads = file-good (readFile bs) (k .rows) (k .good) .1
+  reads = count-good rowsOfFile (k .good) .1
 
   restored : fileRewritten tree ≡ bs
   restored = let (is, valid) = file-sound bs tree (k .bytes) reads in fields-restore tree valid ∙ sym is

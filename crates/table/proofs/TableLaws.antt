@@ -14,8 +14,8 @@ use Rattle.note.specs.Events.{Container}
 use Rattle.note.specs.Files.{File, configurationOf, eventsOf, readFile}
 use Rattle.note.specs.Rows.{childOf, eventNode, nodesOf, rowsOf, tableAnswer, tableBuffer}
 use Rattle.containers.specs.declared.Count.the-variants.{Good, Bad}
-use Rattle.containers.specs.Counts.{rowsOfEvents, fileRows}
-use Rattle.containers.proofs.FileParts.{file-good, file-bad}
+use Rattle.containers.specs.Counts.{rowsOfEvents, rowsOfFile, fileRows}
+use Rattle.containers.proofs.ContainerLaws.{count-good, count-bad}
 use Rattle.rows.specs.Buffers.{stored}
 use Rattle.rows.proofs.StoreLaws.{stored-first}
 use Rattle.table.specs.Filling.{FillableFile, FilledFile}
@@ -31,13 +31,13 @@ rows-counted f = length-rows 1 0 (nodesOf f) ∙ omega (arith, length-map (confi
 
 -- What check's answer says of the file and its rows.
 rows-good : (r : Res File) (n : ℕ) → Good n ≡ fileRows r → (f : File) × (r ≡ ok f) × (length (rowsOf f) ≡ n)
-rows-good r n e = let (f, q, same) = file-good r n e in (f, q, rows-counted f ∙ same)
+rows-good r n e = let (f, q, same) = count-good rowsOfFile e in (f, q, rows-counted f ∙ same)
 
 module _ (bs old : List ℕ) where
   pub refused : (c p : ℕ) → Bad c p ≡ fileRows (readFile bs)
       → (record { number = c; count = 0; place = p } ≡ tableAnswer bs (length old)) × (old ≡ tableBuffer bs old)
   unfolding tableAnswer tableBuffer
-  refused c p e = let r : readFile bs ≡ bad c p = file-bad (readFile bs) c p e in (rw r, rw r)
+  refused c p e = let r : readFile bs ≡ bad c p = count-bad rowsOfFile e in (rw r, rw r)
 
   filled-with : (f : File) → readFile bs ≡ ok f → (n : ℕ) → length (rowsOf f) ≡ n → n ≤ length old / 6
       → (new : List ℕ) → new ≡ stored old 0 (rowsOf f)

@@ -15,9 +15,9 @@ use Rattle.note.specs.declared.WalkerYield.{WalkerYield}
 use Rattle.note.specs.declared.WalkerYield.the-variants.{Row, End}
 use Rattle.record.proofs.StepLaws.{cutBody, cut, cut-length}
 use Rattle.containers.proofs.RecordLoop.{behindOf, left, length-behind}
-use Rattle.containers.proofs.FileParts.{file-good, file-bad}
+use Rattle.containers.proofs.ContainerLaws.{count-good, count-bad}
 use Rattle.containers.specs.declared.Count.the-variants.{Good, Bad}
-use Rattle.containers.specs.Counts.{fileRows}
+use Rattle.containers.specs.Counts.{rowsOfFile, fileRows}
 use Rattle.rows.specs.Values.{hasValues, valuesOf}
 use Rattle.rows.specs.declared.Values.{Values}
 use Rattle.walk.specs.declared.Spot.{Spot}
@@ -99,12 +99,12 @@ few-counted bs = go (length bs) bs
 pub opens-refused : (bs : List ℕ) (c p : ℕ) → Bad c p ≡ fileRows (readFile bs)
     → _≡_ {A = Spot} (record { number = c; fault = p; place = 0; end = 0; parent = 0; rows = 0; last = End }) (startOf bs)
 unfolding startOf
-opens-refused bs c p e = rw (file-bad (readFile bs) c p e)
+opens-refused bs c p e = rw (count-bad rowsOfFile e)
 
 pub opens-accepted : (bs : List ℕ) (n : ℕ) → Good n ≡ fileRows (readFile bs)
     → _≡_ {A = Spot} (record { number = 0; fault = 0; place = 0; end = 0; parent = 0; rows = 0; last = End }) (startOf bs)
 unfolding startOf
-opens-accepted bs n e = let (f, r, s) = file-good (readFile bs) n e in rw r
+opens-accepted bs n e = let (f, r, s) = count-good rowsOfFile e in rw r
 
 module _ (bs : List ℕ) (at : Spot) where
   pub header-none : length bs < 8 → ended at ≡ headerStep bs at
