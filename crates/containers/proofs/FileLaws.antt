@@ -28,7 +28,7 @@ use Rattle.containers.proofs.ContainerLaws.{count-good, count-bad, size
 use Rattle.containers.proofs.EventLoop.{holding-good, holding-bad, few}
 
 -- Events have no more rows than bytes.
-few-rows : (es : List Container) → rowsOfEvents es ≤ length (eventsBytes es)
+pub few-rows : (es : List Container) → rowsOfEvents es ≤ length (eventsBytes es)
 few-rows [] = omega arith
 few-rows (e ∷ es) = omega (arith, length-append (containerBytes e) (eventsBytes es), container-size e, few (e .body), few-rows es)
 

@@ -35,7 +35,7 @@ children-total (r ∷ rs) =
 pub container-size : (c : Container) → length (containerBytes c) ≡ containerSize c
 container-size c = length-structure order recordsBytes c
 
-events-extents : (es : List Container) → extents (map eventNode es) ≡ length (eventsBytes es)
+pub events-extents : (es : List Container) → extents (map eventNode es) ≡ length (eventsBytes es)
 events-extents [] = refl
 events-extents (e ∷ es) =
     omega (arith, length-append (containerBytes e) (eventsBytes es), container-size e, children-total (e .body), events-extents es)

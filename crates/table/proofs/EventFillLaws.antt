@@ -1,6 +1,6 @@
 -- Filling the rows of events that were checked: what is known at each turn, and what a turn leads to.
 -- The idea: an event's records are stored behind its own row's place, and its own row, whose count is known then, before them.
-use mathlib.Core.Path.{_≡_, sym, ap, ap₂, _∙_, subst}
+use mathlib.Core.Path.{_≡_, refl, sym, ap, ap₂, _∙_, subst}
 use mathlib.Core.List.{List, [], _∷_, _++_, map, append-nil, map-append}
 use Prim.Native.Nat.{ℕ, _+_, _-_, _*_, _%_, _≤_, _<_}
 use native.Mathlib.Omega.{arith}
@@ -17,9 +17,11 @@ use Rattle.note.specs.Records.{event, none, recordsBytes, readRecords}
 use Rattle.note.specs.Events.{Container}
 use Rattle.note.specs.Rows.{childOf, childrenOf, eventNode}
 use Rattle.demands.proofs.Bundles.{eventItem, events, same-events}
-use Rattle.demands.proofs.RowLaws.{children-total}
+use Rattle.demands.proofs.RowLaws.{children-total, events-extents}
+use Rattle.containers.specs.Counts.{rowsOfEvents}
 use Rattle.containers.proofs.RecordLoop.{behindOf, Bytes-behind}
 use Rattle.containers.proofs.EventLoop.{Shown, event-shows, on-event, few}
+use Rattle.containers.proofs.FileLaws.{few-rows}
 use Rattle.record.proofs.StepLaws.{cutBody, cut-length}
 use Rattle.rows.specs.declared.Row as code
 use Rattle.rows.specs.Buffers.{rowOf, stored}
@@ -29,10 +31,10 @@ use Rattle.rows.proofs.StoreLaws.{stored-append, stored-nil, length-stored, sto
 abbrev nodes : List Container → List Node
 nodes es = map eventNode es
 
--- Events have no more rows than bytes.
-few-rows : (es : List Container) → rowCount (nodes es) ≤ extents (nodes es)
-few-rows [] = omega arith
-few-rows (e ∷ es) = omega (arith, few (e .body), children-total (e .body), length-map (e .body) childOf, few-rows es)
+-- The rows that check counts are the rows of the events' nodes.
+pub events-rows : (es : List Container) → rowCount (nodes es) ≡ rowsOfEvents es
+events-rows [] = refl
+events-rows (e ∷ es) = omega (arith, length-map (e .body) childOf, events-rows es)
 
 -- What is known at a turn: the events so far, the place behind them, and their rows in the buffer.
 pub record FillingEvents (from : ℕ) (bs rows₀ : List ℕ) (first : ℕ) (stored′ rest : List ℕ) (at n : ℕ) : Type 0 where
@@ -69,7 +71,7 @@ module _ {from : ℕ} {bs rows₀ : List ℕ} {first : ℕ} {now rest : List ℕ
   module _ (p : FillableEvents from bs (length rows₀) first) where
     -- no more rows than bytes so far
     pub low : n ≤ at
-    low = omega (arith, i .row, i .here, few-rows (i .es), p .low)
+    low = let es = i .es in omega (arith, i .row, i .here, events-rows es, few-rows es, events-extents es, p .low)
 
     all-read : events .read tt from bs ≡ ok (p .events)
     all-read = sym (same-events tt from bs) ∙ p .reads

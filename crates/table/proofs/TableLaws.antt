@@ -1,31 +1,26 @@
 -- Table's answer and buffer in each of its three cases: refused, too few rows lent, filled.
 -- The idea: the count that check gives is the number of rows, so the code's test is the definition's.
-use Prim.Native.Nat.{ℕ, _+_, _*_, _/_, _≤_, _<_}
+use Prim.Native.Nat.{ℕ, _*_, _/_, _≤_, _<_}
 use native.Mathlib.Omega.{arith}
-use mathlib.Core.Path.{_≡_, refl, _∙_}
-use mathlib.Core.List.{List, [], _∷_, map}
+use mathlib.Core.Path.{_≡_, _∙_}
+use mathlib.Core.List.{List}
 use lib.ListN.{length, length-map}
 use borrow.Author.Tests.{le-leb, lt-leb}
 use Rattle.theory.specs.Tests.{Res, ok, bad}
-use Rattle.theory.specs.Layout.{rowCount}
 use Rattle.theory.proofs.LayoutLaws.{length-rows}
 use Rattle.note.specs.Limits.{rowWidth}
-use Rattle.note.specs.Events.{Container}
 use Rattle.note.specs.Files.{File, configurationOf, eventsOf, readFile}
-use Rattle.note.specs.Rows.{childOf, eventNode, nodesOf, rowsOf, tableAnswer, tableBuffer}
+use Rattle.note.specs.Rows.{childOf, nodesOf, rowsOf, tableAnswer, tableBuffer}
 use Rattle.containers.specs.declared.Count.the-variants.{Good, Bad}
-use Rattle.containers.specs.Counts.{rowsOfEvents, rowsOfFile, fileRows}
+use Rattle.containers.specs.Counts.{rowsOfFile, fileRows}
 use Rattle.containers.proofs.ContainerLaws.{count-good, count-bad}
 use Rattle.rows.specs.Buffers.{stored}
 use Rattle.rows.proofs.StoreLaws.{stored-first}
 use Rattle.table.specs.Filling.{FillableFile, FilledFile}
-
-events-rows : (es : List Container) → rowCount (map eventNode es) ≡ rowsOfEvents es
-events-rows [] = refl
-events-rows (e ∷ es) = omega (arith, length-map (e .body) childOf, events-rows es)
+use Rattle.table.proofs.EventFillLaws.{events-rows}
 
 -- The count that check gives is the number of rows.
-rows-counted : (f : File) → length (rowsOf f) ≡ 2 + length (configurationOf f .body) + rowsOfEvents (eventsOf f)
+rows-counted : (f : File) → length (rowsOf f) ≡ rowsOfFile f
 unfolding rowsOf nodesOf
 rows-counted f = length-rows 1 0 (nodesOf f) ∙ omega (arith, length-map (configurationOf f .body) childOf, events-rows (eventsOf f))
 
