@@ -23,7 +23,7 @@ use Rattle.record.proofs.StepLaws.{cutBody, cut, cut-length, cut-bytes}
 use Rattle.containers.proofs.RecordLoop.{behindOf}
 use Rattle.rewriting.specs.Ready.{containerHead, containerLate, contentsIn, readContainer, readContainers, Begins, RecordsReady, Stands}
 use Rattle.rewriting.proofs.CopyLoop as loop
-use Rattle.rewriting.proofs.CopyLoop.{Copying, Found, here, next}
+use Rattle.rewriting.proofs.CopyLoop.{Copying, Found, item-fits, here, next}
 use Rattle.rewriting.proofs.ContainerCopy.{head-laid, container-copied}
 
 -- What stands in a container.
@@ -58,9 +58,7 @@ module _ {old : List ℕ} {place : ℕ} {part out rest : List ℕ} {at : ℕ} (i
   opened = opens order containerHead containerLate (contents .read) (i .state) at rest item reads
 
   pub container-turn : (m : ℕ) → m ≡ word 4 rest → (8 + m ≤ length rest) × (at + (8 + m) ≤ fileLimit)
-  container-turn m em =
-      let (room, limit) = loop.inside containerItem i in
-      (omega (arith, em, opened .fits), omega (arith, em, opened .fits, room, limit))
+  container-turn = item-fits containerItem i (opened .fits)
 
 -- Its two words were read.
 module _ {old : List ℕ} {place : ℕ} {part out rest : List ℕ} {at w m : ℕ} (f : Found containerItem old place part out rest at w m) where
@@ -73,15 +71,15 @@ module _ {old : List ℕ} {place : ℕ} {part out rest : List ℕ} {at w m : ℕ
   abbrev context : Context
   context = contentsIn (i .state)
 
-  pub container-fits : (8 + m ≤ length rest) × (at + (8 + m) ≤ fileLimit)
-  container-fits = container-turn i (f .more) m (f .length-is)
+  fits : 8 + m ≤ length rest
+  fits = container-turn i (f .more) m (f .length-is) .0
 
   -- Its contents, as code cuts them.
   abbrev inner : List ℕ
   inner = cutBody m rest
 
   inner-size : length inner ≡ m
-  inner-size = cut-length m rest (container-fits .0)
+  inner-size = cut-length m rest fits
 
   inner-reads : readRecords context (at + 8) inner ≡ ok (own .body)
   inner-reads =
@@ -96,7 +94,7 @@ module _ {old : List ℕ} {place : ℕ} {part out rest : List ℕ} {at w m : ℕ
   pub begin-ready : HasRoom (length out) at (at + (8 + m)) × Begins w
   begin-ready =
       let (room, limit) = loop.inside containerItem i in (
-        (omega arith, omega (arith, container-fits .0, room), limit),
+        (omega arith, omega (arith, fits, room), limit),
         (i .state, ap (containerHead (i .state)) (f .kind-is) ∙ opened i (f .more) .head-ok),
       )
 

@@ -63,6 +63,10 @@ module _ {S A : Type 0} (F : Item S A) where
         let sum : length part ≡ length (i .front) + length rest = ap length (i .splits) ∙ length-append (i .front) rest in
         (omega (arith, sum, i .laid .ends, i .laid .size, i .room), omega (arith, i .laid .size, i .limit))
 
+    -- An item of m bytes of contents that fits what is left ends within the limit.
+    pub item-fits : 8 + word 4 rest ≤ length rest → (m : ℕ) → m ≡ word 4 rest → (8 + m ≤ length rest) × (at + (8 + m) ≤ fileLimit)
+    item-fits fits m em = (omega (arith, em, fits), omega (arith, em, fits, inside))
+
     pub ended : length rest ≤ 0 → Stands part old place out
     ended l =
         let all : i .front ≡ part =

@@ -14,7 +14,7 @@ use Rattle.demands.proofs.Bundles.{recordItem, same-record}
 use Rattle.record.proofs.StepLaws.{Read, read-shows, cutBody, cut, cut-bytes}
 use Rattle.containers.proofs.RecordLoop.{behindOf}
 use Rattle.copies.specs.Copying.{Copyable, Copied}
-use Rattle.rewriting.proofs.CopyLoop.{Copying, Found, inside, here, next}
+use Rattle.rewriting.proofs.CopyLoop.{Copying, Found, inside, item-fits, here, next}
 
 -- An admitted kind has the kind word that names it.
 named : (w : ℕ) (b : List ℕ) → recordRule w b ≡ 0 → kindOf w .word ≡ w
@@ -33,11 +33,8 @@ module _ {old : List ℕ} {place : ℕ} {part out rest : List ℕ} {at : ℕ} (i
   shown : Read (i .state) at rest kind (word 4 rest) × (here recordItem i l .item ≡ record { kind = kind; body = body })
   shown = read-shows (i .state) at rest (here recordItem i l .item) (same-record (i .state) at rest ∙ here recordItem i l .reads-item)
 
-  fits : 8 + word 4 rest ≤ length rest
-  fits = shown .0 .fits
-
   pub turn : (m : ℕ) → m ≡ word 4 rest → (8 + m ≤ length rest) × (at + (8 + m) ≤ fileLimit)
-  turn m em = (omega (arith, em, fits), omega (arith, em, fits, inside recordItem i .0, inside recordItem i .1))
+  turn = item-fits recordItem i (shown .0 .fits)
 
 -- Its two words were read.
 module _ {old : List ℕ} {place : ℕ} {part out rest : List ℕ} {at k m : ℕ} (f : Found recordItem old place part out rest at k m) where

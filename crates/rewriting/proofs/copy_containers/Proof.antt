@@ -9,7 +9,7 @@ use Rattle.theory.proofs.WordLaws.{Bytes-from}
 use Rattle.note.specs.Limits.{fileLimit}
 use Rattle.rewriting.proofs.CopyLoop.{Copying, Found, begin, ended}
 use Rattle.rewriting.proofs.ContainerLoop.{containerItem, same-containers, container-turn}
-use Rattle.rewriting.proofs.ContainerLoop.{container-fits, begin-ready, records-ready, container-next}
+use Rattle.rewriting.proofs.ContainerLoop.{begin-ready, records-ready, container-next}
 use borrow.Author.Needs.{needs}
 use Rattle.rewriting.proofs.copy_containers.Statement.{statement}
 use Rattle.rewriting.proofs.copy_containers.Tie as tie
@@ -53,7 +53,7 @@ found c =
 
 sized : (c : tie.After-word-at2 Inv-loop μ-loop)
     → (8 + c .word-at2 .result ≤ length (now (head c .loop .rest))) × (head c .loop .at + (8 + c .word-at2 .result) ≤ fileLimit)
-sized c = container-fits (found c)
+sized c = container-turn (found c .so-far) (found c .more) _ (found c .length-is)
 
 -- In a turn: a container's two words stand there.
 words : (c : tie.In-loop Inv-loop μ-loop) → 8 ≤ length (now (c .before .loop .rest))
