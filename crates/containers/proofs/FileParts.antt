@@ -20,7 +20,19 @@ use Rattle.demands.proofs.Bundles.{records, events, headerItem, same-records, s
 use Rattle.demands.proofs.Follows.{file-sound}
 use Rattle.demands.proofs.OutputLaws.{structure-apart}
 use Rattle.demands.proofs.RowLaws.{file-length}
+use Rattle.containers.specs.declared.Count.the-variants.{Good}
+use Rattle.containers.specs.Counts.{rowsOfFile, fileRows}
 use Rattle.containers.proofs.RecordLoop.{behindOf, left}
+use Rattle.containers.proofs.ContainerLaws.{count-good}
+
+-- A file of bytes that check accepted.
+pub record Checked (bs : List ℕ) : Type 0 where
+  pub bytes : Bytes bs
+  pub file : File
+  pub reads : readFile bs ≡ ok file
+
+pub checked : {bs : List ℕ} → Bytes bs → {n : ℕ} → Good n ≡ fileRows (readFile bs) → Checked bs
+checked h e = let (f, r, s) = count-good rowsOfFile e in record { bytes = h; file = f; reads = r }
 
 module _ (bs : List ℕ) (f : File) (h : Bytes bs) (e : readFile bs ≡ ok f) where
   abbrev conf : Container

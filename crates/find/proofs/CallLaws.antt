@@ -5,7 +5,6 @@ use mathlib.Core.List.{List}
 use Prim.Native.Nat.{ℕ, _+_, _≤_}
 use native.Mathlib.Omega.{arith}
 use lib.ListN.{length}
-use Rattle.theory.specs.Words.{Bytes}
 use Rattle.theory.specs.Tests.{ok}
 use Rattle.note.specs.Limits.{fileLimit}
 use Rattle.note.specs.Words.{word}
@@ -14,27 +13,18 @@ use Rattle.note.specs.Answers.{Given, accepted, counts, givenFind}
 use Rattle.note.specs.Answers as Answers
 use Rattle.note.specs.Records.{recordsBytes}
 use Rattle.note.specs.Events.{containerSize, readEvents}
-use Rattle.note.specs.Files.{File, configurationOf, eventsOf, readFile}
+use Rattle.note.specs.Files.{configurationOf, eventsOf, readFile}
 use Rattle.note.specs.Calls.{tracesFrom, tracesOf, firstMatch, findAt}
-use Rattle.containers.specs.declared.Count.the-variants.{Good, Bad}
+use Rattle.containers.specs.declared.Count.the-variants.{Bad}
 use Rattle.containers.specs.Counts.{rowsOfFile, fileRows}
 use Rattle.containers.proofs.RecordLoop.{behindOf, length-behind}
-use Rattle.containers.proofs.ContainerLaws.{count-good, count-bad}
-use Rattle.containers.proofs.FileParts.{length-is, room, events-read}
+use Rattle.containers.proofs.ContainerLaws.{count-bad}
+use Rattle.containers.proofs.FileParts.{Checked, length-is, room, events-read}
 use Rattle.find.specs.Search.{Searchable, tracesRead}
 
 pub refused : (bs : List ℕ) (number code c p : ℕ) → Bad c p ≡ fileRows (readFile bs) → Answers.refused c p ≡ findAt bs number code
 unfolding findAt
 refused bs number code c p e = rw (count-bad rowsOfFile e)
-
--- A file of bytes that check accepted.
-pub record Checked (bs : List ℕ) : Type 0 where
-  pub bytes : Bytes bs
-  pub file : File
-  pub reads : readFile bs ≡ ok file
-
-pub checked : (bs : List ℕ) → Bytes bs → (n : ℕ) → Good n ≡ fileRows (readFile bs) → Checked bs
-checked bs h n e = let (f, r, s) = count-good rowsOfFile e in record { bytes = h; file = f; reads = r }
 
 module _ {bs : List ℕ} (f : Checked bs) where
   size : (16 + length (recordsBytes (configurationOf (f .file) .body)) ≤ length bs) × (length bs ≤ fileLimit)

@@ -7,7 +7,8 @@ use native.Mathlib.Omega.{arith}
 use denote.Ref.{now}
 use Rattle.theory.proofs.WordLaws.{Bytes-from}
 use Rattle.note.specs.Answers.{givenFind}
-use Rattle.find.proofs.CallLaws.{refused, Checked, checked, word-fits, events-fit, searchable, searched}
+use Rattle.containers.proofs.FileParts.{Checked, checked}
+use Rattle.find.proofs.CallLaws.{refused, word-fits, events-fit, searchable, searched}
 use borrow.Author.Needs.{needs}
 use Rattle.find.proofs.find.Statement.{statement}
 use Rattle.find.proofs.find.Tie as tie
@@ -26,8 +27,8 @@ file c = now (start c .args .file)
 
 accepted : (c : tie.After-enum-told) → Checked (file c)
 accepted c =
-    checked (file c) (Bytes-from (file c) (λ i l. omega (arith, c .before .before .before .shared-slice-known .given i)))
-    _ (sym (c .enum-told .given .1) ∙ c .before .before .check .ensures)
+    checked (Bytes-from (file c) (λ i l. omega (arith, c .before .before .before .shared-slice-known .given i)))
+    (sym (c .enum-told .given .1) ∙ c .before .before .check .ensures)
 
 check-requires : tie.Need-check-requires
 check-requires c κs = search needs

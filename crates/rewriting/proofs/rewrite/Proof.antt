@@ -6,7 +6,8 @@ use denote.Ref.{now}
 use Rattle.theory.specs.Words.{Bytes}
 use Rattle.theory.proofs.WordLaws.{Bytes-from}
 use Rattle.note.specs.Answers.{givenWriter}
-use Rattle.rewriting.proofs.RewriteCall.{over, file-refuses, Checked, no-room, ready, rewrites}
+use Rattle.containers.proofs.FileParts.{Checked, checked}
+use Rattle.rewriting.proofs.RewriteCall.{over, file-refuses, no-room, ready, rewrites}
 use borrow.Author.Needs.{needs}
 use Rattle.rewriting.proofs.rewrite.Statement.{statement}
 use Rattle.rewriting.proofs.rewrite.Tie as tie
@@ -26,14 +27,9 @@ start c = c .before .before .before
 held : (c : tie.After-slice-known) → Bytes (now (c .before .before .args .file))
 held c = Bytes-from (now (c .before .before .args .file)) (λ i l. omega (arith, c .before .shared-slice-known .given i))
 
--- Where the file was accepted: what `check` said of it.
-checked : (c : tie.After-enum-told) → Checked (now (start (tested c) .args .file)) (now (start (tested c) .args .out))
-checked c = record {
-  limit = tested c .if1 .left;
-  bytes = held (tested c .before);
-  rows = _;
-  good = sym (c .enum-told .given .1) ∙ c .before .before .check .ensures;
-}
+-- Where the file was accepted.
+accepted : (c : tie.After-enum-told) → Checked (now (start (tested c) .args .file))
+accepted c = checked (held (tested c .before)) (sym (c .enum-told .given .1) ∙ c .before .before .check .ensures)
 
 returns : tie.Need-returns
 unfolding givenWriter
@@ -50,10 +46,10 @@ enum-told c = search needs
 
 returns-2 : tie.Need-returns-2
 unfolding givenWriter
-returns-2 c = no-room (checked (c .before)) (c .if2 .taken)
+returns-2 c = no-room (accepted (c .before)) _ (tested (c .before) .if1 .left) (c .if2 .taken)
 
 copy-file-requires : tie.Need-copy-file-requires
-copy-file-requires c κs = ready (checked (c .before .before)) (c .before .if2 .left)
+copy-file-requires c κs = let good = c .before .before in ready (accepted good) (tested good .if1 .left) (c .before .if2 .left)
 
 returns-3 : tie.Need-returns-3
 unfolding givenWriter
@@ -69,7 +65,7 @@ unfolding givenWriter
 returns-4 c =
     let copied = c .before .before in
     let test = copied .before .before in
-    rewrites (checked (test .before)) (test .if2 .left) _ (copied .copy-file .ensures)
+    rewrites (accepted (test .before)) _ (tested (test .before) .if1 .left) (test .if2 .left) _ (copied .copy-file .ensures)
 
 pub rewrite-spec : {M : Type 1} → statement M
 rewrite-spec =
