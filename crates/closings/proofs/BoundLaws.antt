@@ -1,4 +1,4 @@
--- Each way through a closing's answer before its contents are asked, and what the end tells that was answered there.
+-- Each way through a closing's answer before its contents are asked, and what it tells that the end was answered there.
 -- The idea: one law for the three ways to 13, and one for each test behind it.
 use Prim.Native.Nat.{ℕ, _+_, _≤_, _<_}
 use mathlib.Core.Path.{_≡_, refl, sym, ap}

@@ -41,7 +41,7 @@ pub record Call : Type 0 where
   pub context : Context
 
 module _ (k : Call) where
-  -- The closing's result; what stands before it asks its contents; these; and the two words.
+  -- The closing's result; what is answered before the contents are asked; what the contents are read as; the two words.
   abbrev result : Res ℕ
   result = closed (k .out) (k .place) (k .end) (k .fault) (k .least) (k .context)
 
@@ -95,7 +95,7 @@ need-bind : {A B : Type 0} (c p : ℕ) (r : Res A) (k : A → Res B) → bind (n
 need-bind zero p r k = refl
 need-bind (suc c) p r k = refl
 
--- An end that leaves room for the two words is asked once.
+-- That the end leaves room for the two words, asked a second time, says nothing new.
 once : (b : Bool) (p : ℕ) (r : Res ℕ) → need (unless b 13) p (need (unless b 9) p r) ≡ need (unless b 13) p r
 once true p r = refl
 once false p r = refl

@@ -1,5 +1,5 @@
--- One law for each way through a container's reader, once for configurations and events.
--- The idea: a container is its two words, in order, and then its records; head and late are what the two kinds of container differ in.
+-- What a count says of what was read; and one law for each way through a container's reader, once for configurations and events.
+-- The idea: a container is its two words, in order, and then its records; head, late and the context inner are what the two kinds differ in.
 use mathlib.Core.Path.{_≡_, refl, sym, ap, _∙_, subst}
 use mathlib.Core.List.{List}
 use Prim.Native.Nat.{ℕ, _+_, _-_, _≤_, _<_}

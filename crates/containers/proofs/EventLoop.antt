@@ -68,6 +68,7 @@ rows-more : (es : List Container) (e : Container) → rowsOfEvents (es ++ e ∷ 
 rows-more [] e = omega arith
 rows-more (x ∷ es) e = omega (arith, rows-more es e)
 
+-- Counting: the events that were read have so many rows.
 pub record Rows (from : ℕ) (bs : List ℕ) (at : ℕ) (rest : List ℕ) (count : ℕ) : Type 0 where
   pub es : List Container
   pub is : At eventItem tt from bs tt at rest es

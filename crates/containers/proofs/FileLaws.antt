@@ -32,7 +32,7 @@ pub few-rows : (es : List Container) → rowsOfEvents es ≤ length (eventsBytes
 few-rows [] = omega arith
 few-rows (e ∷ es) = omega (arith, length-append (containerBytes e) (eventsBytes es), container-size e, few (e .body), few-rows es)
 
--- Each test of the header that fails is the refusal; the tests before it have passed.
+-- Each test, of the limit and of the header, that fails is the refusal; the tests before it have passed.
 module _ (bs : List ℕ) where
   pub over : fileLimit < length bs → Count.Bad 1 0 ≡ fileRows (readFile bs)
   unfolding readFile countOf

@@ -1,5 +1,5 @@
 -- Where the parts of a file that was checked lie: its entries and its events, as code cuts them out, are read as the file's own.
--- The idea: an accepted file is its tree's bytes, so what lies behind its header and its two words is what its parts write.
+-- The idea: an accepted file is its tree's bytes, so what lies behind its header, and behind the configuration's two words, is what its parts write.
 use mathlib.Core.Path.{_≡_, refl, sym, ap, ap₂, _∙_}
 use mathlib.Core.List.{List, _++_, append-assoc}
 use Prim.Native.Nat.{ℕ, _+_, _≤_}

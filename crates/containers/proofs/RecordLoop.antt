@@ -78,9 +78,6 @@ module _ {s₀ : Context} {from : ℕ} {bs : List ℕ} {s : Context} {at : ℕ} 
   refused l c p e = ap recordCount (stopped recordItem (i .is) l c p (step-bad (readRecord s at rest) c p e) ∙ sym (same-records s₀ from bs))
 
   module _ (l : 0 < length rest) (k n : ℕ) (e : Step.Good k n ≡ stepOf (readRecord s at rest)) where
-    pub fits : 8 + n ≤ length rest
-    fits = read-good s at rest k n e .fits
-
     pub next : (s′ : Context) → s′ ≡ behind s k
         → Counting s₀ from bs s′ (at + (8 + n)) (behindOf (8 + n) rest) (count + 1)
     next s′ q = record {

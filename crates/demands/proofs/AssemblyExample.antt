@@ -30,7 +30,8 @@ pub example-assembled : fileAssembled (replicate 96 255) pieces ≡ ok (record {
 unfolding computing writtenOf recordsAssembled containerAssembled eventsAssembled fileAssembled
 example-assembled = refl
 
--- Its pieces fit, as every law of an assembly asks; that they are without fault and where they may stand is then `granted-exactly`'s.
+-- Its pieces fit, as every law of an assembly asks; that they are without fault and stand where they may,
+-- `granted-exactly` says then.
 pub example-fits : FileFits pieces
 unfolding PieceFits
 example-fits = record { major = omega arith; minor = omega arith; entries = tt; events = (omega arith, tt) }

@@ -110,7 +110,7 @@ event-valid e v = record {
   records-valid = records-valid (event none) (e .body) (v .body-ok);
 }
 
-pub event-ok : (e : Container) → ValidEvent e → eventItem .Ok tt e
+event-ok : (e : Container) → ValidEvent e → eventItem .Ok tt e
 event-ok e v = record {
   head-ok = v .word-rule;
   late-ok = most-passes 9 (v .not-empty);

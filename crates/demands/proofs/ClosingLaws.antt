@@ -1,6 +1,6 @@
 -- A closing that is accepted leaves a container: read at the place, it has the first word that was asked for and the records of the contents.
 -- The idea: the closing's checks are the reader's tests in another order. One law over any container's tests takes what they have shown
--- (`Checked`); then, for each of the two kinds: an accepted closing has shown it, and it asks no more.
+-- (`Checked`); then, for each of the two kinds: an accepted closing has shown it, and a closing asks no more.
 use mathlib.Core.Path.{_≡_, refl, sym, ap, ap₂, _∙_}
 use mathlib.Core.Bool.{true}
 use mathlib.Core.List.{List, [], _∷_, _++_, append-assoc, append-nil}
@@ -133,7 +133,7 @@ module _ (head : Unit {0} → ℕ → ℕ) (late : Unit {0} → ℕ → ℕ → 
         }
 
     -- So a closing that has checked all this leaves a closed container.
-    pub closes : Closed reader c out (written (ok next) out place (closingBytes word place end)) place end next word
+    closes : Closed reader c out (written (ok next) out place (closingBytes word place end)) place end next word
     unfolding eight new whole
     closes =
         let all : List ℕ = containerBytes whole in

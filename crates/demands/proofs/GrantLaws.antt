@@ -240,7 +240,7 @@ module _ (f : FilePieces) (h : FileFits f) where
       omega (arith, length-append (headerBytes version) (c ++ events), length-append c events, headerItem .sizes version)
 
   -- Pieces without fault, each where it may stand, make a file that follows the note, if it isn't too long.
-  pub file-valid : FileFaultless f → FilePlaced f → length (fileBytes (fileOf f)) ≤ fileLimit → Valid (fileOf f)
+  file-valid : FileFaultless f → FilePlaced f → length (fileBytes (fileOf f)) ≤ fileLimit → Valid (fileOf f)
   unfolding fileOf
   file-valid fine placed l =
       let size = container-size configuration in

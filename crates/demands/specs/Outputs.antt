@@ -1,4 +1,5 @@
--- Document 01, 'Rows and calls', of writers: what stands in the output afterwards, and what the reading calls make of it.
+-- Document 01, 'Rows and calls', of writers: the room that a container asks, what stands in the output
+-- afterwards, and what the reading calls make of it.
 use Prim.Native.Nat.{ℕ, _+_, _-_, _≤_, _<_}
 use mathlib.Core.Path.{_≡_}
 use mathlib.Core.List.{List}

@@ -1,5 +1,5 @@
 -- The fields of an answer as a C caller finds them: a 32-bit number, signed or not, is the same number in 64 bits, whatever the list of fields.
--- The idea: the lower half of 64 bits holds each, and the answer's own type says of each field that its 32 bits hold it.
+-- The idea: a signed number of 64 bits has room for each, and the answer's own type says of each field that its 32 bits hold it.
 use Prim.Native.Nat.{ℕ, _<_, _^_}
 use mathlib.Core.Path.{_≡_, refl, ap, _∙_}
 use mathlib.Core.List.{List, [], _∷_}

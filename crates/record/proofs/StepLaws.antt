@@ -137,6 +137,3 @@ read-good s at bs k n e =
 -- The body of a good step, as code cuts it.
 pub body-follows : (s : Context) (at : ℕ) (bs : List ℕ) (k n : ℕ) → Read s at bs k n → recordRule k (cutBody n bs) ≡ 0
 body-follows s at bs k n g = ap (recordRule k) (cut n bs) ∙ g .follows
-
-pub body-length : (s : Context) (at : ℕ) (bs : List ℕ) (k n : ℕ) → Read s at bs k n → length (cutBody n bs) ≡ n
-body-length s at bs k n g = ap length (cut n bs) ∙ g .size

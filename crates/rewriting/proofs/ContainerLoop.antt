@@ -37,7 +37,7 @@ pub same-containers : (first : Bool) (at : ℕ) (bs : List ℕ) → readContaine
 unfolding readContainers readContainer readRecords readRecord
 same-containers first at bs = refl
 
--- Behind the configuration events are containers.
+-- Behind the configuration, events are containers.
 pub events-are : (es : List Container) → Oks eventItem tt es → Oks containerItem false es
 events-are [] o = tt
 events-are (e ∷ es) (o, os) = (
@@ -57,8 +57,8 @@ module _ {old : List ℕ} {place : ℕ} {part out rest : List ℕ} {at : ℕ} (i
   opened : Opened order containerHead containerLate (contents .read) (i .state) at rest item
   opened = opens order containerHead containerLate (contents .read) (i .state) at rest item reads
 
-  pub container-turn : (m : ℕ) → m ≡ word 4 rest → (8 + m ≤ length rest) × (at + (8 + m) ≤ fileLimit)
-  container-turn = item-fits containerItem i (opened .fits)
+  pub container-fits : (m : ℕ) → m ≡ word 4 rest → (8 + m ≤ length rest) × (at + (8 + m) ≤ fileLimit)
+  container-fits = item-fits containerItem i (opened .fits)
 
 -- Its two words were read.
 module _ {old : List ℕ} {place : ℕ} {part out rest : List ℕ} {at w m : ℕ} (f : Found containerItem old place part out rest at w m) where
@@ -72,7 +72,7 @@ module _ {old : List ℕ} {place : ℕ} {part out rest : List ℕ} {at w m : ℕ
   context = contentsIn (i .state)
 
   fits : 8 + m ≤ length rest
-  fits = container-turn i (f .more) m (f .length-is) .0
+  fits = container-fits i (f .more) m (f .length-is) .0
 
   -- Its contents, as code cuts them.
   abbrev inner : List ℕ
@@ -90,10 +90,10 @@ module _ {old : List ℕ} {place : ℕ} {part out rest : List ℕ} {at w m : ℕ
   same : record { kind = w; body = own .body } ≡ own
   same = λ j. record { kind = (f .kind-is ∙ sym (opened i (f .more) .kind-is)) j; body = own .body }
 
-  -- Its two words have room.
+  -- Its two words have room, and its first word may begin a container.
   pub begin-ready : HasRoom (length out) at (at + (8 + m)) × Begins w
   begin-ready =
-      let (room, limit) = loop.inside containerItem i in (
+      let (room, limit) = loop.rest-has-room containerItem i in (
         (omega arith, omega (arith, fits, room), limit),
         (i .state, ap (containerHead (i .state)) (f .kind-is) ∙ opened i (f .more) .head-ok),
       )

@@ -57,15 +57,15 @@ module _ {S A : Type 0} (F : Item S A) where
   }
 
   module _ {old : List ℕ} {place : ℕ} {part out rest : List ℕ} {at : ℕ} (i : Copying old place part out rest at) where
-    -- What is left has its room, in an output of the same size.
-    pub inside : (at + length rest ≤ length out) × (length out ≤ fileLimit)
-    inside =
+    -- What is left has room in the output, which is within the limit.
+    pub rest-has-room : (at + length rest ≤ length out) × (length out ≤ fileLimit)
+    rest-has-room =
         let sum : length part ≡ length (i .front) + length rest = ap length (i .splits) ∙ length-append (i .front) rest in
         (omega (arith, sum, i .laid .ends, i .laid .size, i .room), omega (arith, i .laid .size, i .limit))
 
     -- An item of m bytes of contents that fits what is left ends within the limit.
     pub item-fits : 8 + word 4 rest ≤ length rest → (m : ℕ) → m ≡ word 4 rest → (8 + m ≤ length rest) × (at + (8 + m) ≤ fileLimit)
-    item-fits fits m em = (omega (arith, em, fits), omega (arith, em, fits, inside))
+    item-fits fits m em = (omega (arith, em, fits), omega (arith, em, fits, rest-has-room))
 
     pub ended : length rest ≤ 0 → Stands part old place out
     ended l =
@@ -95,7 +95,7 @@ module _ {S A : Type 0} (F : Item S A) where
           record {
             front = i .front ++ more;
             splits = i .splits ∙ ap (λ (x : List ℕ). i .front ++ x) parts ∙ sym (append-assoc (i .front) more _);
-            laid = both-laid old out new (i .front) more place at (at + n) (omega (arith, inside .0, i .laid .size)) (i .laid) m;
+            laid = both-laid old out new (i .front) more place at (at + n) (omega (arith, rest-has-room .0, i .laid .size)) (i .laid) m;
             state = F .step (i .state) item;
             items = here .others;
             reads = ap₂ (whole F (F .step (i .state) item)) (ap (λ (k : ℕ). at + k) (sym en)) behind ∙ here .reads-others;

@@ -11,10 +11,10 @@ use Rattle.note.specs.Records.{Record, recordBytes, recordSize, recordRule, kin
 use Rattle.note.proofs.KindCases.{kind-cases}
 use Rattle.demands.specs.Outputs.{Laid}
 use Rattle.demands.proofs.Bundles.{recordItem, same-record}
-use Rattle.record.proofs.StepLaws.{Read, read-shows, cutBody, cut, cut-bytes}
+use Rattle.record.proofs.StepLaws.{Read, read-shows, cutBody, cut, cut-length, cut-bytes}
 use Rattle.containers.proofs.RecordLoop.{behindOf}
 use Rattle.copies.specs.Copying.{Copyable, Copied}
-use Rattle.rewriting.proofs.CopyLoop.{Copying, Found, inside, item-fits, here, next}
+use Rattle.rewriting.proofs.CopyLoop.{Copying, Found, rest-has-room, item-fits, here, next}
 
 -- An admitted kind has the kind word that names it.
 named : (w : ℕ) (b : List ℕ) → recordRule w b ≡ 0 → kindOf w .word ≡ w
@@ -33,8 +33,8 @@ module _ {old : List ℕ} {place : ℕ} {part out rest : List ℕ} {at : ℕ} (i
   shown : Read (i .state) at rest kind (word 4 rest) × (here recordItem i l .item ≡ record { kind = kind; body = body })
   shown = read-shows (i .state) at rest (here recordItem i l .item) (same-record (i .state) at rest ∙ here recordItem i l .reads-item)
 
-  pub turn : (m : ℕ) → m ≡ word 4 rest → (8 + m ≤ length rest) × (at + (8 + m) ≤ fileLimit)
-  turn = item-fits recordItem i (shown .0 .fits)
+  pub record-fits : (m : ℕ) → m ≡ word 4 rest → (8 + m ≤ length rest) × (at + (8 + m) ≤ fileLimit)
+  record-fits = item-fits recordItem i (shown .0 .fits)
 
 -- Its two words were read.
 module _ {old : List ℕ} {place : ℕ} {part out rest : List ℕ} {at k m : ℕ} (f : Found recordItem old place part out rest at k m) where
@@ -49,7 +49,7 @@ module _ {old : List ℕ} {place : ℕ} {part out rest : List ℕ} {at k m : ℕ
   cut-is = cut m rest ∙ ap (λ (n : ℕ). take n (drop 8 rest)) (f .length-is)
 
   cut-size : length (cutBody m rest) ≡ m
-  cut-size = ap length cut-is ∙ read .size ∙ sym (f .length-is)
+  cut-size = cut-length m rest (omega (arith, f .length-is, read .fits))
 
   cut-follows : recordRule k (cutBody m rest) ≡ 0
   cut-follows = (λ j. recordRule (f .kind-is j) (cut-is j)) ∙ read .follows
@@ -58,8 +58,8 @@ module _ {old : List ℕ} {place : ℕ} {part out rest : List ℕ} {at k m : ℕ
   copyable = record {
     bytes = cut-bytes m rest (i .bytes);
     follows = cut-follows;
-    room = omega (arith, cut-size, f .length-is, read .fits, inside recordItem i .0);
-    limit = inside recordItem i .1;
+    room = omega (arith, cut-size, f .length-is, read .fits, rest-has-room recordItem i .0);
+    limit = rest-has-room recordItem i .1;
   }
 
   pub copied-next : (new : List ℕ) → Copied (kindOf k) (cutBody m rest) out at new

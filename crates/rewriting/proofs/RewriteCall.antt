@@ -37,10 +37,11 @@ module _ (bs old : List ℕ) where
   unfolding rewriteWrote
   file-refuses limit c p e = refuses c p (rw (le-leb (length old) fileLimit limit, count-bad rowsOfFile e))
 
--- An accepted file, and an output within the limit, of n bytes.
+-- An accepted file is ready to be written into n bytes, within the limit, that have room for it.
 pub ready : {bs : List ℕ} {n : ℕ} → Checked bs → n ≤ fileLimit → length bs ≤ n → FileReady bs n
 ready k limit l = record { is = k .file; reads = k .reads; room = omega (arith, l); limit = limit }
 
+-- An accepted file, and an output within the limit.
 module _ {bs : List ℕ} (k : Checked bs) (old : List ℕ) (limit : length old ≤ fileLimit) where
   restored : fileRewritten (k .file) ≡ bs
   restored = let (is, valid) = file-sound bs (k .file) (k .bytes) (k .reads) in fields-restore (k .file) valid ∙ sym is

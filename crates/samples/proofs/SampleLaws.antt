@@ -51,7 +51,7 @@ module _ {bs : List ℕ} {place n : ℕ} (g : Found bs place 0x11 n) where
   unfolding kindOf
   counted = trace-length (bodyAt bs place n) (g .follows)
 
-  pub size-of-trace : n ≡ 48 + 2 * count
+  size-of-trace : n ≡ 48 + 2 * count
   size-of-trace = sym (g .size) ∙ counted .0
 
   pub long : 48 ≤ n

@@ -33,7 +33,7 @@ in-a-row l at [] = refl
 in-a-row l at (x ∷ []) = refl
 in-a-row l at (x ∷ (y ∷ ys)) = in-a-row (sets l at x) (at + length x) (y ∷ ys) ∙ sets-append l at x (joined (y ∷ ys))
 
--- A block more of a part, an element more, and one word more of a list of words.
+-- A block more of a part, one element more of it, and one word more of a list of words that is stored as bytes.
 pub block-more : (l s : List ℕ) (at i j : ℕ) → i ≤ j → j ≤ length s
     → sets (sets l at (take i s)) (at + i) (take (j - i) (drop i s)) ≡ sets l at (take j s)
 block-more l s at i j h k =

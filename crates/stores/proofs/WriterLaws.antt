@@ -53,10 +53,10 @@ module _ (n place fault size : ℕ) where
   unfolding wrote writerGiven givenWriter
   room h e l = rw (le-leb n fileLimit h, e, le-leb (place + size) n l)
 
-  -- The next place was answered: nothing stood against it.
-  room-told : {next : ℕ} → wrote n place fault size ≡ ok next → (n ≤ fileLimit) × (fault ≡ 0) × (place + size ≤ n)
+  -- Granted: nothing stood against it.
+  wrote-ok : {next : ℕ} → wrote n place fault size ≡ ok next → (n ≤ fileLimit) × (fault ≡ 0) × (place + size ≤ n)
   unfolding wrote
-  room-told e =
+  wrote-ok e =
       let fits : Res ℕ = need (unless (leb (place + size) n) 13) place (ok (place + size)) in
       let limit = need-ok (unless (leb n fileLimit) 1) 0 (need fault place fits) e in
       let fields = need-ok fault place fits (limit .1) in
@@ -77,7 +77,7 @@ module _ (out : List ℕ) (place : ℕ) (w : Res ℕ) (bytes : List ℕ) {r : Wr
   unfolding written
   stored e h l = rw (next-told w e h) (sets-eq bytes out place l ∙ append-assoc (take place out) bytes (drop (place + length bytes) out))
 
--- What is refused isn't asked for its bytes.
+-- Of a refusal the bytes aren't asked: the output is the same whatever they are.
 pub written-unasked : (r : Res ℕ) (out : List ℕ) (place : ℕ) (a b : List ℕ) → ((next : ℕ) → r ≡ ok next → a ≡ b)
     → written r out place a ≡ written r out place b
 unfolding written
@@ -113,7 +113,7 @@ module _ {out : List ℕ} {place : ℕ} {w : Written} {r : WriterAnswer} (a : Ad
   -- The next place was answered: the output is within the limit, and has room for the record.
   pub has-room : {next : ℕ} → r ≡ Next next → (length out ≤ fileLimit) × (place + length (w .bytes) ≤ length out)
   has-room n =
-      let (limit, clean, room) = room-told (length out) place (a .fault) (a .size) (next-told _ n (a .said)) in
+      let (limit, clean, room) = wrote-ok (length out) place (a .fault) (a .size) (next-told _ n (a .said)) in
       (limit, omega (arith, room, a .size-is clean))
 
   -- The record is written where its bytes were stored from the place on, or into the rest of the output, lent on from there.
@@ -125,7 +125,7 @@ module _ {out : List ℕ} {place : ℕ} {w : Written} {r : WriterAnswer} (a : Ad
       → Wrote out place w (Next next) (putMid place (length out - place) out rest)
   writes n rest q = lays n (rest-stored out place (w .bytes) rest (omega (arith, has-room n .1)) q)
 
--- A call of a writer: the output, the place, the answer and the output afterwards; the fields handed on, and those that were meant.
+-- A call of a writer: the output, the place, the answer and the output afterwards; what was handed on, a fault and bytes, and what was meant.
 pub record WriterCall : Type 0 where
   pub out : List ℕ
   pub place : ℕ
@@ -138,8 +138,8 @@ module _ (k : WriterCall) where
   abbrev Did : Written → Type 0
   Did w = Wrote (k .out) (k .place) w (k .answer) (k .after)
 
-  -- Of fields with a fault, the bytes aren't asked: handed on with the fault that was meant, and where this is none with the bytes that were
-  -- meant, what was meant is written. The call is found from what is known of it: `_` stands for it.
+  -- Of fields with a fault, the bytes aren't asked. So where the fault handed on is the one that was meant, and without a fault the bytes are too,
+  -- the call answered and left what was meant. `_` stands for the call: it is found from the premises.
   pub bytes-unasked : k .handed .fault ≡ k .meant .fault → (k .handed .fault ≡ 0 → k .handed .bytes ≡ k .meant .bytes)
       → Did (k .handed) → Did (k .meant)
   unfolding recordOutput recordWrote
@@ -148,6 +148,6 @@ module _ (k : WriterCall) where
       let asked : Res ℕ = wrote n (k .place) (k .handed .fault) (length (k .handed .bytes)) in
       let same : asked ≡ recordWrote (k .out) (k .place) (k .meant) = size-unasked n (k .place) _ e (λ z. ap length (h z)) in (
         told ∙ ap writerGiven same,
-        output ∙ written-unasked asked (k .out) (k .place) _ (k .meant .bytes) (λ next g. h (room-told n (k .place) _ _ g .1))
+        output ∙ written-unasked asked (k .out) (k .place) _ (k .meant .bytes) (λ next g. h (wrote-ok n (k .place) _ _ g .1))
             ∙ ap (λ (x : Res ℕ). written x (k .out) (k .place) (k .meant .bytes)) same,
       )

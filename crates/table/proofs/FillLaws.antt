@@ -17,7 +17,7 @@ use Rattle.note.specs.Words.{word}
 use Rattle.note.specs.Records.{Record, Context, behind, readRecords}
 use Rattle.note.specs.Rows.{childOf, childrenOf}
 use Rattle.demands.proofs.Bundles.{recordItem, same-record, same-records}
-use Rattle.record.proofs.StepLaws.{Read, read-shows, cutBody, cut, body-follows, body-length}
+use Rattle.record.proofs.StepLaws.{Read, read-shows, cutBody, cut, body-follows, cut-length}
 use Rattle.containers.proofs.RecordLoop.{recordAt, behindOf, on}
 use Rattle.rows.specs.declared.Row as code
 use Rattle.rows.specs.declared.Values.{Values}
@@ -158,7 +158,7 @@ module _ {from : ℕ} {bs rows₀ : List ℕ} {first parent : ℕ} {rows rest : 
     valued k m ek em =
         let r = shown here (p .records) (p .reads) l k m ek em in (
           rule-has-values k _ (body-follows (here .state) at rest k m r),
-          omega (arith, body-length (here .state) at rest k m r, sized m em .1),
+          omega (arith, cut-length m rest (r .fits), sized m em .1),
         )
 
     -- its row fits the buffer

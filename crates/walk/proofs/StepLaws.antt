@@ -135,7 +135,7 @@ module _ {bs : List ℕ} {n : ℕ} (f : Found bs n) where
   cut-is : cutBody n bs ≡ bodyIn bs
   cut-is = cut n bs ∙ ap (λ (m : ℕ). take m (drop 8 bs)) (f .length-is)
 
-  -- No more children are counted than their container's length word says bytes.
+  -- No more children are counted than the container's length word counts bytes.
   pub few-children : (c : ℕ) → c ≡ countIn (cutBody n bs) → c ≤ n
   few-children c ec = omega (arith, ec, few-counted (cutBody n bs), cut-length n bs fits)
 

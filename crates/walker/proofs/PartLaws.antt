@@ -83,7 +83,7 @@ module _ {M : Type 1} (𝓤 : URA M) (H : Heap 𝓤) (A : Atoms 𝓤) (W : Given
   pub twice : (d : Walker) → ent 𝓤 (sem 𝓤 H A (Own κ d)) (mean 𝓤 H A (‵ (Own κ d) ⊛ ‵ (Own κ d)))
   twice d = LL.copy (D (κ, tt)) (T′.the-copy (namedLft 1 0 tt (κ, tt))) 𝓤 H A W .twice d (walkerVal κ d ∷ [])
 
-  -- What a walker owns gives what a callee of its two fields asks, which has no `requires`, and is kept.
+  -- What a walker owns gives a callee of its two fields, one without `requires`, what it asks; and it is kept besides.
   pub apart : (d : Walker)
       → ent 𝓤 (⋆ 𝓤 H A (Token 𝓤 κ q ∷ ‵ (owns (B (κ, tt) ∷ []) (d, tt) (walkerVal κ d ∷ [], tt)) ∷ []))
       (sep 𝓤 (sep 𝓤 (⋆ 𝓤 H A (Token 𝓤 κ q ∷ ‵ (owns (fieldTypes κ) (fields κ d) (fieldVals κ d)) ∷ [])) (emp 𝓤))
@@ -97,7 +97,7 @@ module _ {M : Type 1} (𝓤 : URA M) (H : Heap 𝓤) (A : Atoms 𝓤) (W : Given
       -- [what the fields own together; what the walker owns; the token]
       move ! (2 ∷ 0 ∷ []) $ join ! $ nothing ! $ move ! (1 ∷ 0 ∷ []) $ join ! $ frame ! $ done !)
 
-  -- What a call gives back whose `ensures` says which its result is: that result, and the token.
+  -- What a call gives back whose `ensures` says what its result is: that result, and the token.
   pub answered : (R : RattleType) (found : R .Denot) (Said : R .Denot → SProp 𝓤)
       → ((r : R .Denot) → ent 𝓤 (Said r) (fact 𝓤 (r ≡ found))) → (u : Val)
       → ent 𝓤 (mean 𝓤 H A (later (some (λ (r : R .Denot). (Token 𝓤 κ q ⊛ ‵ (R .own r (u ∷ []))) ⊛ raw (Said r)))))
@@ -127,12 +127,12 @@ module _ {M : Type 1} (𝓤 : URA M) (H : Heap 𝓤) (A : Atoms 𝓤) (W : Given
     abbrev pub Post : c (κ, tt) (d, tt) .ghost → Val → SProp 𝓤
     Post g = walkOf 𝓤 H A (taking R) (stays R) c .post (entered-with g)
 
-    -- How a walk ends: at a result that the prover names.
+    -- How the walk through the code ends: at a result that the prover names.
     pub taking-ends : (g : c (κ, tt) (d, tt) .ghost) (u : Val) (r : R .row (κ, tt) .Denot)
         → ent 𝓤 (Ending 𝓤 H A (taking R) (stays R) c (entered-with g) u r (tt, tt)) (Post g u)
     taking-ends g u r = ends-at 𝓤 H A (taking R) (stays R) c W (entered-with g) u r (tt, tt) (tt, tt)
 
-  -- A walk of the function's code from the one to the other is its contract.
+  -- A walk through the function's code, from entry to return, is its contract.
   pub taking-meets : (𝓣 : Tables 𝓤 H) (f : Fn)
       → ((κ : Lft) (q : Share) (d : Walker) (g : c (κ, tt) (d, tt) .ghost) → Is (B (κ, tt)) d (walkerVal κ d ∷ [])
       → ent 𝓤 (Entry κ q d) (WpFn 𝓤 H (𝓣 .C) (𝓣 .Λ) f (walkerVal κ d ∷ []) (Post κ q d g)))

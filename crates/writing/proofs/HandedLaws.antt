@@ -1,4 +1,4 @@
--- What was handed over reaches the writer: it asks the fields alone.
+-- A writer asks the fields alone, so what was handed over reaches it.
 use mathlib.Core.Path.{_≡_, subst}
 use mathlib.Core.List.{List}
 use Prim.Native.Nat.{ℕ}

@@ -8,7 +8,7 @@ use lib.ListN.{length}
 use Rattle.theory.proofs.WordLaws.{Bytes-from}
 use Rattle.note.specs.Limits.{fileLimit}
 use Rattle.rewriting.proofs.CopyLoop.{Copying, Found, begin, ended}
-use Rattle.rewriting.proofs.ContainerLoop.{containerItem, same-containers, container-turn}
+use Rattle.rewriting.proofs.ContainerLoop.{containerItem, same-containers, container-fits}
 use Rattle.rewriting.proofs.ContainerLoop.{begin-ready, records-ready, container-next}
 use borrow.Author.Needs.{needs}
 use Rattle.rewriting.proofs.copy_containers.Statement.{statement}
@@ -53,11 +53,11 @@ found c =
 
 sized : (c : tie.After-word-at2 Inv-loop μ-loop)
     → (8 + c .word-at2 .result ≤ length (now (head c .loop .rest))) × (head c .loop .at + (8 + c .word-at2 .result) ≤ fileLimit)
-sized c = container-turn (found c .so-far) (found c .more) _ (found c .length-is)
+sized c = container-fits (found c .so-far) (found c .more) _ (found c .length-is)
 
 -- In a turn: a container's two words stand there.
 words : (c : tie.In-loop Inv-loop μ-loop) → 8 ≤ length (now (c .before .loop .rest))
-words c = let (fits, limit) = container-turn (c .before .loop .inv) (c .loop-test .taken) _ refl in omega (arith, fits)
+words c = let (fits, limit) = container-fits (c .before .loop .inv) (c .loop-test .taken) _ refl in omega (arith, fits)
 
 loop-holds : tie.Need-loop-holds Inv-loop μ-loop
 loop-holds c =

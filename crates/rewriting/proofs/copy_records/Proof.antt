@@ -9,7 +9,7 @@ use Rattle.theory.proofs.WordLaws.{Bytes-from}
 use Rattle.note.specs.Limits.{fileLimit}
 use Rattle.demands.proofs.Bundles.{recordItem, same-records}
 use Rattle.rewriting.proofs.CopyLoop.{Copying, Found, begin, ended}
-use Rattle.rewriting.proofs.RecordCopy.{turn, copyable, copied-next}
+use Rattle.rewriting.proofs.RecordCopy.{record-fits, copyable, copied-next}
 use borrow.Author.Needs.{needs}
 use Rattle.rewriting.proofs.copy_records.Statement.{statement}
 use Rattle.rewriting.proofs.copy_records.Tie as tie
@@ -40,7 +40,7 @@ start c = c .before .before .before
 -- Where a record's length word was read: it fits what is left, which ends within the limit.
 sized : (c : tie.After-word-at Inv-loop μ-loop)
     → (8 + c .word-at .result ≤ length (now (head c .loop .rest))) × (head c .loop .at + (8 + c .word-at .result) ≤ fileLimit)
-sized c = turn (head c .loop .inv) (c .before .loop-test .taken) _ (c .word-at .ensures)
+sized c = record-fits (head c .loop .inv) (c .before .loop-test .taken) _ (c .word-at .ensures)
 
 -- Where both its words were read: they are the next record's.
 found : (c : tie.After-word-at2 Inv-loop μ-loop)
@@ -59,7 +59,7 @@ loop-holds c =
     begin recordItem _ context (same-records context) ready h
 
 word-at-requires : tie.Need-word-at-requires Inv-loop μ-loop
-word-at-requires c κs = let (fits, limit) = turn (c .before .loop .inv) (c .loop-test .taken) _ refl in omega (arith, fits)
+word-at-requires c κs = let (fits, limit) = record-fits (c .before .loop .inv) (c .loop-test .taken) _ refl in omega (arith, fits)
 
 cast-size : tie.Need-cast-size Inv-loop μ-loop
 cast-size c = search needs

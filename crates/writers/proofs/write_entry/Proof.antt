@@ -27,7 +27,7 @@ put-signed-requires c κs = search needs
 array-share-prefix-ws : tie.Need-array-share-prefix-ws
 array-share-prefix-ws c = search needs
 
--- From where the array's front is lent back to where it was filled, and from there to the start.
+-- Back from where the array's front is lent to where it was filled, and from there to the start.
 abbrev filled : tie.After-ws3 → tie.After-put-signed
 filled c = c .before .before .before
 
