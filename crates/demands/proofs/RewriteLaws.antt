@@ -1,17 +1,19 @@
 -- Demand 2's other half: rewriting an accepted file from its fields restores its bytes.
 -- The idea: each record's body, written again from its fields, is the body; the rest is the same words around it.
 use mathlib.Core.Path.{_≡_, refl, sym, ap, ap₂, _∙_, subst}
+use mathlib.Core.Logic.{_↔_}
 use mathlib.Core.Bool.{Bool, true, false}
 use mathlib.Core.List.{List, [], _∷_, _++_, map}
 use Prim.Native.Nat.{ℕ, _+_, _≤_}
 use native.Mathlib.Omega.{arith}
 use lib.Dec.{leb}
 use lib.ListN.{length, drop}
-use borrow.Author.Tests.{le-leb, leb-true, leb-false}
+use native.Mathlib.Decide.{decLe}
+use borrow.Author.Tests.{le-leb, lt-leb, leb-true, leb-false}
 use Rattle.theory.specs.Words.{Bytes}
 use Rattle.theory.specs.Tests.{Res, ok, bad, need, bind, unless}
 use Rattle.theory.specs.Structures.{sequenceBytes}
-use Rattle.theory.proofs.TestLaws.{ok-bad}
+use Rattle.theory.proofs.TestLaws.{ok-bad, ok-inj}
 use Rattle.note.specs.Limits.{fileLimit}
 use Rattle.note.specs.Records.{Record, Context, entry, event, none, behind}
 use Rattle.note.specs.Events.{Container, containerBytes, eventsBytes}
@@ -19,7 +21,7 @@ use Rattle.note.specs.Files.{File, versionOf, configurationOf, eventsOf, header
 use Rattle.note.specs.Writers.{recordAgain, containerRewritten, fileRewritten, written, rewritten, rewriteWrote, rewriteOutput}
 use Rattle.note.proofs.KindLaws.{again-restores}
 use Rattle.demands.specs.Valid.{ValidRecord, ValidRecords, ValidEvents, Valid}
-use Rattle.demands.specs.Outputs.{RewriteRefused, output-over, file-refused, no-room}
+use Rattle.demands.specs.Outputs.{RewriteRefused, output-over, file-refused, no-room, RewriteGranted}
 use Rattle.demands.proofs.Follows.{file-sound}
 use Rattle.demands.proofs.OutputLaws.{refusal-keeps}
 
@@ -100,3 +102,42 @@ module _ (bs out : List ℕ) (c p : ℕ) (h : Bytes bs) where
   unfolding rewriteWrote rewriteOutput
   rewrite-refused e =
       (limit-refused (leb (length out) fileLimit) refl e, refusal-keeps (rewriteWrote bs out) out (rewritten (readFile bs)) 0 c p e)
+
+  -- And what it says is what Rewrite gives, so number and place are determined by it.
+  refused-given : RewriteRefused bs out c p → rewriteWrote bs out ≡ bad c p
+  unfolding rewriteWrote
+  refused-given (output-over l number place) = rw (lt-leb (length out) fileLimit l, number, place)
+  refused-given (file-refused l r) = rw (le-leb (length out) fileLimit l, r)
+  refused-given (no-room f l r less number place) =
+      rw (le-leb (length out) fileLimit l, r, bytes-restored bs f h r, lt-leb (length bs) (length out) less, number, place)
+
+  pub rewrite-refused-exactly : (rewriteWrote bs out ≡ bad c p) ↔ RewriteRefused bs out c p
+  rewrite-refused-exactly = (λ e. rewrite-refused e .0, refused-given)
+
+-- Rewrite answers a next place for an accepted file that has room, and for no other.
+module _ (bs out : List ℕ) (next : ℕ) (h : Bytes bs) where
+  -- A refusal is no answer.
+  not-refused : rewriteWrote bs out ≡ ok next → (c p : ℕ) → RewriteRefused bs out c p → ⊥
+  not-refused e c p r = ok-bad (sym e ∙ rewrite-refused-exactly bs out c p h .1 r)
+
+  granted-when : length out ≤ fileLimit → rewriteWrote bs out ≡ ok next → (r : Res File) → readFile bs ≡ r → RewriteGranted bs out next
+  granted-when l e (bad c p) r = absurd (not-refused e c p (file-refused l r))
+  granted-when l e (ok f) r = elim (decLe (length bs) (length out)) [
+    | yes room ↦ record {
+      file = f;
+      read = r;
+      room = room;
+      limit = l;
+      is = ok-inj (sym e ∙ rewrite-restores bs out f h r room l .0);
+    }
+    | no less ↦ absurd (not-refused e 13 0 (no-room f l r (omega arith) refl refl))
+  ]
+
+  pub rewrite-granted-exactly : (rewriteWrote bs out ≡ ok next) ↔ RewriteGranted bs out next
+  rewrite-granted-exactly = (
+    λ e. elim (decLe (length out) fileLimit) [
+      | yes l ↦ granted-when l e (readFile bs) refl
+      | no over ↦ absurd (not-refused e 1 0 (output-over (omega arith) refl refl))
+    ],
+    λ g. rewrite-restores bs out (g .file) h (g .read) (g .room) (g .limit) .0 ∙ ap ok (sym (g .is)),
+  )

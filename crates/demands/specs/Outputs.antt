@@ -50,3 +50,11 @@ pub data RewriteRefused (bs out : List ℕ) (c p : ℕ) : Type 0 where
   file-refused : length out ≤ fileLimit → readFile bs ≡ bad c p → RewriteRefused bs out c p
   no-room : (f : File) → length out ≤ fileLimit → readFile bs ≡ ok f → length out < length bs
       → c ≡ 13 → p ≡ 0 → RewriteRefused bs out c p
+
+-- When Rewrite writes: both buffers within the limit, the file accepted, room for all of it; the next place is then its length.
+pub record RewriteGranted (bs out : List ℕ) (next : ℕ) : Type 0 where
+  pub file : File
+  pub read : readFile bs ≡ ok file
+  pub room : length bs ≤ length out
+  pub limit : length out ≤ fileLimit
+  pub is : next ≡ length bs
