@@ -15,6 +15,10 @@ use lib.Ieee.Exact.{HasValue, round-exact}
 use lib.Ieee.Scale.{round-same}
 use lib.Ieee.Back.{round-whole}
 use lib.Ieee.Fits.{down-pos}
+use mir.Syntax.{w32}
+use mir.Facts.{sfits-toZ}
+use Rattle.theory.specs.Words.{Fits}
+use Rattle.note.specs.Words.{signed}
 use Rattle.note.specs.Calls.{hundredth}
 
 pub hundred-bits : ofBits binary64 4636737291354636288 ≡ fin false 25 (pos 2)
@@ -26,7 +30,7 @@ unfolding ofInt
 hundred-int = refl
 
 -- zero is plus zero
-pub zero-is-plus-zero : hundredth (pos 0) ≡ fin false 0 (pos 0)
+pub zero-is-plus-zero : hundredth (signed 0) ≡ fin false 0 (pos 0)
 unfolding hundredth div ofInt
 zero-is-plus-zero = refl
 
@@ -52,10 +56,10 @@ div-whole (fin t m e) s n v =
     ∙ round-same binary64 s u (100 * d) n 100 (Nat.mul-pos (omega arith) (down-pos e)) (omega arith) h
 
 -- the quotient is rounded once: the cast before it is exact
-pub rounded-once : (z : ℤ) → mag z < 2 ^ 31 → hundredth z ≡ round binary64 (negative z) (natAbs z) 100
+rounded : (z : ℤ) → mag z < 2 ^ 31 → hundredth z ≡ round binary64 (negative z) (natAbs z) 100
 unfolding hundredth ofInt
-rounded-once (pos n) h = rw hundred-int (div-whole _ false n (round-whole binary64 false n (omega arith)))
-rounded-once (negsuc n) h = rw hundred-int (div-whole _ true (suc n) (round-whole binary64 true (suc n) (omega arith)))
+rounded (pos n) h = rw hundred-int (div-whole _ false n (round-whole binary64 false n (omega arith)))
+rounded (negsuc n) h = rw hundred-int (div-whole _ true (suc n) (round-whole binary64 true (suc n) (omega arith)))
 
 -- a multiple of 25 comes out exact
 scale : (k p : ℕ) → 25 * k * (4 * p) ≡ k * p * 100
@@ -67,7 +71,18 @@ quarter s k h =
     (Nat.lt-of-lt-of-le (shl-lt 53 1072 h) (pow-mono {i = 1125} {j = 2098} (lit≤ tt)))
     (scale k (2 ^ 1072))
 
-pub quarters-exact : (z : ℤ) (k : ℕ) → mag z < 2 ^ 31 → natAbs z ≡ 25 * k → HasValue (hundredth z) (negative z) (natAbs z) 100
-quarters-exact z k h e =
-    let l : natAbs z ≤ 2 ^ 31 = natAbs-le z h in
-    rw (rounded-once z h, e) (quarter (negative z) k (omega arith))
+-- ---- of every word that a file can hold
+
+-- A word read as signed is a 32-bit number.
+bounded : (w : ℕ) → Fits 4 w → mag (signed w) < 2 ^ 31
+bounded w h = sfits-toZ {w = w32} (record { fits = h }) .sfits
+
+pub rounded-once : (w : ℕ) → Fits 4 w → hundredth (signed w) ≡ round binary64 (negative (signed w)) (natAbs (signed w)) 100
+rounded-once w h = rounded (signed w) (bounded w h)
+
+pub quarters-exact : (w k : ℕ) → Fits 4 w → natAbs (signed w) ≡ 25 * k
+    → HasValue (hundredth (signed w)) (negative (signed w)) (natAbs (signed w)) 100
+quarters-exact w k h e =
+    let z : ℤ = signed w in
+    let l : natAbs z ≤ 2 ^ 31 = natAbs-le z (bounded w h) in
+    rw (rounded-once w h, e) (quarter (negative z) k (omega arith))
