@@ -1,31 +1,34 @@
--- The first-fault theorem: a refusal other than 1 names the first byte of a structure, and all before it is as the note says.
--- The idea: each combinator says where its own refusal comes from (theory); they are followed down from the file to the record.
-use mathlib.Core.Path.{_≡_, refl, sym, ap, _∙_, subst}
-use mathlib.Core.Logic.{_⊎_, inl, inr}
+-- The first-fault theorem: a file within the limit is refused with a number at a place exactly when that is its first fault.
+-- The idea: each combinator says where its own refusal comes from, and is refused where that is (theory); the two are followed down
+-- from the file to the record, and up again.
+use mathlib.Core.Path.{_≡_, refl, sym, ap, ap₂, _∙_, subst}
+use mathlib.Core.Bool.{Bool, true, false}
+use mathlib.Core.Logic.{_⊎_, inl, inr, _↔_}
 use mathlib.Core.List.{List, [], _∷_, _++_, append-assoc, append-nil}
-use Prim.Native.Nat.{ℕ, zero, suc, _+_, _≤_, _<_}
+use Prim.Native.Nat.{ℕ, zero, suc, _+_, _/_, _≤_, _<_}
 use native.Mathlib.Omega.{arith}
-use lib.Dec.{leb}
 use lib.ListN.{length, take, drop, length-append, length-drop, take-append-drop}
 use lib.Seq.{length-take-le}
-use borrow.Author.Tests.{lt-leb}
-use Rattle.theory.specs.Words.{Bytes, wordAt, put}
-use Rattle.theory.specs.Tests.{ok, bad, need, unless}
-use Rattle.theory.proofs.WordLaws.{Bytes-part, Bytes-drop, Bytes-right, length-put}
-use Rattle.theory.proofs.TestLaws.{ok-bad, need-pass, equal-passed, most-passes}
-use Rattle.theory.proofs.Items.{Oks, steps, seq-refused}
-use Rattle.theory.proofs.StructureLaws.{BodyFault, refused, restore-two, inside, pair, pair-refused, words-refused}
+use lib.Dec.{leb}
+use borrow.Author.Tests.{lt-leb, leb-true, leb-false}
+use Rattle.theory.specs.Words.{Bytes, wordAt, put, Fits}
+use Rattle.theory.specs.Tests.{Res, ok, bad, need, bind, unless}
+use Rattle.theory.proofs.WordLaws.{Bytes-part, Bytes-right, length-put, word-fits}
+use Rattle.theory.proofs.TestLaws.{ok-bad, bad-inj, need-pass, equal-passed, most-passes, first-at}
+use Rattle.theory.proofs.Items.{steps, seq-refused, seq-refuses}
+use Rattle.theory.proofs.StructureLaws.{BodyFault, refused, structure-past, restore-two, inside, pair, pair-refused, pair-refuses, words-refused}
 use Rattle.note.specs.Limits.{fileLimit}
 use Rattle.note.specs.Words.{order}
 use Rattle.note.specs.Records.{Record, Context, entry, event, none, recordHead, recordLate, recordRule, recordStep, recordsBytes, readRecord}
-use Rattle.note.specs.Events.{Container, containerBytes, eventsBytes, eventHead, eventLate}
-use Rattle.note.specs.Files.{configurationWord, configurationHead, configurationLate, headerBytes, fileMark, versionRule}
-use Rattle.note.specs.Files.{readHeader, readParts, readFile}
-use Rattle.demands.specs.Valid.{ValidRecords}
-use Rattle.demands.specs.FirstFault.{ValidHeader, ValidConfiguration, front, past, Itself}
+use Rattle.note.specs.Events.{Container, containerBytes, eventsBytes, eventMark, eventWordRule, eventHead, eventLate}
+use Rattle.note.specs.Files.{File, configurationWord, configurationHead, configurationLate, headerBytes, fileMark, versionRule}
+use Rattle.note.specs.Files.{versionOf, configurationOf, eventsOf, fileBytes, readHeader, readParts, readFile}
+use Rattle.demands.specs.Valid.{ValidRecords, Valid}
+use Rattle.demands.specs.FirstFault.{Cut, ValidHeader, front, past, Itself, Refusal, too-long, at-fault}
 use Rattle.demands.specs.FirstFault.{FirstFault, at-header, at-configuration, at-entry, at-event, at-record}
-use Rattle.demands.proofs.Bundles.{recordBody, recordItem, records, box, configurationItem, eventItem, events, headerItem}
-use Rattle.demands.proofs.Bundles.{same-record, same-parts, records-valid, events-valid}
+use Rattle.demands.proofs.Bundles.{recordBody, recordItem, records, box, configurationItem, eventItem, events, headerItem, parts}
+use Rattle.demands.proofs.Bundles.{same-record, same-parts, records-valid, records-ok}
+use Rattle.demands.proofs.Follows.{parts-valid, parts-ok, within as accepted-within, read-within}
 
 -- A record's refusal is at its first byte.
 pub record-fault-here : (c : Context) (at : ℕ) (bs : List ℕ) (k p : ℕ) → recordItem .read c at bs ≡ bad k p → p ≡ at
@@ -45,18 +48,24 @@ steps-past : (c : Context) (rs : List Record) → steps recordItem c rs ≡ past
 steps-past c [] = refl
 steps-past c (r ∷ rs) = steps-past (recordStep c r) rs
 
+-- The two words in front of a container's contents are eight bytes.
+pub length-front : (w n : ℕ) → length (front w n) ≡ 8
+length-front w n = omega (arith, length-append (put order 4 w) (put order 4 n), length-put order 4 w, length-put order 4 n)
+
 -- A container of records that is refused: itself, or at one of its records, those before it being valid.
 module _ (head : Unit {0} → ℕ → ℕ) (late : Unit {0} → ℕ → ℕ → ℕ) (start : Context) where
   pub record Within (at : ℕ) (bs : List ℕ) (c p : ℕ) : Type 0 where
     pub word : ℕ
-    pub size : ℕ
     pub before : List Record
     pub part : List ℕ
     pub beyond : List ℕ
+    pub word-fits : Fits 4 word
+    pub length-fits : Fits 4 (length (recordsBytes before ++ part))
     pub head-ok : head tt word ≡ 0
+    pub late-ok : late tt word (length (recordsBytes before ++ part)) ≡ 0
     pub valid : ValidRecords start before
-    pub fills : length (recordsBytes before) + length part ≡ size
-    pub splits : bs ≡ (front word size ++ recordsBytes before) ++ (part ++ beyond)
+    pub left : 1 ≤ length part
+    pub splits : bs ≡ (front word (length (recordsBytes before ++ part)) ++ recordsBytes before) ++ (part ++ beyond)
     pub place : p ≡ at + (8 + length (recordsBytes before))
     pub fault : readRecord (past start before) p part ≡ bad c p
 
@@ -75,22 +84,25 @@ module _ (head : Unit {0} → ℕ → ℕ) (late : Unit {0} → ℕ → ℕ → 
         let fits : 8 + n ≤ length bs = b .fits in
         let size : length content ≡ n = length-take-le n (drop 8 bs) (omega (arith, length-drop 8 bs)) in
         let bytes : Bytes content = Bytes-part n 8 bs h in
-        let (xs, rest, es, os, q) = seq-refused recordItem (length content) start (at + 8) content c p (omega arith) bytes (b .body-is) in
+        let (xs, rest, es, os, left, q) = seq-refused recordItem (length content) start (at + 8) content c p (omega arith) bytes (b .body-is) in
         let passed : Context = steps recordItem start xs in
         let here : p ≡ at + 8 + length (recordsBytes xs) = record-fault-here passed (at + 8 + length (recordsBytes xs)) rest c p q in
+        let filled : n ≡ length (recordsBytes xs ++ rest) = sym size ∙ ap length es in
         let behind : drop 8 bs ≡ recordsBytes xs ++ (rest ++ beyond) =
         sym (take-append-drop n (drop 8 bs)) ∙ ap (λ (r : List ℕ). r ++ beyond) es ∙ append-assoc (recordsBytes xs) rest beyond in
         record {
           word = k;
-          size = n;
           before = xs;
           part = rest;
           beyond = beyond;
+          word-fits = word-fits order 4 0 bs h (omega arith);
+          length-fits = subst (Fits 4) filled (word-fits order 4 4 bs h (omega arith));
           head-ok = b .head-ok;
+          late-ok = subst (λ (m : ℕ). late tt k m ≡ 0) filled (b .late-ok);
           valid = records-valid start xs os;
-          fills = sym (length-append (recordsBytes xs) rest) ∙ sym (ap length es) ∙ size;
+          left = left;
           splits = sym (restore-two order bs h (omega arith))
-              ∙ ap (λ (r : List ℕ). put order 4 k ++ (put order 4 n ++ r)) behind
+              ∙ ap₂ (λ (m : ℕ) (r : List ℕ). put order 4 k ++ (put order 4 m ++ r)) filled behind
               ∙ simp append-assoc;
           place = omega arith;
           fault = ap (λ (x : Context). readRecord x p rest) (sym (steps-past start xs))
@@ -106,118 +118,157 @@ module _ (head : Unit {0} → ℕ → ℕ) (late : Unit {0} → ℕ → ℕ → 
       | inr b ↦ inr (within b)
     ]
 
+  -- And each of the two refuses the container.
+  pub container-refuses : (at : ℕ) (bs : List ℕ) (c p : ℕ) → ContainerFault at bs c p → box head late start .read tt at bs ≡ bad c p
+  container-refuses at bs c p (inl (here, own)) = own (inside (λ s. start) records .read) ∙ ap (λ (m : ℕ). bad c m) (sym here)
+  container-refuses at bs c p (inr w) =
+      let xs : List Record = w .before in
+      let content : List ℕ = recordsBytes xs ++ w .part in
+      let shape : bs ≡ put order 4 (w .word) ++ (put order 4 (length content) ++ (content ++ w .beyond)) = w .splits ∙ simp append-assoc in
+      let there : at + 8 + length (recordsBytes xs) ≡ p = omega (arith, w .place) in
+      let fault : recordItem .read (steps recordItem start xs) (at + 8 + length (recordsBytes xs)) (w .part) ≡ bad c p =
+      ap₂ (λ (x : Context) (m : ℕ). recordItem .read x m (w .part)) (steps-past start xs) there
+      ∙ sym (same-record (past start xs) p (w .part))
+      ∙ w .fault in
+      let body : records .read start (at + 8) content ≡ bad c p =
+      seq-refuses recordItem (length content) start (at + 8) xs (w .part) c p (omega arith) (records-ok start xs (w .valid)) (w .left) fault in
+      ap (box head late start .read tt at) shape
+      ∙ structure-past order head late (inside (λ s. start) records .read) tt at (w .word) content (w .beyond)
+      (w .word-fits) (w .length-fits) (w .head-ok) (w .late-ok)
+      ∙ ap (λ (r : Res (List Record)). bind r (λ b. ok (record { kind = w .word; body = b }))) body
+
+  -- The same in a file, the container standing behind the bytes X: the cut at the record at fault.
+  module _ (bs X : List ℕ) (c p : ℕ) where
+    -- The container's bytes up to the record at fault, and how many bytes lie before that record.
+    abbrev opening : ℕ → List Record → List ℕ → List ℕ
+    opening w rs part = front w (length (recordsBytes rs ++ part)) ++ recordsBytes rs
+
+    length-before : (w : ℕ) (rs : List Record) (part : List ℕ) → length (X ++ opening w rs part) ≡ length X + (8 + length (recordsBytes rs))
+    length-before w rs part =
+        let two : List ℕ = front w (length (recordsBytes rs ++ part)) in
+        omega (
+          arith,
+          length-append X (two ++ recordsBytes rs),
+          length-append two (recordsBytes rs),
+          length-front w (length (recordsBytes rs ++ part)),
+        )
+
+    within-cut : (rest : List ℕ) → bs ≡ X ++ rest → (w : Within (length X) rest c p)
+        → Cut bs (X ++ opening (w .word) (w .before) (w .part)) (w .part) (w .beyond) p
+    within-cut rest is w = record {
+      splits = is
+          ∙ ap (λ (r : List ℕ). X ++ r) (w .splits)
+          ∙ sym (append-assoc X (opening (w .word) (w .before) (w .part)) (w .part ++ w .beyond));
+      place = w .place ∙ sym (length-before (w .word) (w .before) (w .part));
+    }
+
+    cut-within : (w : ℕ) (rs : List Record) (part beyond : List ℕ) → length bs ≤ fileLimit → Fits 4 w
+        → head tt w ≡ 0 → late tt w (length (recordsBytes rs ++ part)) ≡ 0 → ValidRecords start rs → 1 ≤ length part
+        → Cut bs (X ++ opening w rs part) part beyond p → readRecord (past start rs) p part ≡ bad c p
+        → Within (length X) (opening w rs part ++ (part ++ beyond)) c p
+    cut-within w rs part beyond l hw hh hl v left cut e =
+        let size : length bs ≡ length (X ++ opening w rs part) + length (part ++ beyond) =
+        ap length (cut .splits) ∙ length-append (X ++ opening w rs part) (part ++ beyond) in
+        record {
+          word = w;
+          before = rs;
+          part = part;
+          beyond = beyond;
+          word-fits = hw;
+          length-fits = omega (arith, length-before w rs part, length-append part beyond, length-append (recordsBytes rs) part);
+          head-ok = hh;
+          late-ok = hl;
+          valid = v;
+          left = left;
+          splits = refl;
+          place = cut .place ∙ length-before w rs part;
+          fault = e;
+        }
+
 -- ---- the file
-
-valid-configuration : (c : Container) → configurationItem .Ok tt c → ValidConfiguration c
-valid-configuration c v = record {
-  word = equal-passed (c .kind) configurationWord 4 (v .head-ok);
-  fits = v .length-word;
-  entries = records-valid entry (c .body) (v .body-ok);
-}
-
--- The two words in front of a container's contents, and those of the header, are eight bytes.
-pub length-front : (w n : ℕ) → length (front w n) ≡ 8
-length-front w n = omega (arith, length-append (put order 4 w) (put order 4 n), length-put order 4 w, length-put order 4 n)
 
 length-header : (v : ℕ) → length (headerBytes v) ≡ 8
 length-header v = sym (headerItem .sizes v)
 
--- The events of a file, behind its header and its configuration.
-module _ (bs : List ℕ) (c p : ℕ) (v : ℕ) (hv : ValidHeader v) (conf : Container) (hc : ValidConfiguration conf) where
-  abbrev before : List ℕ
-  before = headerBytes v ++ containerBytes conf
+-- What would be a file ends behind its last event.
+file-end : (f : File) → 8 + configurationItem .size (configurationOf f) + length (eventsBytes (eventsOf f)) ≡ length (fileBytes f)
+file-end f =
+    let C : List ℕ = containerBytes (configurationOf f) in
+    let E : List ℕ = eventsBytes (eventsOf f) in
+    omega (
+      arith,
+      length-append (headerBytes (versionOf f)) (C ++ E),
+      length-append C E,
+      length-header (versionOf f),
+      configurationItem .sizes (configurationOf f),
+    )
 
-  -- What stands before the event at fault, the events xs being those before it; and where that ends.
-  abbrev upTo : List Container → List ℕ
-  upTo xs = headerBytes v ++ (containerBytes conf ++ eventsBytes xs)
+-- The first word of an event that is admitted fits its word.
+event-word-fits : (w : ℕ) → eventWordRule w ≡ 0 → Fits 4 w
+unfolding eventWordRule
+event-word-fits w e = let is : w / 65536 ≡ eventMark = equal-passed (w / 65536) eventMark 4 (first-at _ e 0) in omega arith
 
-  abbrev placeBehind : List Container → ℕ
-  placeBehind xs = length before + length (eventsBytes xs)
+-- Faults of the configuration behind a header, and of an event behind what would be a file.
+abbrev InConfiguration : ℕ → List ℕ → ℕ → ℕ → Type 0
+InConfiguration v rest c p = ContainerFault configurationHead configurationLate entry (length (headerBytes v)) rest c p
 
-  -- The event at fault, behind the events xs.
-  event-fault : (xs : List Container) (part : List ℕ) → bs ≡ upTo xs ++ part → placeBehind xs ≡ length (upTo xs) → Oks eventItem tt xs
-      → ContainerFault eventHead eventLate (event none) (placeBehind xs) part c p → FirstFault bs c p
-  event-fault xs part whole at os (inl (here, own)) =
-      at-event v conf xs part hv hc (events-valid xs os)
-      (record { splits = whole ∙ ap (λ (b : List ℕ). upTo xs ++ b) (sym (append-nil part)); place = here ∙ at })
-      (subst (λ (m : ℕ). Itself eventHead eventLate part c m) (sym here) own)
-  event-fault xs part whole at os (inr w) =
-      let rs : List Record = w .before in
-      let two : List ℕ = front (w .word) (w .size) in
-      let last : List ℕ = two ++ recordsBytes rs in
-      let later : List ℕ = w .part ++ w .beyond in
-      let regroup : upTo xs ++ last ≡ headerBytes v ++ (containerBytes conf ++ (eventsBytes xs ++ last)) = simp append-assoc in
-      let size : length (upTo xs ++ last) ≡ length (upTo xs) + (8 + length (recordsBytes rs)) =
-      omega (arith, length-append (upTo xs) last, length-append two (recordsBytes rs), length-front (w .word) (w .size)) in
-      at-record v conf xs (w .word) (w .size) rs (w .part) (w .beyond) hv hc (events-valid xs os) (w .head-ok) (w .valid) (w .fills)
-      (record {
-        splits = whole
-            ∙ ap (λ (r : List ℕ). upTo xs ++ r) (w .splits)
-            ∙ sym (append-assoc (upTo xs) last later)
-            ∙ ap (λ (r : List ℕ). r ++ later) regroup;
-        place = w .place ∙ ap (λ (m : ℕ). m + (8 + length (recordsBytes rs))) at ∙ sym size ∙ ap length regroup;
-      })
-      (w .fault)
+abbrev InEvent : File → List ℕ → ℕ → ℕ → Type 0
+InEvent f rest c p = ContainerFault eventHead eventLate (event none) (length (fileBytes f)) rest c p
 
-  -- Events that are refused: the valid ones before, then the one at fault.
-  events-fault : (rest : List ℕ) → Bytes rest → bs ≡ before ++ rest → events .read tt (length before) rest ≡ bad c p → FirstFault bs c p
-  events-fault rest h is q =
-      let (xs, part, ep, os, r) = seq-refused eventItem (length rest) tt (length before) rest c p (omega arith) h q in
-      let bytes : Bytes part = Bytes-right (eventsBytes xs) part (subst Bytes ep h) in
-      let same : before ++ eventsBytes xs ≡ upTo xs = append-assoc (headerBytes v) (containerBytes conf) (eventsBytes xs) in
-      let whole : bs ≡ upTo xs ++ part =
-      is
-      ∙ ap (λ (r : List ℕ). before ++ r) ep
-      ∙ sym (append-assoc before (eventsBytes xs) part)
-      ∙ ap (λ (r : List ℕ). r ++ part) same in
-      let at : placeBehind xs ≡ length (upTo xs) = sym (length-append before (eventsBytes xs)) ∙ ap length same in
-      event-fault xs part whole at os (container-refused eventHead eventLate (event none) (placeBehind xs) part c p bytes r)
-
--- The configuration and the events, behind the header.
-module _ (bs : List ℕ) (c p : ℕ) (v : ℕ) (hv : ValidHeader v) (rest : List ℕ) (eb : bs ≡ headerBytes v ++ rest) where
-  -- The configuration at fault, itself or at an entry.
-  configuration-fault : ContainerFault configurationHead configurationLate entry 8 rest c p → FirstFault bs c p
-  configuration-fault (inl (here, own)) =
+module _ (bs : List ℕ) (c p : ℕ) where
+  -- Each is a first fault of the file.
+  configuration-fault : (v : ℕ) (rest : List ℕ) → ValidHeader v → bs ≡ headerBytes v ++ rest → InConfiguration v rest c p → FirstFault bs c p
+  configuration-fault v rest hv is (inl (here, own)) =
       at-configuration v rest hv
-      (record { splits = eb ∙ ap (λ (r : List ℕ). headerBytes v ++ r) (sym (append-nil rest)); place = here ∙ sym (length-header v) })
+      (record { splits = is ∙ ap (λ (r : List ℕ). headerBytes v ++ r) (sym (append-nil rest)); place = here })
       (subst (λ (m : ℕ). Itself configurationHead configurationLate rest c m) (sym here) own)
-  configuration-fault (inr w) =
+  configuration-fault v rest hv is (inr w) =
       let rs : List Record = w .before in
-      let two : List ℕ = front configurationWord (w .size) in
-      let last : List ℕ = two ++ recordsBytes rs in
-      let later : List ℕ = w .part ++ w .beyond in
-      let is : w .word ≡ configurationWord = equal-passed (w .word) configurationWord 4 (w .head-ok) in
-      let shape : rest ≡ last ++ later = w .splits ∙ ap (λ (x : ℕ). (front x (w .size) ++ recordsBytes rs) ++ later) is in
-      at-entry v (w .size) rs (w .part) (w .beyond) hv (w .valid) (w .fills)
-      (record {
-        splits = eb ∙ ap (λ (r : List ℕ). headerBytes v ++ r) shape ∙ sym (append-assoc (headerBytes v) last later);
-        place = omega (
-          arith,
-          w .place,
-          length-append (headerBytes v) last,
-          length-append two (recordsBytes rs),
-          length-header v,
-          length-front configurationWord (w .size),
-        );
-      })
+      let n : ℕ = length (recordsBytes rs ++ w .part) in
+      at-entry v rs (w .part) (w .beyond) hv (w .valid) (w .left)
+      (subst (λ (x : ℕ). Cut bs (headerBytes v ++ (front x n ++ recordsBytes rs)) (w .part) (w .beyond) p)
+      (equal-passed (w .word) configurationWord 4 (w .head-ok))
+      (within-cut configurationHead configurationLate entry bs (headerBytes v) c p rest is w))
       (w .fault)
 
-  -- A refusal behind the header is the configuration's or, that being valid, the events'.
-  rest-fault : Bytes rest → pair configurationItem events .read tt 8 rest ≡ bad c p → FirstFault bs c p
-  rest-fault h q = elim (pair-refused configurationItem events tt 8 rest c p h q) [
-    | inl r ↦ configuration-fault (container-refused configurationHead configurationLate entry 8 rest c p h r)
-    | inr (a, ok′, er, r) ↦
-        let size : ℕ = configurationItem .size a in
-        let later : List ℕ = drop size rest in
-        let before : List ℕ = headerBytes v ++ containerBytes a in
-        let at : 8 + size ≡ length before =
-        omega (arith, length-append (headerBytes v) (containerBytes a), length-header v, configurationItem .sizes a) in
-        events-fault bs c p v hv a (valid-configuration a ok′) later (Bytes-drop size rest h)
-        (eb ∙ ap (λ (r : List ℕ). headerBytes v ++ r) er ∙ sym (append-assoc (headerBytes v) (containerBytes a) later))
-        (subst (λ (m : ℕ). events .read tt m later ≡ bad c p) at r)
-  ]
+  event-fault : (f : File) (rest : List ℕ) → Valid f → 1 ≤ length rest → bs ≡ fileBytes f ++ rest → InEvent f rest c p → FirstFault bs c p
+  event-fault f rest v left is (inl (here, own)) =
+      at-event f rest v left
+      (record { splits = is ∙ ap (λ (r : List ℕ). fileBytes f ++ r) (sym (append-nil rest)); place = here })
+      (subst (λ (m : ℕ). Itself eventHead eventLate rest c m) (sym here) own)
+  event-fault f rest v left is (inr w) =
+      at-record f (w .word) (w .before) (w .part) (w .beyond) v (w .head-ok) (w .valid) (w .left)
+      (within-cut eventHead eventLate (event none) bs (fileBytes f) c p rest is w)
+      (w .fault)
 
--- The first-fault theorem.
+  -- Each refuses the file.
+  configuration-refuses : (v : ℕ) (rest : List ℕ) → ValidHeader v → bs ≡ headerBytes v ++ rest → InConfiguration v rest c p
+      → parts .read tt 0 bs ≡ bad c p
+  configuration-refuses v rest hv is e =
+      let refuses : configurationItem .read tt 8 rest ≡ bad c p =
+      ap (λ (m : ℕ). configurationItem .read tt m rest) (sym (length-header v))
+      ∙ container-refuses configurationHead configurationLate entry (length (headerBytes v)) rest c p e in
+      pair-refuses headerItem (pair configurationItem events) tt 0 bs c p
+      (inr (v, rest, is, (hv .rule, hv .fits), pair-refuses configurationItem events tt 8 rest c p (inl refuses)))
+
+  event-refuses : (f : File) (rest : List ℕ) → Valid f → 1 ≤ length rest → bs ≡ fileBytes f ++ rest → InEvent f rest c p
+      → parts .read tt 0 bs ≡ bad c p
+  event-refuses f rest v left is e =
+      let C : List ℕ = containerBytes (configurationOf f) in
+      let E : List ℕ = eventsBytes (eventsOf f) in
+      let at : ℕ = 8 + configurationItem .size (configurationOf f) in
+      let valid : parts .Ok tt f = parts-ok f v in
+      let refuses : eventItem .read tt (at + length E) rest ≡ bad c p =
+      ap (λ (m : ℕ). eventItem .read tt m rest) (file-end f)
+      ∙ container-refuses eventHead eventLate (event none) (length (fileBytes f)) rest c p e in
+      let behind : events .read tt at (E ++ rest) ≡ bad c p =
+      seq-refuses eventItem (length (E ++ rest)) tt at (eventsOf f) rest c p (omega arith) (valid .1 .1) left refuses in
+      let both : pair configurationItem events .read tt 8 (C ++ (E ++ rest)) ≡ bad c p =
+      pair-refuses configurationItem events tt 8 (C ++ (E ++ rest)) c p (inr (configurationOf f, E ++ rest, refl, valid .1 .0, behind)) in
+      pair-refuses headerItem (pair configurationItem events) tt 0 bs c p
+      (inr (versionOf f, C ++ (E ++ rest), is ∙ simp append-assoc, valid .0, both))
+
+-- A refusal within the limit names the first fault.
 pub first-fault : (bs : List ℕ) (c p : ℕ) → Bytes bs → length bs ≤ fileLimit → readFile bs ≡ bad c p → FirstFault bs c p
 unfolding readFile readHeader
 first-fault bs c p h l e =
@@ -226,10 +277,111 @@ first-fault bs c p h l e =
       | inl q ↦
           let here : p ≡ 0 = words-refused order fileMark 3 versionRule tt 0 bs c p q in
           at-header (record { splits = sym (append-nil bs); place = here }) (ap (λ (m : ℕ). headerItem .read tt m bs) here ∙ q)
-      | inr (v, ok′, eb, q) ↦ rest-fault bs c p v (record { rule = ok′ .0; fits = ok′ .1 }) (drop 8 bs) eb (Bytes-drop 8 bs h) q
+      | inr (v, rest, is, ok′, q) ↦ behind-header v rest is ok′ (Bytes-right (headerBytes v) rest (subst Bytes is h)) q
     ]
+  where
+    -- Behind a valid header and a valid configuration, an event.
+    behind-configuration : (v : ℕ) (conf : Container) (rest : List ℕ) → bs ≡ headerBytes v ++ (containerBytes conf ++ rest)
+        → headerItem .Ok tt v × configurationItem .Ok tt conf → Bytes rest
+        → events .read tt (8 + configurationItem .size conf) rest ≡ bad c p → FirstFault bs c p
+    behind-configuration v conf rest is (okv, okc) h q =
+        let at : ℕ = 8 + configurationItem .size conf in
+        let (xs, part, er, os, left, r) = seq-refused eventItem (length rest) tt at rest c p (omega arith) h q in
+        let f : File = (v, (conf, xs)) in
+        let whole : bs ≡ fileBytes f ++ part = is ∙ ap (λ (b : List ℕ). headerBytes v ++ (containerBytes conf ++ b)) er ∙ simp append-assoc in
+        let small : length (fileBytes f) ≤ fileLimit = omega (arith, ap length whole, length-append (fileBytes f) part) in
+        event-fault bs c p f part (parts-valid f (okv, (okc, os)) small) left whole
+        (container-refused eventHead eventLate (event none) (length (fileBytes f)) part c p
+        (Bytes-right (eventsBytes xs) part (subst Bytes er h)) (ap (λ (m : ℕ). eventItem .read tt m part) (sym (file-end f)) ∙ r))
+
+    -- Behind a valid header, the configuration or the events.
+    behind-header : (v : ℕ) (rest : List ℕ) → bs ≡ headerBytes v ++ rest → headerItem .Ok tt v → Bytes rest
+        → pair configurationItem events .read tt 8 rest ≡ bad c p → FirstFault bs c p
+    behind-header v rest is ok′ h q = elim (pair-refused configurationItem events tt 8 rest c p h q) [
+      | inl r ↦
+          configuration-fault bs c p v rest (record { rule = ok′ .0; fits = ok′ .1 }) is
+          (container-refused configurationHead configurationLate entry (length (headerBytes v)) rest c p h
+          (ap (λ (m : ℕ). configurationItem .read tt m rest) (length-header v) ∙ r))
+      | inr (conf, later, er, okc, r) ↦ behind-configuration v conf later (is ∙ ap (λ (b : List ℕ). headerBytes v ++ b) er) (ok′, okc)
+          (Bytes-right (containerBytes conf) later (subst Bytes er h)) r
+    ]
+
+-- A first fault refuses the parts of the file, with its number at its place.
+parts-refused : (bs : List ℕ) (c p : ℕ) → length bs ≤ fileLimit → FirstFault bs c p → parts .read tt 0 bs ≡ bad c p
+unfolding readHeader
+parts-refused bs c p l (at-header cut e) =
+    pair-refuses headerItem (pair configurationItem events) tt 0 bs c p
+    (inl (ap (λ (m : ℕ). headerItem .read tt m bs) (sym (cut .place)) ∙ e))
+parts-refused bs c p l (at-configuration v part hv cut own) =
+    configuration-refuses bs c p v part hv (cut .splits ∙ ap (λ (r : List ℕ). headerBytes v ++ r) (append-nil part))
+    (inl (cut .place, subst (λ (m : ℕ). Itself configurationHead configurationLate part c m) (cut .place) own))
+parts-refused bs c p l (at-entry v rs part beyond hv valid left cut e) =
+    let X : List ℕ = headerBytes v in
+    configuration-refuses bs c p v _ hv (cut .splits ∙ append-assoc X _ (part ++ beyond))
+    (inr (cut-within configurationHead configurationLate entry bs X c p configurationWord rs part beyond l
+    (omega arith) refl refl valid left cut e))
+parts-refused bs c p l (at-event f part v left cut own) =
+    event-refuses bs c p f part v left (cut .splits ∙ ap (λ (r : List ℕ). fileBytes f ++ r) (append-nil part))
+    (inl (cut .place, subst (λ (m : ℕ). Itself eventHead eventLate part c m) (cut .place) own))
+parts-refused bs c p l (at-record f w rs part beyond v admitted valid left cut e) =
+    let X : List ℕ = fileBytes f in
+    let first : List ℕ = front w (length (recordsBytes rs ++ part)) ++ recordsBytes rs in
+    let some : 1 ≤ length (recordsBytes rs ++ part) = omega (arith, length-append (recordsBytes rs) part) in
+    let left-there : 1 ≤ length (first ++ (part ++ beyond)) = omega (arith, length-append first (part ++ beyond), length-append part beyond) in
+    event-refuses bs c p f (first ++ (part ++ beyond)) v left-there (cut .splits ∙ append-assoc X first (part ++ beyond))
+    (inr (cut-within eventHead eventLate (event none) bs X c p w rs part beyond l
+    (event-word-fits w admitted) admitted (most-passes 9 some) valid left cut e))
+
+-- A file within the limit that has a first fault is refused so.
+pub fault-refuses : (bs : List ℕ) (c p : ℕ) → length bs ≤ fileLimit → FirstFault bs c p → readFile bs ≡ bad c p
+fault-refuses bs c p l e = read-within bs (bad c p) l (parts-refused bs c p l e)
+
+-- Within the limit a file is refused with a number at a place exactly when that is its first fault.
+pub fault-exactly : (bs : List ℕ) (c p : ℕ) → Bytes bs → length bs ≤ fileLimit → (readFile bs ≡ bad c p) ↔ FirstFault bs c p
+fault-exactly bs c p h l = (first-fault bs c p h l, fault-refuses bs c p l)
+
+-- A file has at most one first fault.
+pub one-first-fault : (bs : List ℕ) (c p d q : ℕ) → length bs ≤ fileLimit → FirstFault bs c p → FirstFault bs d q → (c ≡ d) × (p ≡ q)
+one-first-fault bs c p d q l e f = bad-inj (sym (fault-refuses bs c p l e) ∙ fault-refuses bs d q l f)
+
+-- An accepted file has none.
+pub accepted-without-fault : (bs : List ℕ) (f : File) (c p : ℕ) → readFile bs ≡ ok f → FirstFault bs c p → ⊥
+accepted-without-fault bs f c p e fault = ok-bad (sym e ∙ fault-refuses bs c p (accepted-within bs f e .0) fault)
 
 -- Over the limit the refusal is 1 at 0.
 pub over-limit : (bs : List ℕ) → fileLimit < length bs → readFile bs ≡ bad 1 0
 unfolding readFile
 over-limit bs l = rw (lt-leb (length bs) fileLimit l)
+
+-- Every file: it is refused with a number at a place exactly when it is over the limit, with 1 at 0, or has that first fault.
+pub refused-exactly : (bs : List ℕ) (c p : ℕ) → Bytes bs → (readFile bs ≡ bad c p) ↔ Refusal bs c p
+refused-exactly bs c p h = (there (leb (length bs) fileLimit) refl, back)
+  where
+    there : (t : Bool) → leb (length bs) fileLimit ≡ t → readFile bs ≡ bad c p → Refusal bs c p
+    there true t e = let l : length bs ≤ fileLimit = leb-true (length bs) fileLimit t in at-fault l (first-fault bs c p h l e)
+    there false t e =
+        let l : fileLimit < length bs = leb-false (length bs) fileLimit t in
+        let (number, place) = bad-inj (sym e ∙ over-limit bs l) in
+        too-long l number place
+
+    back : Refusal bs c p → readFile bs ≡ bad c p
+    back (too-long l ec ep) = over-limit bs l ∙ ap₂ bad (sym ec) (sym ep)
+    back (at-fault l e) = fault-exactly bs c p h l .1 e
+
+-- The place of a refusal lies in the file, or at its end.
+pub fault-in-file : (bs : List ℕ) (c p : ℕ) → Bytes bs → readFile bs ≡ bad c p → p ≤ length bs
+fault-in-file bs c p h e = within-file (refused-exactly bs c p h .0 e)
+  where
+    cut-place : (before part beyond : List ℕ) → Cut bs before part beyond p → p ≤ length bs
+    cut-place before part beyond cut = omega (arith, cut .place, ap length (cut .splits), length-append before (part ++ beyond))
+
+    in-fault : FirstFault bs c p → p ≤ length bs
+    in-fault (at-header cut e) = cut-place _ _ _ cut
+    in-fault (at-configuration v part hv cut own) = cut-place _ _ _ cut
+    in-fault (at-entry v rs part beyond hv valid left cut e) = cut-place _ _ _ cut
+    in-fault (at-event f part v left cut own) = cut-place _ _ _ cut
+    in-fault (at-record f w rs part beyond v hw valid left cut e) = cut-place _ _ _ cut
+
+    within-file : Refusal bs c p → p ≤ length bs
+    within-file (too-long l ec ep) = omega arith
+    within-file (at-fault l e) = in-fault e
