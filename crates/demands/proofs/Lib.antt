@@ -1,6 +1,7 @@
 pub mod Bundles
 pub mod Follows
 pub mod RowLaws
+pub mod ParentLaws
 pub mod FaultLaws
 pub mod EventLaws
 pub mod RecordLaws

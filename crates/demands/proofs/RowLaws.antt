@@ -9,9 +9,9 @@ use native.Mathlib.Omega.{arith}
 use lib.ListN.{length, length-append}
 use Rattle.theory.specs.Words.{Bytes}
 use Rattle.theory.specs.Tests.{ok}
-use Rattle.theory.specs.Layout.{Row, total, extents, childRows, rows, row, Tiles, Owns, Placed}
+use Rattle.theory.specs.Layout.{Row, total, extents, childRows, rows, row, Tiles, Owns, OneParent}
 use Rattle.theory.proofs.StructureLaws.{length-structure}
-use Rattle.theory.proofs.LayoutLaws.{GoodChildren, Good, row-tiles, few-rows, owner, owner-one, parent-before, All, All-at, all-inside}
+use Rattle.theory.proofs.LayoutLaws.{GoodChildren, Good, row-tiles, few-rows, owner, owner-one, one-parent, parent-before}
 use Rattle.note.specs.Words.{order}
 use Rattle.note.specs.Records.{Record, recordBytes, recordSize, recordsBytes, kindOf}
 use Rattle.note.specs.Events.{Container, containerBytes, containerSize, eventsBytes}
@@ -109,9 +109,9 @@ rows-tile f =
     subst (λ (n : ℕ). Tiles isBox 0 (rows 1 0 (nodesOf f)) n) (omega (arith, nodes-extents f))
     (row-tiles isBox 1 0 (nodesOf f) (nodes-good f))
 
-pub rows-inside : (f : File) → All (Placed (rowsOf f)) (rowsOf f)
+pub rows-inside : (f : File) (j : ℕ) → j < length (rowsOf f) → OneParent isBox (rowsOf f) (row (rowsOf f) j)
 unfolding rowsOf
-rows-inside f = all-inside (nodesOf f)
+rows-inside f = one-parent isBox (nodesOf f) (nodes-good f)
 
 -- ---- and of an accepted file's bytes
 
@@ -132,9 +132,9 @@ module _ (bs : List ℕ) (f : File) (h : Bytes bs) (e : readFile bs ≡ ok f) wh
       → Owns isBox (row (rowsOf f) j) i → Owns isBox (row (rowsOf f) k) i → j ≡ k
   byte-has-one-row i j k lj lk oj ok′ = owner-one isBox 0 (length bs) (rowsOf f) i rows-tile-file j k lj lk oj ok′
 
-  -- "Each child inside its one parent": after the parent's own eight bytes, within its whole length.
-  pub child-inside-parent : (j : ℕ) → j < length (rowsOf f) → Placed (rowsOf f) (row (rowsOf f) j)
-  child-inside-parent j l = All-at (Placed (rowsOf f)) (rowsOf f) (rows-inside f) j l
+  -- "Each child inside its one parent": after the parent's own eight bytes, within its whole length, and in no other container.
+  pub child-inside-parent : (j : ℕ) → j < length (rowsOf f) → OneParent isBox (rowsOf f) (row (rowsOf f) j)
+  child-inside-parent = rows-inside f
 
   -- The parent's row number, from 1, is at most the number of rows before the child: a parent before its children.
   pub parent-before-child : (j : ℕ) → j < length (rowsOf f) → row (rowsOf f) j .parent ≤ j

@@ -4,5 +4,6 @@ pub mod Outputs
 pub mod Assembly
 pub mod FirstFault
 pub mod RowRecords
+pub mod Parents
 pub mod Edited
 pub mod RowTraces

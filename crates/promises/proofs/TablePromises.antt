@@ -14,12 +14,14 @@ use lib.Seq.{getD-append-add, drop-at, ext-getD}
 use borrow.Author.Tests.{leb-true, le-leb}
 use Rattle.theory.specs.Words.{Bytes}
 use Rattle.theory.specs.Tests.{Res, ok, bad}
-use Rattle.theory.specs.Layout.{Row, noRow, row, Tiles, Owns, Placed}
-use Rattle.theory.proofs.LayoutLaws.{owner, owner-one, parent-before, All, All-at}
+use Rattle.theory.specs.Layout.{Row, noRow, row, Tiles, Owns, OneParent}
+use Rattle.theory.proofs.LayoutLaws.{owner, owner-one}
 use Rattle.note.specs.Limits.{rowWidth}
 use Rattle.note.specs.Files.{File, readFile}
 use Rattle.note.specs.Rows.{rowsOf, isBox, rowNumbers, flat, fits, tableGiven, tableFilled, tableAnswer, tableBuffer}
-use Rattle.demands.proofs.RowLaws.{rows-inside, rows-tile-file, few-rows-in-file}
+use Rattle.demands.specs.Parents.{ParentByKind}
+use Rattle.demands.proofs.RowLaws.{rows-inside, rows-tile-file, few-rows-in-file, parent-before-child}
+use Rattle.demands.proofs.ParentLaws.{parent-by-kind}
 use Rattle.promises.specs.Buffers.{numberAt, rowAt, rowsFrom, tableCount, tableRows, tableRow}
 use Rattle.demands.proofs.RefusalLaws.{refusal-is-numbered}
 
@@ -183,11 +185,19 @@ module _ (bs old : List ℕ) (zero-given : tableAnswer bs (length old) .number �
   table-length : length (tableRows bs old) ≡ tableCount bs old
   table-length = length-rowsFrom (tableBuffer bs old) 0 (tableCount bs old)
 
-  -- "Each child inside its one parent": each row that has a parent lies behind that row's own eight bytes, within its whole length.
-  pub table-rows-inside : All (Placed (tableRows bs old)) (tableRows bs old)
-  table-rows-inside =
+  -- What holds of row j among the file's rows holds of row j of the buffer among the rows that stand there.
+  of-table : (P : List Row → ℕ → Row → Type 0)
+      → ((f : File) → readFile bs ≡ ok f → (j : ℕ) → j < length (rowsOf f) → P (rowsOf f) j (row (rowsOf f) j))
+      → (j : ℕ) → j < tableCount bs old → P (tableRows bs old) j (tableRow bs old j)
+  of-table P known j l =
       let (f, e, n, same) = table-has-rows in
-      subst (λ (rs : List Row). All (Placed rs) rs) (sym same) (rows-inside f)
+      let here : row (rowsOf f) j ≡ tableRow bs old j = ap (λ (rs : List Row). row rs j) (sym same) ∙ row-in-table j l in
+      subst (λ (r : Row). P (tableRows bs old) j r) here
+      (subst (λ (rs : List Row). P rs j (row (rowsOf f) j)) (sym same) (known f e j (subst (λ (m : ℕ). j < m) n l)))
+
+  -- "Each child inside its one parent": a row of the buffer is a container that holds row j exactly where its number is row j's parent.
+  pub table-child-inside-parent : (j : ℕ) → j < tableCount bs old → OneParent isBox (tableRows bs old) (tableRow bs old j)
+  table-child-inside-parent = of-table (λ rs j r. OneParent isBox rs r) (λ f e. rows-inside f)
 
   module _ (h : Bytes bs) where
     -- "In row order the rows' own bytes run from the first byte to the last without gap or overlap."
@@ -218,8 +228,8 @@ module _ (bs old : List ℕ) (zero-given : tableAnswer bs (length old) .number �
 
     -- "A parent before its children": the parent's row number, from 1, is at most the number of rows before the child.
     pub table-parent-before : (j : ℕ) → j < tableCount bs old → tableRow bs old j .parent ≤ j
-    table-parent-before j l =
-        let rs : List Row = tableRows bs old in
-        let below : j < length rs = omega (arith, table-length) in
-        subst (λ (r : Row). r .parent ≤ j) (row-in-table j l)
-        (parent-before isBox (length bs) rs table-tiles j below (All-at (Placed rs) rs table-rows-inside j below))
+    table-parent-before = of-table (λ rs j r. r .parent ≤ j) (λ f e. parent-before-child bs f h e)
+
+    -- Header, configuration and events have no parent, entries have the configuration's row, records that of an event.
+    pub table-parent-by-kind : (j : ℕ) → j < tableCount bs old → ParentByKind (tableRows bs old) (tableRow bs old j)
+    table-parent-by-kind = of-table (λ rs j r. ParentByKind rs r) (λ f e. parent-by-kind bs f h e)
