@@ -2,47 +2,58 @@
 -- The idea: the row gives the trace's spot (SpotLaws), the spot gives the edit (EditLaws), and the places agree.
 use mathlib.Core.Path.{_≡_, refl, sym, ap, _∙_, subst}
 use mathlib.Core.Logic.{_≢_}
-use mathlib.Core.List.{List}
-use Prim.Native.Nat.{ℕ, _+_, _-_, _/_, _≤_, _<_}
+use mathlib.Core.List.{List, [], _∷_}
+use Prim.Native.Nat.{ℕ, _+_, _-_, _*_, _/_, _≤_, _<_}
 use native.Mathlib.Decide.{ℕ-discrete}
 use native.Mathlib.Omega.{arith}
-use lib.ListN.{length, take, drop, getD, set, length-take}
-use lib.Seq.{getD-take, getD-drop, getD-set-other}
-use Rattle.theory.specs.Words.{Bytes, wordAt}
+use lib.ListN.{length, getD, set, length-set}
+use lib.Seq.{getD-set-other}
+use Rattle.theory.specs.Words.{Bytes}
 use Rattle.theory.specs.Tests.{ok}
 use Rattle.theory.specs.Layout.{row, own, Owns}
 use Rattle.theory.proofs.FreeLaws.{Spot, plug}
-use Rattle.note.specs.Words.{order}
+use Rattle.note.specs.Answers.{accepted, counts}
 use Rattle.note.specs.Records.{Record, recordSize}
 use Rattle.note.specs.Events.{Container}
 use Rattle.note.specs.Files.{File, versionOf, configurationOf, readFile}
 use Rattle.note.specs.Rows.{rowsOf, isBox}
-use Rattle.note.specs.Calls.{recordFound, recordGiven, settingGiven, sampleGiven, recordAt, settingAt, sampleAt}
-use Rattle.demands.specs.Edited.{startOf, holder, Edited}
+use Rattle.note.specs.Calls.{recordGiven, settingGiven, sampleGiven, recordAt, settingAt, samplesAt, sampleAt}
+use Rattle.demands.specs.Edited.{startOf, offset, pair, replaced, SampleEdited, Edited}
 use Rattle.demands.proofs.Follows.{file-sound}
 use Rattle.demands.proofs.RowLaws.{byte-has-one-row}
-use Rattle.demands.proofs.RecordLaws.{found-body}
+use Rattle.demands.proofs.PartLaws.{samples-stay, lists-stay, trace-lists}
 use Rattle.demands.proofs.SpotLaws.{placeOf, traces-found}
 use Rattle.demands.proofs.EditLaws.{Edit, old, new, i, at, read-old, read-new, edited-rows, trace-old, other-row}
-use Rattle.demands.proofs.EditLaws.{same-fields, same-setting, other-sample, held-sample}
-
--- a byte of a body that was found is the file's byte
-byte-found : (bs : List ℕ) (place : ℕ) (r : Record) (m : ℕ) → recordFound bs place ≡ ok r → m < length (r .body)
-    → getD (r .body) m 0 ≡ getD bs (place + (8 + m)) 0
-byte-found bs place r m e l =
-    let n : ℕ = wordAt order 4 4 (drop place bs) in
-    let is : r .body ≡ take n (drop 8 (drop place bs)) = found-body bs place r e in
-    let below : m < n = omega (arith, ap length is, length-take n (drop 8 (drop place bs))) in
-    ap (λ (b : List ℕ). getD b m 0) is
-    ∙ getD-take n (drop 8 (drop place bs)) m 0 below
-    ∙ getD-drop 8 (drop place bs) m 0
-    ∙ getD-drop place bs (8 + m) 0
+use Rattle.demands.proofs.EditLaws.{same-fields, same-setting, other-sample, held-before, held-after, held-differs, part-before, part-after, bytes-after}
 
 module _ {bs : List ℕ} {v : ℕ} {c : Container} {p : Spot} {t : Record} {j m x : ℕ} (d : Edit bs (v, (c, plug p t)) p t j m x) where
-  -- The number of the sample that holds the byte.
-  same-holder : holder (at d j) (i d) ≡ (m - 48) / 2 + 1
-  same-holder =
-      ap (λ (s : ℕ). (placeOf c p + (8 + m) - (s + 56)) / 2 + 1) (d .start) ∙ ap (λ (z : ℕ). z / 2 + 1) (omega (arith, d .from))
+  -- The byte, counted from the first sample's.
+  same-offset : offset (at d j) (i d) ≡ m - 48
+  same-offset = omega (arith, d .start, d .from)
+
+  -- What is read of the trace whose byte it is.
+  trace-edited : SampleEdited bs (at d j) (row (rowsOf (old d)) j .whole) (i d) x
+  trace-edited =
+      let start : ℕ = at d j in
+      let bs′ : List ℕ = set bs (i d) x in
+      let two : ℕ → ℕ = λ o. pair bs (start + 56 + 2 * (o / 2 + 1 - 1)) in
+      let place : start + 56 + (m - 48) ≡ i d = omega (arith, d .start, d .from) in
+      let size : length (t .body) - 48 ≡ row (rowsOf (old d)) j .whole - 56 = omega (arith, d .whole) in
+      record {
+        before =
+            subst (λ (o : ℕ). sampleAt bs start (o / 2 + 1) ≡ accepted (counts (two o ∷ []))) (sym same-offset)
+            (held-before d j (d .below) refl);
+        after =
+            subst (λ (o : ℕ). sampleAt bs′ start (o / 2 + 1) ≡ accepted (counts (replaced o x (two o) ∷ []))) (sym same-offset)
+            (held-after d j (d .below) refl);
+        differs = λ differs.
+            subst (λ (o : ℕ). replaced o x (two o) ≢ two o) (sym same-offset)
+            (held-differs d j (d .below) refl (λ e. differs (e ∙ ap (λ (z : ℕ). getD bs z 0) place)));
+        part = part-before d j (d .below) refl ∙ ap (λ (s : ℕ). (start + 56, s)) size;
+        part-stays = part-after d j (d .below) refl ∙ sym (part-before d j (d .below) refl);
+        part-bytes =
+            subst (λ (o : ℕ). samplesAt bs′ start ≡ set (samplesAt bs start) o x) (sym same-offset) (bytes-after d j (d .below) refl);
+      }
 
   -- another row's bytes are not row j's
   elsewhere-owned : (k n : ℕ) → k < length (rowsOf (old d)) → k ≢ j → n < own isBox (row (rowsOf (old d)) k) → at d k + n ≢ i d
@@ -59,25 +70,27 @@ module _ {bs : List ℕ} {v : ℕ} {c : Container} {p : Spot} {t : Record} {j m 
     file = new d;
     accepted = read-new d;
     same-rows = edited-rows d;
-    sample-changes = λ differs.
-        let there : recordFound bs (at d j) ≡ ok t = trace-old d j (d .below) refl in
-        let same : getD (t .body) m 0 ≡ getD bs (i d) 0 =
-        byte-found bs (at d j) t m there (d .inside) ∙ ap (λ (s : ℕ). getD bs (s + (8 + m)) 0) (d .start) in
-        subst (λ (q : ℕ). sampleAt (set bs (i d) x) (at d j) q ≢ sampleAt bs (at d j) q) (sym same-holder)
-        (held-sample d j (d .below) refl (λ e. differs (e ∙ same)));
+    sample-changes = trace-edited;
     other-samples-stay = λ k n l other. elim (ℕ-discrete k j) [
-      | yes e ↦ other-sample d k l e n (λ q. other (e, q ∙ sym same-holder))
+      | yes e ↦ other-sample d k l e n (λ q. other (e, q ∙ ap (λ (o : ℕ). o / 2 + 1) (sym same-offset)))
       | no e ↦ ap (sampleGiven (at d k) n) (other-row d k l e)
     ];
+    other-parts-stay = λ k l e. samples-stay bs (set bs (i d) x) (at d k) (other-row d k l e);
     fields-stay = λ k l. elim (ℕ-discrete k j) [
       | yes e ↦ same-fields d k l e
       | no e ↦ ap (recordGiven (at d k)) (other-row d k l e)
+    ];
+    lists-stay = λ k l. elim (ℕ-discrete k j) [
+      | yes e ↦ trace-lists bs (set bs (i d) x) (at d k) t (trace-old d k l e) (d .kind)
+      | no e ↦ lists-stay bs (set bs (i d) x) (at d k) (other-row d k l e)
     ];
     settings-stay = λ k l. elim (ℕ-discrete k j) [
       | yes e ↦ same-setting d k l e
       | no e ↦ ap (settingGiven (at d k)) (other-row d k l e)
     ];
-    other-bytes-stay = λ k n l other o. getD-set-other bs (i d) (at d k + n) x 0 (elsewhere-owned k n l other o);
+    other-rows-stay = λ k n l other o. getD-set-other bs (i d) (at d k + n) x 0 (elsewhere-owned k n l other o);
+    same-length = length-set bs (i d) x;
+    other-bytes-stay = λ q other. getD-set-other bs (i d) q x 0 other;
   }
 
 -- Demand 3: in an accepted file, a byte from the 57th of a trace's row to its last, changed to any byte.

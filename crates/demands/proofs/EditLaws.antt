@@ -8,14 +8,14 @@ use mathlib.Core.List.{List, [], _∷_, _++_, map, append-assoc}
 use mathlib.Core.Option.{Option, some, none}
 use Prim.Native.Nat.{ℕ, zero, suc, _+_, _-_, _*_, _/_, _%_, _≤_, _<_}
 use native.Mathlib.Omega.{arith}
-use lib.Dec.{leb}
+use lib.Dec.{leb, eqb}
 use lib.ListN.{length, drop, getD, set, length-append, length-drop, length-set}
-use lib.Seq.{getD-at, getD-drop, drop-set-add}
-use borrow.Author.Tests.{leb-true, le-leb}
+use lib.Seq.{getD-at, getD-drop, getD-set-same, getD-set-other, drop-set-add}
+use borrow.Author.Tests.{eqb-true, eqb-false, leb-true, le-leb}
 use Rattle.theory.specs.Words.{Bytes}
 use Rattle.theory.specs.Tests.{ok}
 use Rattle.theory.specs.Layout.{Row, Child, Node, box, row}
-use Rattle.theory.proofs.WordLaws.{Bytes-set, Bytes-drop, set-append-add}
+use Rattle.theory.proofs.WordLaws.{Bytes-set, Bytes-drop, Bytes-at, set-append-add}
 use Rattle.theory.proofs.Items.{Oks, steps, Oks-append}
 use Rattle.theory.proofs.FreeLaws.{Spot, boxAt, plug, edited, Free, free-bytes, free-valid}
 use Rattle.note.specs.Limits.{fileLimit}
@@ -26,15 +26,17 @@ use Rattle.note.specs.Records.{Record, event, none as nothing, recordHead, reco
 use Rattle.note.specs.Events.{Container, containerBytes, containerSize, eventHead, eventLate, eventStep, eventsBytes}
 use Rattle.note.specs.Files.{File, configurationOf, headerBytes, fileBytes, readFile}
 use Rattle.note.specs.Rows.{childOf, childrenOf, eventNode, nodesOf, rowsOf}
-use Rattle.note.specs.Calls.{recordFound, recordAt, settingAt, sampleAt}
-use Rattle.note.proofs.TraceLaws.{trace-length, trace-blind, trace-row-blind, trace-values-blind, sample-changed, sample-stays}
+use Rattle.note.specs.Calls.{recordFound, recordAt, settingAt, samplesPart, samplesAt, sampleAt}
+use Rattle.note.proofs.TraceLaws.{trace-length, trace-blind, trace-row-blind, trace-values-blind}
+use Rattle.note.proofs.TraceLaws.{sample-is-bytes, changed-is-bytes, sample-stays}
 use Rattle.demands.specs.Valid.{ValidRecord, Valid}
 use Rattle.demands.specs.RowRecords.{rowRecords, foundAs}
-use Rattle.demands.specs.Edited.{startOf}
+use Rattle.demands.specs.Edited.{startOf, pair, replaced}
 use Rattle.demands.proofs.Bundles.{recordItem, eventItem, headerItem, record-valid}
 use Rattle.demands.proofs.Follows.{parts-ok, parts-valid, file-complete}
 use Rattle.demands.proofs.RowLaws.{container-size}
 use Rattle.demands.proofs.RecordLaws.{rows-read, Reads-at}
+use Rattle.demands.proofs.PartLaws.{byte-found, samples-given}
 use Rattle.demands.proofs.SpotLaws.{recordsBefore, recordsAfter, placeOf, records-split}
 
 -- ---- one record among the rows' records
@@ -58,6 +60,51 @@ found-at v c p r bs h e k l =
     let f : File = (v, (c, plug p r)) in
     Reads-at bs (rowsOf f) (rowRecords f) (rows-read bs f h e) k l
     ∙ ap (λ (ls : List (Option Record)). foundAs (startOf f k) (getD ls k none)) (records-split v c p r)
+
+-- ---- one byte of a sample
+
+-- Byte i of the samples b becomes x; their sample that holds it begins at p.
+module _ (b : List ℕ) (i x : ℕ) (h : Bytes b) (l : i < length b) where
+  abbrev p : ℕ
+  p = 2 * (i / 2 + 1 - 1)
+
+  pair-replaced : pair (set b i x) p ≡ replaced i x (pair b p)
+  pair-replaced = go (eqb (i % 2) 0) refl
+    where
+      lower : getD b p 0 < 256
+      lower = Bytes-at b p h
+
+      go : (t : Bool) → eqb (i % 2) 0 ≡ t → pair (set b i x) p ≡ cond t (pair b p / 256 * 256 + x) (x * 256 + pair b p % 256)
+      go true e =
+          let even : i % 2 ≡ 0 = eqb-true (i % 2) 0 e in
+          let here : p ≡ i = omega arith in
+          let new : getD (set b i x) p 0 ≡ x = ap (λ (q : ℕ). getD (set b i x) q 0) here ∙ getD-set-same b i x 0 l in
+          let kept : getD (set b i x) (p + 1) 0 ≡ getD b (p + 1) 0 = getD-set-other b i (p + 1) x 0 (λ w. omega arith) in
+          omega (arith, new, kept, lower)
+      go false e =
+          let odd : i % 2 ≢ 0 = eqb-false (i % 2) 0 e in
+          let here : p + 1 ≡ i = omega arith in
+          let new : getD (set b i x) (p + 1) 0 ≡ x = ap (λ (q : ℕ). getD (set b i x) q 0) here ∙ getD-set-same b i x 0 l in
+          let kept : getD (set b i x) p 0 ≡ getD b p 0 = getD-set-other b i p x 0 (λ w. omega arith) in
+          omega (arith, new, kept, lower)
+
+  replaced-differs : x ≢ getD b i 0 → replaced i x (pair b p) ≢ pair b p
+  replaced-differs differs = go (eqb (i % 2) 0) refl
+    where
+      lower : getD b p 0 < 256
+      lower = Bytes-at b p h
+
+      go : (t : Bool) → eqb (i % 2) 0 ≡ t → cond t (pair b p / 256 * 256 + x) (x * 256 + pair b p % 256) ≢ pair b p
+      go true e w =
+          let even : i % 2 ≡ 0 = eqb-true (i % 2) 0 e in
+          let here : p ≡ i = omega arith in
+          let old : getD b p 0 ≡ getD b i 0 = ap (λ (q : ℕ). getD b q 0) here in
+          differs (omega (arith, old, lower, w))
+      go false e w =
+          let odd : i % 2 ≢ 0 = eqb-false (i % 2) 0 e in
+          let here : p + 1 ≡ i = omega arith in
+          let old : getD b (p + 1) 0 ≡ getD b i 0 = ap (λ (q : ℕ). getD b q 0) here in
+          differs (omega (arith, old, lower, w))
 
 -- ---- the file with the byte changed
 
@@ -263,18 +310,66 @@ module _ {bs : List ℕ} {v : ℕ} {c : Container} {p : Spot} {t : Record} {j m 
           go true false ea eb = refl
           go false b ea eb = refl
 
-      -- The one that holds it changes with it.
-      pub held-sample : x ≢ getD (t .body) m 0 → sampleAt bs′ (at k) ((m - 48) / 2 + 1) ≢ sampleAt bs (at k) ((m - 48) / 2 + 1)
-      held-sample differs e =
-          let q : ℕ = (m - 48) / 2 + 1 in
-          let size : length part ≡ length (t .body) - 48 = length-drop 48 (t .body) in
-          let in-part : m - 48 < length part = omega (arith, d .from, d .inside) in
-          let a : leb 1 q ≡ true = le-leb 1 q (omega arith) in
-          let b : leb q n ≡ true = le-leb q n (omega (arith, sizes .0)) in
-          let new′ : sampleAt bs′ (at k) q ≡ accepted (counts (sampleIn part′ q ∷ [])) = sample-new q ∙ rw (a, b) in
-          let old′ : sampleAt bs (at k) q ≡ accepted (counts (sampleIn part q ∷ [])) = sample-old q ∙ rw (a, b) in
-          let same : accepted (counts (sampleIn part′ q ∷ [])) ≡ accepted (counts (sampleIn part q ∷ [])) = sym new′ ∙ e ∙ old′ in
-          let there : 48 + (m - 48) ≡ m = omega (arith, d .from) in
-          let byte-there : getD part (m - 48) 0 ≡ getD (t .body) m 0 =
-          getD-drop 48 (t .body) (m - 48) 0 ∙ ap (λ (z : ℕ). getD (t .body) z 0) there in
-          sample-changed part n body-bytes (sizes .0) (sizes .1) (m - 48) x (d .byte) in-part (λ w. differs (w ∙ byte-there)) (cc)
+      -- The number of the sample that holds the byte, and the two bytes of that sample in the file.
+      abbrev number : ℕ
+      number = (m - 48) / 2 + 1
+
+      abbrev two : ℕ
+      two = pair bs (at k + 56 + 2 * (number - 1))
+
+      in-part : m - 48 < length part
+      in-part = omega (arith, d .from, d .inside, length-drop 48 (t .body))
+
+      in-range : (1 ≤ number) × (number ≤ n)
+      in-range = (omega arith, omega (arith, in-part, sizes .0))
+
+      in-file : (z : ℕ) → z < length part → getD part z 0 ≡ getD bs (at k + 56 + z) 0
+      in-file z l =
+          let far : at k + 8 + (48 + z) ≡ at k + 56 + z = omega arith in
+          getD-drop 48 (t .body) z 0
+          ∙ byte-found bs (at k) t trace-old (48 + z) (omega (arith, l, length-drop 48 (t .body)))
+          ∙ ap (λ (q : ℕ). getD bs q 0) far
+
+      part-two : pair part (2 * (number - 1)) ≡ two
+      part-two =
+          let q : ℕ = 2 * (number - 1) in
+          let far : at k + 56 + (q + 1) ≡ at k + 56 + q + 1 = omega arith in
+          ap₂ (λ (a b : ℕ). a + 256 * b) (in-file q (omega (arith, in-part)))
+          (in-file (q + 1) (omega (arith, in-part, sizes .0)) ∙ ap (λ (z : ℕ). getD bs z 0) far)
+
+      -- That sample before, and after: the byte is replaced, the other one stays.
+      shown : (s : List ℕ) → given (leb 1 number) (leb number n) s number ≡ accepted (counts (sampleIn s number ∷ []))
+      shown s = rw (le-leb 1 number (in-range .0), le-leb number n (in-range .1))
+
+      pub held-before : sampleAt bs (at k) number ≡ accepted (counts (two ∷ []))
+      held-before =
+          sample-old number ∙ shown part
+          ∙ ap (λ (z : ℕ). accepted (counts (z ∷ [])))
+          (sample-is-bytes part n body-bytes (sizes .0) (sizes .1) number (in-range .0) (in-range .1) ∙ part-two)
+
+      pub held-after : sampleAt bs′ (at k) number ≡ accepted (counts (replaced (m - 48) x two ∷ []))
+      held-after =
+          sample-new number ∙ shown part′
+          ∙ ap (λ (z : ℕ). accepted (counts (z ∷ [])))
+          (changed-is-bytes part n body-bytes (sizes .0) (sizes .1) (m - 48) x (d .byte) number (in-range .0) (in-range .1)
+          ∙ pair-replaced part (m - 48) x body-bytes in-part ∙ ap (replaced (m - 48) x) part-two)
+
+      pub held-differs : x ≢ getD bs (at k + 56 + (m - 48)) 0 → replaced (m - 48) x two ≢ two
+      held-differs differs =
+          subst (λ (s : ℕ). replaced (m - 48) x s ≢ s) part-two
+          (replaced-differs part (m - 48) x body-bytes in-part (λ e. differs (e ∙ in-file (m - 48) in-part)))
+
+      -- The part that Samples gives, before and after.
+      pub part-before : samplesPart bs (at k) ≡ (at k + 56, length (t .body) - 48)
+      unfolding samplesPart
+      part-before = rw (trace-old, d .kind)
+
+      pub part-after : samplesPart bs′ (at k) ≡ (at k + 56, length (t .body) - 48)
+      unfolding samplesPart
+      part-after = rw (trace-new, d .kind, length-set (t .body) m x)
+
+      pub bytes-after : samplesAt bs′ (at k) ≡ set (samplesAt bs (at k)) (m - 48) x
+      bytes-after =
+          let was : samplesAt bs (at k) ≡ part = samples-given bs (at k) ∙ rw (trace-old, d .kind) in
+          let is : samplesAt bs′ (at k) ≡ drop 48 (set (t .body) m x) = samples-given bs′ (at k) ∙ rw (trace-new, d .kind) in
+          is ∙ part-edited ∙ ap (λ (s : List ℕ). set s (m - 48) x) (sym was)

@@ -5,6 +5,7 @@ pub mod ParentLaws
 pub mod FaultLaws
 pub mod EventLaws
 pub mod RecordLaws
+pub mod PartLaws
 pub mod WalkerLaws
 pub mod FindLaws
 pub mod SpotLaws

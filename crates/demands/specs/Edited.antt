@@ -1,34 +1,83 @@
--- The third of the founders' demands: one byte changed inside a trace's samples: still accepted, same rows, the sample that holds it changes,
--- every other sample and field reads as before.
-use Prim.Native.Nat.{ℕ, _+_, _-_, _/_, _<_}
+-- The third of the founders' demands: one byte changed inside a trace's samples: still accepted, same rows, the sample that holds it has
+-- that byte and keeps its other one, every other sample, field and byte reads as before.
+use Prim.Native.Nat.{ℕ, _+_, _-_, _*_, _/_, _%_, _<_}
 use mathlib.Core.Path.{_≡_}
 use mathlib.Core.Logic.{_≢_}
-use mathlib.Core.List.{List}
-use lib.ListN.{length, getD, set}
+use mathlib.Core.Bool.{cond}
+use mathlib.Core.List.{List, [], _∷_}
+use lib.Dec.{eqb}
+use lib.ListN.{length, take, drop, getD, set}
 use Rattle.theory.specs.Tests.{ok}
 use Rattle.theory.specs.Layout.{row, own}
+use Rattle.note.specs.Answers.{accepted, counts}
 use Rattle.note.specs.Files.{File, readFile}
 use Rattle.note.specs.Rows.{rowsOf, isBox}
-use Rattle.note.specs.Calls.{recordAt, settingAt, sampleAt}
+use Rattle.note.specs.Calls.{recordAt, settingAt, samplesPart, samplesAt, sampleAt}
 
 -- Row k's first byte.
 abbrev pub startOf : File → ℕ → ℕ
 startOf f k = row (rowsOf f) k .start
 
--- The number, from 1, of the sample that holds byte i of the trace that begins at `start`: samples begin 56 bytes further on.
-abbrev pub holder : ℕ → ℕ → ℕ
-holder start i = (i - (start + 56)) / 2 + 1
+-- ---- the sample that holds a byte
 
--- In the accepted file f of the bytes bs, row j is a trace, and byte i, inside its samples, becomes v.
-pub record Edited (bs : List ℕ) (f : File) (j i v : ℕ) : Type 0 where
+-- Byte i of the file, counted from 0 among the samples of the trace that begins at `start`: they begin 56 bytes further on.
+abbrev pub offset : ℕ → ℕ → ℕ
+offset start i = i - (start + 56)
+
+-- The number, from 1, of the sample that holds byte i.
+abbrev pub holder : ℕ → ℕ → ℕ
+holder start i = offset start i / 2 + 1
+
+-- The number that two bytes spell, from byte p on, the lower one first; and that of the two bytes of the sample that holds byte i.
+abbrev pub pair : List ℕ → ℕ → ℕ
+pair bs p = getD bs p 0 + 256 * getD bs (p + 1) 0
+
+abbrev pub held : List ℕ → ℕ → ℕ → ℕ
+held bs start i = pair bs (start + 56 + 2 * (holder start i - 1))
+
+-- A sample s with one of its two bytes replaced by x: the lower one at an even offset, the higher one at an odd one; the other stays.
+abbrev pub replaced : ℕ → ℕ → ℕ → ℕ
+replaced m x s = cond (eqb (m % 2) 0) (s / 256 * 256 + x) (x * 256 + s % 256)
+
+-- Of the trace that begins at `start` and is `whole` bytes long, byte i, inside its samples, becomes x. The sample that holds it is given
+-- before and after; a different byte makes a different sample. Samples gives the same part, and its bytes with that one replaced.
+pub record SampleEdited (bs : List ℕ) (start whole i x : ℕ) : Type 0 where
+  pub before : sampleAt bs start (holder start i) ≡ accepted (counts (held bs start i ∷ []))
+  pub after : sampleAt (set bs i x) start (holder start i) ≡ accepted (counts (replaced (offset start i) x (held bs start i) ∷ []))
+  pub differs : x ≢ getD bs i 0 → replaced (offset start i) x (held bs start i) ≢ held bs start i
+  pub part : samplesPart bs start ≡ (start + 56, whole - 56)
+  pub part-stays : samplesPart (set bs i x) start ≡ samplesPart bs start
+  pub part-bytes : samplesAt (set bs i x) start ≡ set (samplesAt bs start) (offset start i) x
+
+-- ---- what stays
+
+-- A section of a history, as Record's answer gives it: n times from byte t on, then n masks of w words each from byte m on. The bytes
+-- of both lists are the same in bs and in bs′.
+abbrev pub SameSection : List ℕ → List ℕ → ℕ → ℕ → ℕ → ℕ → Type 0
+SameSection bs bs′ n t w m =
+    (take (4 * n) (drop t bs′) ≡ take (4 * n) (drop t bs)) × (take (4 * (n * w)) (drop m bs′) ≡ take (4 * (n * w)) (drop m bs))
+
+-- Where Record finds a history at `start`: veto and trigger section.
+abbrev pub SameLists : List ℕ → List ℕ → ℕ → Type 0
+SameLists bs bs′ start = (n t w m n′ t′ w′ m′ : ℕ)
+    → recordAt bs start ≡ accepted (counts (8 ∷ n ∷ t ∷ w ∷ m ∷ n′ ∷ t′ ∷ w′ ∷ m′ ∷ []))
+    → SameSection bs bs′ n t w m × SameSection bs bs′ n′ t′ w′ m′
+
+-- In the accepted file f of the bytes bs, row j is a trace, and byte i, inside its samples, becomes x.
+pub record Edited (bs : List ℕ) (f : File) (j i x : ℕ) : Type 0 where
   pub file : File
-  pub accepted : readFile (set bs i v) ≡ ok file
+  pub accepted : readFile (set bs i x) ≡ ok file
   pub same-rows : rowsOf file ≡ rowsOf f
-  pub sample-changes : v ≢ getD bs i 0
-      → sampleAt (set bs i v) (startOf f j) (holder (startOf f j) i) ≢ sampleAt bs (startOf f j) (holder (startOf f j) i)
+  pub sample-changes : SampleEdited bs (startOf f j) (row (rowsOf f) j .whole) i x
   pub other-samples-stay : (k n : ℕ) → k < length (rowsOf f) → ((k ≡ j) × (n ≡ holder (startOf f j) i) → ⊥)
-      → sampleAt (set bs i v) (startOf f k) n ≡ sampleAt bs (startOf f k) n
-  pub fields-stay : (k : ℕ) → k < length (rowsOf f) → recordAt (set bs i v) (startOf f k) ≡ recordAt bs (startOf f k)
-  pub settings-stay : (k : ℕ) → k < length (rowsOf f) → settingAt (set bs i v) (startOf f k) ≡ settingAt bs (startOf f k)
-  pub other-bytes-stay : (k n : ℕ) → k < length (rowsOf f) → k ≢ j → n < own isBox (row (rowsOf f) k)
-      → getD (set bs i v) (startOf f k + n) 0 ≡ getD bs (startOf f k + n) 0
+      → sampleAt (set bs i x) (startOf f k) n ≡ sampleAt bs (startOf f k) n
+  pub other-parts-stay : (k : ℕ) → k < length (rowsOf f) → k ≢ j
+      → (samplesPart (set bs i x) (startOf f k) ≡ samplesPart bs (startOf f k))
+      × (samplesAt (set bs i x) (startOf f k) ≡ samplesAt bs (startOf f k))
+  pub fields-stay : (k : ℕ) → k < length (rowsOf f) → recordAt (set bs i x) (startOf f k) ≡ recordAt bs (startOf f k)
+  pub lists-stay : (k : ℕ) → k < length (rowsOf f) → SameLists bs (set bs i x) (startOf f k)
+  pub settings-stay : (k : ℕ) → k < length (rowsOf f) → settingAt (set bs i x) (startOf f k) ≡ settingAt bs (startOf f k)
+  pub other-rows-stay : (k n : ℕ) → k < length (rowsOf f) → k ≢ j → n < own isBox (row (rowsOf f) k)
+      → getD (set bs i x) (startOf f k + n) 0 ≡ getD bs (startOf f k + n) 0
+  pub same-length : length (set bs i x) ≡ length bs
+  pub other-bytes-stay : (m : ℕ) → m ≢ i → getD (set bs i x) m 0 ≡ getD bs m 0

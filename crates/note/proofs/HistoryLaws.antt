@@ -152,7 +152,7 @@ unfolding after widthAt
 after-past p b = omega arith
 
 -- In an accepted body both sections have room, and the second ends with the body.
-history-ends : (b : List ℕ) → historyRule b ≡ 0 → (triggerAt b ≤ length b) × (length b ≡ after (triggerAt b) b)
+pub history-ends : (b : List ℕ) → historyRule b ≡ 0 → (triggerAt b ≤ length b) × (length b ≡ after (triggerAt b) b)
 unfolding historyRule
 history-ends b e =
     let end : length b ≡ after (triggerAt b) b = equal-passed (length b) (after (triggerAt b) b) 5 (first-at _ e 4) in

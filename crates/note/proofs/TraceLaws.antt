@@ -1,22 +1,21 @@
 -- The trace: its fields written and read back, its rule blind to the samples, and its samples one by one. The idea: its first twelve
 -- words are known as one list, the samples are the bytes that follow, and a sample is a word of two bytes.
 use mathlib.Core.Path.{_≡_, refl, sym, ap, ap₂, _∙_}
-use mathlib.Core.Logic.{_⊎_, inl, inr, _≢_}
+use mathlib.Core.Logic.{_≢_}
 use mathlib.Core.Bool.{Bool, true, false, cond}
 use mathlib.Core.List.{List, _++_}
-use Prim.Native.Nat.{ℕ, _+_, _-_, _*_, _/_, _%_, _≤_, _<_}
+use Prim.Native.Nat.{ℕ, suc, _+_, _-_, _*_, _/_, _%_, _≤_, _<_}
 use native.Mathlib.Omega.{arith}
-use native.Mathlib.Decide.{decLt}
 use borrow.Author.Tests.{eqb-true, eqb-false}
 use lib.Dec.{eqb}
 use lib.ListN.{length, drop, set, getD, length-append, length-set}
-use lib.Seq.{drop-at}
+use lib.Seq.{drop-at, getD-set-other}
 use lib.IntN.{ℤ}
 use Rattle.theory.specs.declared.Order.the-variants.{Little}
 use Rattle.theory.specs.Words.{Bytes, Fits, wordAt, wordsAt}
 use Rattle.theory.proofs.TestLaws.{first-at, first-passes, equal-passed, equal-passes, most-passed, most-passes}
 use Rattle.theory.proofs.WordLaws.{words-of-puts, puts-of-words, length-puts, word-fits, word-low, word-high}
-use Rattle.theory.proofs.WordLaws.{Bytes-set, word-set-other, word-set-here, words-set-behind}
+use Rattle.theory.proofs.WordLaws.{word-cons, Bytes-set, words-set-behind}
 use Rattle.note.specs.Words.{order, word, words, signed, unsigned}
 use Rattle.note.specs.Trace.{Trace, TraceFits, traceOf, traceWords, traceBytes, sampleIn, traceKind}
 use Rattle.note.specs.Trace.{channelFault, codeFault, deltaFault, countFault, traceFault}
@@ -166,20 +165,27 @@ module _ (part : List ℕ) (n : ℕ) (h : Bytes part) (l : length part ≡ 2 * n
           let q : p + 2 ≡ 2 * (k - 1) = omega arith in
           word-high 2 2 p part h (omega arith) ∙ ap (λ (i : ℕ). wordAt Little 2 i part) q
 
--- A byte of the samples is changed: its sample changes, every other sample stays.
-module _ (part : List ℕ) (n : ℕ) (h : Bytes part) (l : length part ≡ 2 * n) (even : n % 2 ≡ 0) (i v : ℕ) (b : v < 256) where
-  half : (k : ℕ) → 1 ≤ k → k ≤ n → sampleIn (set part i v) k ≡ wordAt Little 2 (2 * (k - 1)) (set part i v)
-  half = sample-is-half (set part i v) n (Bytes-set part i v b h) (length-set part i v ∙ l) even
+  -- And so the two bytes, the lower first.
+  pub sample-is-bytes : (k : ℕ) → 1 ≤ k → k ≤ n → sampleIn part k ≡ getD part (2 * (k - 1)) 0 + 256 * getD part (2 * (k - 1) + 1) 0
+  unfolding wordAt
+  sample-is-bytes k lo hi =
+      let p : ℕ = 2 * (k - 1) in
+      let next : suc p ≡ p + 1 = omega arith in
+      let low : wordAt Little 2 p part ≡ getD part p 0 + 256 * wordAt Little 1 (suc p) part = word-cons 1 p part (omega arith) in
+      let high : wordAt Little 1 (suc p) part ≡ getD part (suc p) 0 + 256 * 0 = word-cons 0 (suc p) part (omega arith) in
+      let same : getD part (suc p) 0 ≡ getD part (p + 1) 0 = ap (λ (q : ℕ). getD part q 0) next in
+      sample-is-half k lo hi ∙ omega arith
 
-  pub sample-changed : i < length part → v ≢ getD part i 0 → sampleIn (set part i v) (i / 2 + 1) ≢ sampleIn part (i / 2 + 1)
-  sample-changed r d e =
-      let lo : 1 ≤ i / 2 + 1 = omega arith in
-      let hi : i / 2 + 1 ≤ n = omega arith in
-      word-set-here Little 2 (2 * (i / 2 + 1 - 1)) part i v h b (omega arith) (omega arith) (omega arith) d
-      (sym (half (i / 2 + 1) lo hi) ∙ e ∙ sample-is-half part n h l even (i / 2 + 1) lo hi)
+-- A byte of the samples is changed: every sample is made of the bytes afterwards, and those that don't hold it stay.
+module _ (part : List ℕ) (n : ℕ) (h : Bytes part) (l : length part ≡ 2 * n) (even : n % 2 ≡ 0) (i v : ℕ) (b : v < 256) where
+  pub changed-is-bytes : (k : ℕ) → 1 ≤ k → k ≤ n
+      → sampleIn (set part i v) k ≡ getD (set part i v) (2 * (k - 1)) 0 + 256 * getD (set part i v) (2 * (k - 1) + 1) 0
+  changed-is-bytes = sample-is-bytes (set part i v) n (Bytes-set part i v b h) (length-set part i v ∙ l) even
 
   pub sample-stays : (k : ℕ) → 1 ≤ k → k ≤ n → k ≢ i / 2 + 1 → sampleIn (set part i v) k ≡ sampleIn part k
-  sample-stays k lo hi d = half k lo hi ∙ word-set-other Little 2 (2 * (k - 1)) part i v away ∙ sym (sample-is-half part n h l even k lo hi)
-    where
-      away : (i < 2 * (k - 1)) ⊎ (2 * (k - 1) + 2 ≤ i)
-      away = elim (decLt i (2 * (k - 1))) [ yes a ↦ inl a | no a ↦ inr (omega arith) ]
+  sample-stays k lo hi d =
+      let away : (q : ℕ) → q / 2 + 1 ≡ k → getD (set part i v) q 0 ≡ getD part q 0 =
+      λ q e. getD-set-other part i q v 0 (λ w. d (sym e ∙ ap (λ (z : ℕ). z / 2 + 1) w)) in
+      changed-is-bytes k lo hi
+      ∙ ap₂ (λ (x y : ℕ). x + 256 * y) (away (2 * (k - 1)) (omega arith)) (away (2 * (k - 1) + 1) (omega arith))
+      ∙ sym (sample-is-bytes part n h l even k lo hi)

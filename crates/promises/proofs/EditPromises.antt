@@ -1,9 +1,9 @@
--- Demand 3, of what the calls give: one byte changed inside a trace's samples leaves Table's answer and buffer, the walker's yields,
--- Find's answers, and Record's and Setting's answers at each row as they were, and of the samples changes only the one that holds it.
--- The idea: the edited file is accepted with the same rows, and Table, the walker and Find look at nothing else of it; the rest is the
+-- Demand 3, of what the calls give: one byte changed inside a trace's samples leaves the answers and buffers of Table and the visitor, the
+-- walker's yields, Find's answers, and Record's and Setting's answers at each row as they were; of the samples it changes only the one that
+-- holds it, by that byte alone, and the bytes of Samples' part likewise.
+-- The idea: the edited file is accepted with the same rows, and Table, visitor, walker and Find look at nothing else of it; the rest is the
 -- demand on the definitions, with the rows taken from the buffer.
 use mathlib.Core.Path.{_≡_, sym, ap, _∙_, subst}
-use mathlib.Core.Logic.{_≢_}
 use mathlib.Core.List.{List}
 use Prim.Native.Nat.{ℕ, _+_, _≤_, _<_}
 use lib.ListN.{length, set, length-set}
@@ -13,9 +13,9 @@ use Rattle.theory.specs.Layout.{Row, row}
 use Rattle.theory.proofs.WordLaws.{Bytes-set}
 use Rattle.note.specs.Answers.{accepted, counts}
 use Rattle.note.specs.Files.{File, readFile}
-use Rattle.note.specs.Rows.{rowsOf, tableAnswer, tableBuffer, yieldAt}
-use Rattle.note.specs.Calls.{recordAt, settingAt, sampleAt, firstMatch, findAt}
-use Rattle.demands.specs.Edited.{startOf, holder, Edited}
+use Rattle.note.specs.Rows.{rowsOf, tableAnswer, tableBuffer, yieldAt, visitAnswer, visitBuffer}
+use Rattle.note.specs.Calls.{recordAt, settingAt, samplesPart, samplesAt, sampleAt, firstMatch, findAt}
+use Rattle.demands.specs.Edited.{startOf, holder, SampleEdited, SameLists, Edited}
 use Rattle.demands.specs.RowTraces.{rowTraces}
 use Rattle.demands.proofs.FindLaws.{find-by-rows}
 use Rattle.demands.proofs.EditInFull.{edit-in-full}
@@ -26,7 +26,7 @@ use Rattle.promises.proofs.TablePromises.{table-has-rows, row-in-table}
 -- In an accepted file, row j is a trace, and byte i, inside its samples, becomes the byte x.
 module _ (bs : List ℕ) (f : File) (h : Bytes bs) (e : readFile bs ≡ ok f) {j i x : ℕ} (byte : x < 256) (d : Edited bs f j i x) where
   -- "still accepted, same rows": Table answers the same for every capacity and leaves the same in every buffer; the walker yields the
-  -- same, and Find gives the same for every number and code.
+  -- same, from every row on, and Find gives the same for every number and code.
   pub edit-keeps-answer : (capacity : ℕ) → tableAnswer (set bs i x) capacity ≡ tableAnswer bs capacity
   unfolding tableAnswer
   edit-keeps-answer capacity = rw (e, d .accepted, d .same-rows, length-set bs i x)
@@ -38,6 +38,14 @@ module _ (bs : List ℕ) (f : File) (h : Bytes bs) (e : readFile bs ≡ ok f) {j
   pub edit-keeps-yields : (k : ℕ) → yieldAt (set bs i x) k ≡ yieldAt bs k
   unfolding yieldAt
   edit-keeps-yields k = rw (e, d .accepted, d .same-rows)
+
+  pub edit-keeps-visits : (k capacity : ℕ) → visitAnswer (set bs i x) k capacity ≡ visitAnswer bs k capacity
+  unfolding visitAnswer
+  edit-keeps-visits k capacity = rw (e, d .accepted, d .same-rows, length-set bs i x)
+
+  pub edit-keeps-visited : (k : ℕ) (old : List ℕ) → visitBuffer (set bs i x) k old ≡ visitBuffer bs k old
+  unfolding visitBuffer
+  edit-keeps-visited k old = rw (e, d .accepted, d .same-rows)
 
   pub edit-keeps-finds : (number code : ℕ) → findAt (set bs i x) number code ≡ findAt bs number code
   edit-keeps-finds number code =
@@ -70,12 +78,19 @@ edit-seen-by-calls bs old j i x h s =
       same-answer = edit-keeps-answer bs f h e (s .byte) new;
       same-buffer = edit-keeps-buffer bs f h e (s .byte) new;
       same-yields = edit-keeps-yields bs f h e (s .byte) new;
+      same-visits = edit-keeps-visits bs f h e (s .byte) new;
+      same-visited = edit-keeps-visited bs f h e (s .byte) new;
       same-finds = edit-keeps-finds bs f h e (s .byte) new;
       same-records = λ k l. subst (λ (p : ℕ). recordAt (set bs i x) p ≡ recordAt bs p) (start k l) (new .fields-stay k (inside k l));
+      same-lists = λ k l. subst (λ (p : ℕ). SameLists bs (set bs i x) p) (start k l) (new .lists-stay k (inside k l));
       same-settings = λ k l. subst (λ (p : ℕ). settingAt (set bs i x) p ≡ settingAt bs p) (start k l) (new .settings-stay k (inside k l));
-      sample-changes = λ d.
-          subst (λ (p : ℕ). sampleAt (set bs i x) p (holder p i) ≢ sampleAt bs p (holder p i)) (start j (s .counted)) (new .sample-changes d);
+      sample-changes = subst (λ (r : Row). SampleEdited bs (r .start) (r .whole) i x) (sym mine) (new .sample-changes);
       other-samples-stay = λ k m l d.
           subst (λ (p : ℕ). sampleAt (set bs i x) p m ≡ sampleAt bs p m) (start k l)
           (new .other-samples-stay k m (inside k l) (λ q. d (q .0, q .1 ∙ ap (λ (p : ℕ). holder p i) (start j (s .counted)))));
+      other-parts-stay = λ k l d.
+          subst (λ (p : ℕ). (samplesPart (set bs i x) p ≡ samplesPart bs p) × (samplesAt (set bs i x) p ≡ samplesAt bs p)) (start k l)
+          (new .other-parts-stay k (inside k l) d);
+      same-length = new .same-length;
+      other-bytes-stay = new .other-bytes-stay;
     }
