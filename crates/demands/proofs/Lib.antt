@@ -15,6 +15,7 @@ pub mod EditInFull
 pub mod RewriteLaws
 pub mod AgainLaws
 pub mod RefusalLaws
+pub mod NumberLaws
 pub mod OutputLaws
 pub mod WriterLaws
 pub mod ClosingLaws

@@ -1,45 +1,59 @@
--- A refusal's number is never 0, so Table's 0 means an accepted file.
--- The idea: `need` gives back no 0 and `bind` passes on what it is given; each reader is made of these two.
-use mathlib.Core.Path.{_≡_, subst}
+-- Which numbers each reader can refuse with, and where; so a file's refusal is one of document 01's numbers, and never 0.
+-- The idea: `need` gives back a test's number at its place and `bind` passes on what it is given; each reader is made of these two.
+use mathlib.Core.Path.{_≡_, refl, sym, _∙_, subst}
+use mathlib.Core.Bool.{Bool, true, false, false≢true}
 use mathlib.Core.List.{List, [], _∷_}
-use Prim.Native.Nat.{ℕ, zero, suc, _+_, _<_}
+use Prim.Native.Nat.{ℕ, zero, suc, _+_, _%_, _≤_, _<_}
 use native.Mathlib.Omega.{arith}
+use borrow.Author.Tests.{leb-true, leb-false}
 use lib.Dec.{leb, eqb}
 use lib.ListN.{length, take, drop}
 use Rattle.theory.specs.declared.Order.{Order}
 use Rattle.theory.specs.Words.{wordAt}
-use Rattle.theory.specs.Tests.{Res, ok, bad, need, bind, unless}
+use Rattle.theory.specs.Tests.{Res, ok, bad, need, bind, unless, among}
 use Rattle.theory.specs.Structures.{Structure, readStructure, readSequence, readPair, readWords}
+use Rattle.theory.proofs.TestLaws.{Numbered, unless-numbered, unless-zero, numbered-wider, among-wider}
 use Rattle.note.specs.Limits.{fileLimit}
 use Rattle.note.specs.Words.{order}
-use Rattle.note.specs.Records.{Context, entry, event, none, recordHead, recordLate, recordRule, recordStep, recordSize, readRecord, readRecords}
-use Rattle.note.specs.Events.{containerSize, eventHead, eventLate, eventStep, readEvent, readEvents}
-use Rattle.note.specs.Files.{fileMark, versionRule, configurationHead, configurationLate, readHeader, readConfiguration, readParts, readFile}
+use Rattle.note.specs.Records.{Record, Context, entry, event, alone, none, isKind, isAllowed, entryKinds}
+use Rattle.note.specs.Records.{recordHead, recordLate, recordRule, recordStep, recordSize, behind, readRecord, readRecords}
+use Rattle.note.specs.Events.{Container, containerSize, eventHead, eventLate, eventStep, readEvent, readEvents}
+use Rattle.note.specs.Files.{fileMark, format, versionRule, configurationWord, configurationHead, configurationLate}
+use Rattle.note.specs.Files.{readHeader, readConfiguration, readParts, readFile}
+use Rattle.note.proofs.BoolLaws.{among-tells, upTo, one-up-to}
+use Rattle.note.proofs.RuleNumbers.{rule-numbers, entry-rule-numbers, event-word-numbers}
+use Rattle.demands.specs.Numbers.{At, From, Refusal, over-limit, within-limit, recordNumbers, ContainerNumbers, itself, inside}
+use Rattle.demands.specs.Numbers.{FileNumbers, of-header, of-configuration, of-rest, FileRefusal}
 
--- An answer, or a refusal whose number is not 0.
-abbrev Numbered : {A : Type 0} → Res A → Type 0
-Numbered (ok a) = Unit {0}
-Numbered (bad c p) = 0 < c
+-- An answer, or a refusal of this sort.
+abbrev pub Gives : {A : Type 0} → (ℕ → ℕ → Type 0) → Res A → Type 0
+Gives P (ok a) = Unit {0}
+Gives P (bad c p) = P c p
 
-need-numbered : {A : Type 0} (c at : ℕ) (r : Res A) → Numbered r → Numbered (need c at r)
-need-numbered zero at r h = h
-need-numbered (suc c) at r h = omega arith
+pub need-gives : {A : Type 0} (P : ℕ → ℕ → Type 0) (ns : List ℕ) (c at : ℕ) (r : Res A) → Numbered ns c
+    → ((n : ℕ) → among n ns ≡ true → P n at) → (c ≡ 0 → Gives P r) → Gives P (need c at r)
+unfolding Numbered
+need-gives P ns zero at r n own later = later refl
+need-gives P ns (suc c) at r n own later = own (suc c) n
 
-bind-numbered : {A B : Type 0} (r : Res A) (k : A → Res B) → Numbered r → ((a : A) → Numbered (k a)) → Numbered (bind r k)
-bind-numbered (ok a) k h g = g a
-bind-numbered (bad c p) k h g = h
+pub bind-gives : {A B : Type 0} (P : ℕ → ℕ → Type 0) (r : Res A) (k : A → Res B) → Gives P r → ((a : A) → Gives P (k a)) → Gives P (bind r k)
+bind-gives P (ok a) k h g = g a
+bind-gives P (bad c p) k h g = h
 
--- A reader that gives nothing else.
-module _ {S A : Type 0} where
-  abbrev Numbers : (S → ℕ → List ℕ → Res A) → Type 0
-  Numbers read = (s : S) (at : ℕ) (bs : List ℕ) → Numbered (read s at bs)
+pub gives-wider : {A : Type 0} (P Q : ℕ → ℕ → Type 0) (r : Res A) → ((c p : ℕ) → P c p → Q c p) → Gives P r → Gives Q r
+gives-wider P Q (ok a) w h = tt
+gives-wider P Q (bad c p) w h = w c p h
 
 -- ---- the readers of the theory
 
-module _ (o : Order) {S B : Type 0} (head : S → ℕ → ℕ) (late : S → ℕ → ℕ → ℕ)
-    (body : S × ℕ → ℕ → List ℕ → Res B) (numbered : Numbers body) where
-  structure-numbered : Numbers (readStructure o head late body)
-  structure-numbered s at bs =
+-- A structure's own tests give one of these numbers, 2 among them, at its place.
+module _ (o : Order) {S B : Type 0} (head : S → ℕ → ℕ) (late : S → ℕ → ℕ → ℕ) (body : S × ℕ → ℕ → List ℕ → Res B)
+    (P : ℕ → ℕ → Type 0) (ns : List ℕ) (two : among 2 ns ≡ true) (s : S)
+    (heads : (w : ℕ) → Numbered ns (head s w)) (lates : (w n : ℕ) → Numbered ns (late s w n)) where
+  structure-gives : (at : ℕ) (bs : List ℕ) → ((n : ℕ) → among n ns ≡ true → P n at)
+      → ((w : ℕ) (part : List ℕ) → head s w ≡ 0 → Gives P (body (s, w) at part))
+      → Gives P (readStructure o head late body s at bs)
+  structure-gives at bs own bodies =
       let w : ℕ = wordAt o 4 0 bs in
       let n : ℕ = wordAt o 4 4 bs in
       let part : List ℕ = take n (drop 8 bs) in
@@ -47,79 +61,179 @@ module _ (o : Order) {S B : Type 0} (head : S → ℕ → ℕ) (late : S → ℕ
       let inner : Res (Structure B) = bind (body (s, w) at part) made in
       let late-on : Res (Structure B) = need (late s w n) at inner in
       let fits-on : Res (Structure B) = need (unless (leb (8 + n) (length bs)) 2) at late-on in
-      need-numbered (unless (leb 8 (length bs)) 2) at (need (head s w) at fits-on)
-      (need-numbered (head s w) at fits-on
-      (need-numbered (unless (leb (8 + n) (length bs)) 2) at late-on
-      (need-numbered (late s w n) at inner
-      (bind-numbered (body (s, w) at part) made (numbered (s, w) at part) (λ b. tt)))))
+      need-gives P ns (unless (leb 8 (length bs)) 2) at (need (head s w) at fits-on) (unless-numbered ns (leb 8 (length bs)) 2 two) own
+      (λ e. need-gives P ns (head s w) at fits-on (heads w) own
+      (λ h. need-gives P ns (unless (leb (8 + n) (length bs)) 2) at late-on (unless-numbered ns (leb (8 + n) (length bs)) 2 two) own
+      (λ f. need-gives P ns (late s w n) at inner (lates w n) own
+      (λ l. bind-gives P (body (s, w) at part) made (bodies w part h) (λ b. tt)))))
 
-module _ {S A : Type 0} (step : S → A → S) (size : A → ℕ) (read : S → ℕ → List ℕ → Res A) (numbered : Numbers read) where
-  sequence-numbered : (n : ℕ) → Numbers (readSequence step size read n)
-  sequence-numbered zero s at bs = tt
-  sequence-numbered (suc n) s at [] = tt
-  sequence-numbered (suc n) s at (b ∷ bs) =
+-- A sequence gives what its items give, in the states and at the places that it can come to.
+module _ {S A : Type 0} (step : S → A → S) (size : A → ℕ) (read : S → ℕ → List ℕ → Res A)
+    (P : ℕ → ℕ → Type 0) (Reached : S → ℕ → Type 0) (on : (s : S) (at : ℕ) (a : A) → Reached s at → Reached (step s a) (at + size a))
+    (gives : (s : S) (at : ℕ) (bs : List ℕ) → Reached s at → Gives P (read s at bs)) where
+  sequence-gives : (n : ℕ) (s : S) (at : ℕ) (bs : List ℕ) → Reached s at → Gives P (readSequence step size read n s at bs)
+  sequence-gives zero s at bs h = tt
+  sequence-gives (suc n) s at [] h = tt
+  sequence-gives (suc n) s at (b ∷ bs) h =
       let later : A → Res (List A) = λ a. readSequence step size read n (step s a) (at + size a) (drop (size a) (b ∷ bs)) in
-      bind-numbered (read s at (b ∷ bs)) (λ a. bind (later a) (λ xs. ok (a ∷ xs))) (numbered s at (b ∷ bs))
-      (λ a. bind-numbered (later a) (λ xs. ok (a ∷ xs))
-      (sequence-numbered n (step s a) (at + size a) (drop (size a) (b ∷ bs))) (λ xs. tt))
+      bind-gives P (read s at (b ∷ bs)) (λ a. bind (later a) (λ xs. ok (a ∷ xs))) (gives s at (b ∷ bs) h)
+      (λ a. bind-gives P (later a) (λ xs. ok (a ∷ xs))
+      (sequence-gives n (step s a) (at + size a) (drop (size a) (b ∷ bs)) (on s at a h)) (λ xs. tt))
 
-  pair-numbered : {B : Type 0} (rest : S → ℕ → List ℕ → Res B) → Numbers rest → Numbers (readPair step size read rest)
-  pair-numbered {B = B} rest g s at bs =
-      let later : A → Res B = λ a. rest (step s a) (at + size a) (drop (size a) bs) in
-      bind-numbered (read s at bs) (λ a. bind (later a) (λ b. ok (a, b))) (numbered s at bs)
-      (λ a. bind-numbered (later a) (λ b. ok (a, b)) (g (step s a) (at + size a) (drop (size a) bs)) (λ b. tt))
-
-words-numbered : (o : Order) (fixed wrong : ℕ) (rule : ℕ → ℕ) → Numbers (readWords o fixed wrong rule)
-words-numbered o fixed wrong rule s at bs =
-    let last : Res ℕ = need (rule (wordAt o 4 4 bs)) at (ok (wordAt o 4 4 bs)) in
-    need-numbered (unless (leb 8 (length bs)) 2) at (need (unless (eqb (wordAt o 4 0 bs) fixed) wrong) at last)
-    (need-numbered (unless (eqb (wordAt o 4 0 bs) fixed) wrong) at last
-    (need-numbered (rule (wordAt o 4 4 bs)) at (ok (wordAt o 4 4 bs)) tt))
+pair-gives : {S A B : Type 0} (step : S → A → S) (size : A → ℕ) (one : S → ℕ → List ℕ → Res A) (rest : S → ℕ → List ℕ → Res B)
+    → (P : ℕ → ℕ → Type 0) (s : S) (at : ℕ) (bs : List ℕ) → Gives P (one s at bs)
+    → ((a : A) → Gives P (rest (step s a) (at + size a) (drop (size a) bs))) → Gives P (readPair step size one rest s at bs)
+pair-gives {B = B} step size one rest P s at bs h g =
+    let later : _ → Res B = λ a. rest (step s a) (at + size a) (drop (size a) bs) in
+    bind-gives P (one s at bs) (λ a. bind (later a) (λ b. ok (a, b))) h (λ a. bind-gives P (later a) (λ b. ok (a, b)) (g a) (λ b. tt))
 
 -- ---- the readers of the note
 
-record-numbered : Numbers readRecord
-unfolding readRecord
-record-numbered =
-    structure-numbered order recordHead recordLate (λ s at b. need (recordRule (s .1) b) at (ok b))
-    (λ s at b. need-numbered (recordRule (s .1) b) at (ok b) tt)
+record-head-numbers : (c : Context) (w : ℕ) → Numbered (recordNumbers c) (recordHead c w)
+record-head-numbers entry w = unless-numbered _ (isKind entry w) 5 refl
+record-head-numbers (event seen) w = unless-numbered _ (isKind (event seen) w) 5 refl
+record-head-numbers alone w = unless-numbered _ (isKind alone w) 5 refl
 
-records-numbered : Numbers readRecords
+record-late-numbers : (c : Context) (w n : ℕ) → Numbered (recordNumbers c) (recordLate c w n)
+unfolding isAllowed Numbered
+record-late-numbers entry w n = tt
+record-late-numbers (event seen) w n = unless-numbered _ (isAllowed (event seen) w) 9 refl
+record-late-numbers alone w n = tt
+
+record-rule-numbers : (c : Context) (w : ℕ) (b : List ℕ) → recordHead c w ≡ 0 → Numbered (recordNumbers c) (recordRule w b)
+unfolding isKind
+record-rule-numbers entry w b h =
+    numbered-wider (5 ∷ 6 ∷ 10 ∷ []) _ (recordRule w b) refl (entry-rule-numbers w b (unless-zero (among w entryKinds) 5 (omega arith) h))
+record-rule-numbers (event seen) w b h = numbered-wider (5 ∷ 6 ∷ 10 ∷ 11 ∷ []) _ (recordRule w b) refl (rule-numbers w b)
+record-rule-numbers alone w b h = numbered-wider (5 ∷ 6 ∷ 10 ∷ 11 ∷ []) _ (recordRule w b) refl (rule-numbers w b)
+
+two-among : (c : Context) → among 2 (recordNumbers c) ≡ true
+two-among entry = refl
+two-among (event seen) = refl
+two-among alone = refl
+
+pub record-gives : (c : Context) (at : ℕ) (bs : List ℕ) → Gives (At at (recordNumbers c)) (readRecord c at bs)
+unfolding readRecord
+record-gives c at bs =
+    let P : ℕ → ℕ → Type 0 = At at (recordNumbers c) in
+    let own : (n : ℕ) → among n (recordNumbers c) ≡ true → P n at = λ n h. (h, refl) in
+    structure-gives order recordHead recordLate (λ s at b. need (recordRule (s .1) b) at (ok b)) P (recordNumbers c) (two-among c) c
+    (record-head-numbers c) (record-late-numbers c) at bs own
+    (λ w part h. need-gives P (recordNumbers c) (recordRule w part) at (ok part) (record-rule-numbers c w part h) own (λ e. tt))
+
+-- A context stays of its sort.
+numbers-stay : (c : Context) (k : ℕ) → recordNumbers (behind c k) ≡ recordNumbers c
+unfolding behind
+numbers-stay entry k = refl
+numbers-stay (event seen) k = refl
+numbers-stay alone k = refl
+
+pub records-give : (c : Context) (at : ℕ) (bs : List ℕ) → Gives (From at (recordNumbers c)) (readRecords c at bs)
 unfolding readRecords
-records-numbered c at bs = sequence-numbered recordStep recordSize readRecord record-numbered (length bs) c at bs
+records-give c at bs =
+    let P : ℕ → ℕ → Type 0 = From at (recordNumbers c) in
+    let Reached : Context → ℕ → Type 0 = λ s q. (recordNumbers s ≡ recordNumbers c) × (at ≤ q) in
+    sequence-gives recordStep recordSize readRecord P Reached
+    (λ s q r h. (numbers-stay s (r .kind) ∙ h .0, omega (arith, h .1)))
+    (λ s q bs h. gives-wider (At q (recordNumbers s)) P (readRecord s q bs)
+    (λ n p e. (subst (λ (ns : List ℕ). among n ns ≡ true) (h .0) (e .0), omega (arith, e .1, h .1))) (record-gives s q bs))
+    (length bs) c at bs (refl, omega arith)
 
 -- Any container of records.
-container-numbered : (head : Unit {0} → ℕ → ℕ) (late : Unit {0} → ℕ → ℕ → ℕ) (c : Context)
-    → Numbers (readStructure order head late (λ s at bs. readRecords c (at + 8) bs))
-container-numbered head late c =
-    structure-numbered order head late (λ s at bs. readRecords c (at + 8) bs) (λ s at bs. records-numbered c (at + 8) bs)
+container-gives : (head : Unit {0} → ℕ → ℕ) (late : Unit {0} → ℕ → ℕ → ℕ) (c : Context) (own : List ℕ) → among 2 own ≡ true
+    → ((w : ℕ) → Numbered own (head tt w)) → ((w n : ℕ) → Numbered own (late tt w n)) → (s : Unit {0}) (at : ℕ) (bs : List ℕ)
+    → Gives (ContainerNumbers at own (recordNumbers c)) (readStructure order head late (λ s at bs. readRecords c (at + 8) bs) s at bs)
+container-gives head late c own two heads lates s at bs =
+    let P : ℕ → ℕ → Type 0 = ContainerNumbers at own (recordNumbers c) in
+    structure-gives order head late (λ s at bs. readRecords c (at + 8) bs) P own two s heads lates at bs (λ n h. itself (h, refl))
+    (λ w part h. gives-wider (From (at + 8) (recordNumbers c)) P (readRecords c (at + 8) part) (λ n p e. inside e) (records-give c (at + 8) part))
 
-configuration-numbered : Numbers readConfiguration
-unfolding readConfiguration
-configuration-numbered = container-numbered configurationHead configurationLate entry
+configuration-gives : (at : ℕ) (bs : List ℕ) → Gives (ContainerNumbers at (2 ∷ 5 ∷ []) (recordNumbers entry)) (readConfiguration tt at bs)
+unfolding readConfiguration Numbered
+configuration-gives at bs =
+    container-gives configurationHead configurationLate entry (2 ∷ 5 ∷ []) refl (λ w. unless-numbered (2 ∷ 5 ∷ []) (eqb w configurationWord) 5 refl)
+    (λ w n. tt) tt at bs
 
-event-numbered : Numbers readEvent
+event-gives : (at : ℕ) (bs : List ℕ)
+    → Gives (ContainerNumbers at (2 ∷ 5 ∷ 7 ∷ 8 ∷ 9 ∷ []) (recordNumbers (event none))) (readEvent tt at bs)
 unfolding readEvent
-event-numbered = container-numbered eventHead eventLate (event none)
+event-gives at bs =
+    container-gives eventHead eventLate (event none) (2 ∷ 5 ∷ 7 ∷ 8 ∷ 9 ∷ []) refl
+    (λ w. numbered-wider (5 ∷ 7 ∷ 8 ∷ []) _ (eventHead tt w) refl (event-word-numbers w)) (λ w n. unless-numbered _ (leb 1 n) 9 refl) tt at bs
 
-events-numbered : Numbers readEvents
+-- All that can stand behind a configuration's first eight bytes.
+abbrev behindNumbers : List ℕ
+behindNumbers = 2 ∷ 5 ∷ 6 ∷ 7 ∷ 8 ∷ 9 ∷ 10 ∷ 11 ∷ []
+
+events-give : (from at : ℕ) (bs : List ℕ) → from ≤ at → Gives (From from behindNumbers) (readEvents tt at bs)
 unfolding readEvents
-events-numbered s at bs = sequence-numbered eventStep containerSize readEvent event-numbered (length bs) s at bs
+events-give from at bs l =
+    let P : ℕ → ℕ → Type 0 = From from behindNumbers in
+    sequence-gives eventStep containerSize readEvent P (λ s q. from ≤ q) (λ s q e h. omega (arith, h))
+    (λ s q bs h. gives-wider _ P (readEvent tt q bs) (λ n p e. spread q n p h e) (event-gives q bs)) (length bs) tt at bs l
+  where
+    spread : (q n p : ℕ) → from ≤ q → ContainerNumbers q (2 ∷ 5 ∷ 7 ∷ 8 ∷ 9 ∷ []) (recordNumbers (event none)) n p → From from behindNumbers n p
+    spread q n p h (itself (a, e)) = (among-wider (2 ∷ 5 ∷ 7 ∷ 8 ∷ 9 ∷ []) behindNumbers n refl a, omega arith)
+    spread q n p h (inside (a, e)) = (among-wider (recordNumbers (event none)) behindNumbers n refl a, omega arith)
 
-header-numbered : Numbers readHeader
+header-gives : (bs : List ℕ) → Gives (At 0 (2 ∷ 3 ∷ 4 ∷ [])) (readHeader tt 0 bs)
 unfolding readHeader
-header-numbered = words-numbered order fileMark 3 versionRule
+header-gives bs =
+    let ns : List ℕ = 2 ∷ 3 ∷ 4 ∷ [] in
+    let P : ℕ → ℕ → Type 0 = At 0 ns in
+    let own : (n : ℕ) → among n ns ≡ true → P n 0 = λ n h. (h, refl) in
+    let v : ℕ = wordAt order 4 4 bs in
+    let last : Res ℕ = need (versionRule v) 0 (ok v) in
+    let marked : Bool = eqb (wordAt order 4 0 bs) fileMark in
+    need-gives P ns (unless (leb 8 (length bs)) 2) 0 (need (unless marked 3) 0 last) (unless-numbered ns (leb 8 (length bs)) 2 refl) own
+    (λ e. need-gives P ns (unless marked 3) 0 last (unless-numbered ns marked 3 refl) own
+    (λ m. need-gives P ns (versionRule v) 0 (ok v) (unless-numbered ns (eqb (v % 65536) format) 4 refl) own (λ r. tt)))
 
-parts-numbered : (bs : List ℕ) → Numbered (readParts bs)
+parts-give : (bs : List ℕ) → Gives FileNumbers (readParts bs)
 unfolding readParts
-parts-numbered bs =
-    pair-numbered (λ s v. tt) (λ v. 8) readHeader header-numbered (readPair (λ s c. tt) containerSize readConfiguration readEvents)
-    (pair-numbered (λ s c. tt) containerSize readConfiguration configuration-numbered readEvents events-numbered) tt 0 bs
+parts-give bs =
+    pair-gives (λ s v. tt) (λ v. 8) readHeader (readPair (λ s c. tt) containerSize readConfiguration readEvents) FileNumbers tt 0 bs
+    (gives-wider (At 0 (2 ∷ 3 ∷ 4 ∷ [])) FileNumbers (readHeader tt 0 bs) (λ c p h. of-header h) (header-gives bs))
+    (λ v. pair-gives (λ s c. tt) containerSize readConfiguration readEvents FileNumbers tt 8 (drop 8 bs)
+    (gives-wider _ FileNumbers (readConfiguration tt 8 (drop 8 bs)) spread (configuration-gives 8 (drop 8 bs)))
+    (λ x.
+    let at : ℕ = 8 + containerSize x in
+    let rest : List ℕ = drop (containerSize x) (drop 8 bs) in
+    gives-wider (From 16 behindNumbers) FileNumbers (readEvents tt at rest) (λ c p h. of-rest h) (events-give 16 at rest (omega arith))))
+  where
+    spread : (c p : ℕ) → ContainerNumbers 8 (2 ∷ 5 ∷ []) (recordNumbers entry) c p → FileNumbers c p
+    spread c p (itself h) = of-configuration h
+    spread c p (inside (a, e)) = of-rest (among-wider (recordNumbers entry) behindNumbers c refl a, e)
 
-file-numbered : (bs : List ℕ) → Numbered (readFile bs)
+-- Whatever asks first that a lent buffer of n bytes is within the limit.
+pub limit-gives : {A : Type 0} (P : ℕ → ℕ → Type 0) (n : ℕ) (r : Res A) → Gives P r → Gives (Refusal n P) (need (unless (leb n fileLimit) 1) 0 r)
+limit-gives P n r h = go (leb n fileLimit) refl
+  where
+    go : (t : Bool) → leb n fileLimit ≡ t → Gives (Refusal n P) (need (unless t 1) 0 r)
+    go true e = gives-wider P (Refusal n P) r (λ c p q. within-limit (leb-true n fileLimit e) q) h
+    go false e = over-limit (leb-false n fileLimit e) refl refl
+
+pub file-gives : (bs : List ℕ) → Gives (FileRefusal bs) (readFile bs)
 unfolding readFile
-file-numbered bs = need-numbered (unless (leb (length bs) fileLimit) 1) 0 (readParts bs) (parts-numbered bs)
+file-gives bs = limit-gives FileNumbers (length bs) (readParts bs) (parts-give bs)
 
--- 0 is "accepted": no refusal of a file has that number.
+-- Every refusal of a file is 1 over the limit, or 2 to 11 where the table says.
+pub file-numbers : (bs : List ℕ) (c p : ℕ) → readFile bs ≡ bad c p → FileRefusal bs c p
+file-numbers bs c p e = subst (Gives (FileRefusal bs)) e (file-gives bs)
+
+-- So its number is not 0, which is "accepted", and none above 11.
+in-table : (ns : List ℕ) (c : ℕ) → among 0 ns ≡ false → upTo 11 ns ≡ true → among c ns ≡ true → (0 < c) × (c ≤ 11)
+in-table ns zero z u h = absurd (false≢true (sym z ∙ h))
+in-table ns (suc c) z u h = (omega arith, one-up-to 11 ns (suc c) u (among-tells ns (suc c) .0 h))
+
+file-in-table : (bs : List ℕ) (c p : ℕ) → FileRefusal bs c p → (0 < c) × (c ≤ 11)
+file-in-table bs c p (over-limit l e q) = (omega arith, omega arith)
+file-in-table bs c p (within-limit l (of-header h)) = in-table (2 ∷ 3 ∷ 4 ∷ []) c refl refl (h .0)
+file-in-table bs c p (within-limit l (of-configuration h)) = in-table (2 ∷ 5 ∷ []) c refl refl (h .0)
+file-in-table bs c p (within-limit l (of-rest h)) = in-table behindNumbers c refl refl (h .0)
+
 pub refusal-is-numbered : (bs : List ℕ) (c p : ℕ) → readFile bs ≡ bad c p → 0 < c
-refusal-is-numbered bs c p e = subst Numbered e (file-numbered bs)
+refusal-is-numbered bs c p e = file-in-table bs c p (file-numbers bs c p e) .0
+
+pub refusal-is-small : (bs : List ℕ) (c p : ℕ) → readFile bs ≡ bad c p → c ≤ 11
+refusal-is-small bs c p e = file-in-table bs c p (file-numbers bs c p e) .1

@@ -7,3 +7,4 @@ pub mod RowRecords
 pub mod Parents
 pub mod Edited
 pub mod RowTraces
+pub mod Numbers

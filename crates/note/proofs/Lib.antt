@@ -13,4 +13,5 @@ pub mod GpsLaws
 pub mod TlbLaws
 pub mod UnitLaws
 pub mod KindCases
+pub mod RuleNumbers
 pub mod KindLaws
