@@ -2,7 +2,7 @@
 -- The idea: the calls lay the bytes of the tree; a closing's own check reads the pieces and nothing else, so its acceptance makes them valid.
 use mathlib.Core.Path.{_≡_, refl, sym, ap, ap₂, _∙_, subst}
 use mathlib.Core.List.{List, [], _∷_, _++_, map}
-use Prim.Native.Nat.{ℕ, zero, suc, _+_, _%_, _≤_}
+use Prim.Native.Nat.{ℕ, zero, suc, _+_, _≤_}
 use native.Mathlib.Omega.{arith}
 use lib.ListN.{length, take, drop, length-append}
 use lib.Seq.{take-at, drop-at}
@@ -10,17 +10,18 @@ use Rattle.theory.specs.Words.{Bytes, Fits, wordAt, put}
 use Rattle.theory.specs.Tests.{Res, ok, bind}
 use Rattle.theory.specs.Structures.{Structure, structureBytes}
 use Rattle.theory.proofs.WordLaws.{Bytes-append, Bytes-put, word-after-put}
-use Rattle.theory.proofs.TestLaws.{bind-ok, ok-inj, equal-passes}
+use Rattle.theory.proofs.TestLaws.{bind-ok, ok-inj}
 use Rattle.theory.proofs.Items.{seqs, Oks, turn, seq-open}
 use Rattle.theory.proofs.StructureLaws.{second-word, drop-two}
 use Rattle.note.specs.Limits.{fileLimit}
 use Rattle.note.specs.Words.{order}
 use Rattle.note.specs.Records.{Record, Context, entry, event, none, recordStep, recordBytes, recordSize, recordsBytes, readRecords}
 use Rattle.note.specs.Events.{Container, containerBytes, eventWord, eventHead, eventLate, eventsBytes}
-use Rattle.note.specs.Files.{format, versionWord, versionRule, configurationWord, configurationHead, configurationLate, fileBytes, readFile}
+use Rattle.note.specs.Files.{versionWord, versionRule, configurationWord, configurationHead, configurationLate, fileBytes, readFile}
 use Rattle.note.specs.Rows.{tableGiven, tableFilled, tableAnswer, tableBuffer}
 use Rattle.note.specs.Writers.{Written, written, recordWrote, recordOutput, contentsOf, closingBytes, headerWrote, headerOutput}
 use Rattle.note.specs.Writers.{configurationClosed, configurationOutput, eventOutput}
+use Rattle.note.proofs.ContainerFieldLaws.{header-admitted}
 use Rattle.demands.specs.Pieces.{Piece, writtenOf, recordOf}
 use Rattle.demands.specs.Outputs.{Laid}
 use Rattle.demands.specs.Assembly.{EventPieces, FilePieces, AllFitting, EventsFitting, FileFits, containerOf, eventOf, fileOf, Built}
@@ -229,9 +230,7 @@ events-stand b (e ∷ es) after h q =
 -- The version word of two DAQ bytes is admitted.
 pub version-ok : (f : FilePieces) → FileFits f
     → (versionRule (versionWord (f .major) (f .minor)) ≡ 0) × Fits 4 (versionWord (f .major) (f .minor))
-version-ok f h =
-    let low : versionWord (f .major) (f .minor) % 65536 ≡ format = omega (arith, h .major, h .minor) in
-    (equal-passes 4 low, omega (arith, h .major, h .minor))
+version-ok f h = header-admitted (f .major) (f .minor) (h .major) (h .minor)
 
 -- Where the header's writer, having answered the next place, has come to.
 abbrev pub headed : List ℕ → FilePieces → ℕ → Built

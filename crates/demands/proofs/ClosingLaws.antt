@@ -2,27 +2,25 @@
 -- The idea: the closing's checks are the reader's tests in another order. One law over any container's tests takes what they have shown
 -- (`Checked`); then, for each of the two kinds: an accepted closing has shown it, and a closing asks no more.
 use mathlib.Core.Path.{_≡_, refl, sym, ap, ap₂, _∙_}
-use mathlib.Core.Bool.{true}
 use mathlib.Core.List.{List, [], _∷_, _++_, append-assoc, append-nil}
-use Prim.Native.Nat.{ℕ, suc, _+_, _-_, _/_, _≤_}
+use Prim.Native.Nat.{ℕ, _+_, _-_, _≤_}
 use native.Mathlib.Omega.{arith}
 use lib.Dec.{leb}
 use lib.ListN.{length, take, drop, length-drop, take-append-drop}
 use lib.Seq.{take-at, drop-at, drop-drop, length-take-le}
 use Rattle.theory.specs.Words.{Bytes, Fits, put, puts}
-use Rattle.theory.specs.Tests.{Res, ok, bad, unless, among}
+use Rattle.theory.specs.Tests.{Res, ok, bad, unless}
 use Rattle.theory.specs.Structures.{readStructure}
 use Rattle.theory.proofs.WordLaws.{Bytes-part, length-puts}
-use Rattle.theory.proofs.TestLaws.{need-ok, bind-ok, ok-inj, unless-zero, most-passed, most-passes, equal-passes, first-at, first-passes}
+use Rattle.theory.proofs.TestLaws.{need-ok, bind-ok, ok-inj, most-passed, most-passes}
 use Rattle.note.specs.Limits.{fileLimit}
 use Rattle.note.specs.Words.{order}
 use Rattle.note.specs.Records.{Record, Context, entry, event, none, recordsBytes, readRecord, readRecords}
-use Rattle.note.specs.Events.{Container, containerBytes, eventWord, eventMark, eventFault, eventWordRule}
-use Rattle.note.specs.Events.{classOf, categoryOf, eventTypeOf, eventHead, eventLate, readEvent}
+use Rattle.note.specs.Events.{Container, containerBytes, eventWord, eventFault, eventHead, eventLate, readEvent}
 use Rattle.note.specs.Files.{configurationWord, configurationHead, configurationLate, readConfiguration}
 use Rattle.note.specs.Writers.{written, contentsOf, ended, within, closingBytes}
 use Rattle.note.specs.Writers.{configurationClosed, configurationOutput, eventClosed, eventOutput}
-use Rattle.note.proofs.BoolLaws.{among-tells, upTo, one-up-to}
+use Rattle.note.proofs.ContainerFieldLaws.{event-word-fits, event-word-admitted}
 use Rattle.demands.specs.Outputs.{Laid, HasRoom, Closed}
 use Rattle.demands.proofs.Bundles.{records, box, same-records}
 use Rattle.demands.proofs.RowLaws.{container-size}
@@ -202,34 +200,6 @@ module _ (out : List ℕ) (place end : ℕ) where
   pub configuration-refused : (c p : ℕ) → configurationClosed out place end ≡ bad c p → configurationOutput out place end ≡ out
   unfolding configurationOutput
   configuration-refused c p e = refusal-keeps (configurationClosed out place end) out (closingBytes configurationWord place end) place c p e
-
--- A number among those listed is at most the largest of them.
-most-among : (m : ℕ) (xs : List ℕ) (n c : ℕ) → upTo m xs ≡ true → unless (among n xs) (suc c) ≡ 0 → n ≤ m
-most-among m xs n c u e = one-up-to m xs n u (among-tells xs n .0 (unless-zero (among n xs) (suc c) (omega arith) e))
-
--- The word of an admitted class, category and type is an event's first word.
-module _ (class category type : ℕ) (e : eventFault class category type ≡ 0) where
-  pub admitted : (class ≤ 2) × (category ≤ 6) × (type ≤ 10)
-  unfolding eventFault
-  admitted = (
-    most-among 2 (0 ∷ 2 ∷ []) class 6 refl (first-at _ e 0),
-    most-among 6 (0 ∷ 1 ∷ 6 ∷ []) category 6 refl (first-at _ e 1),
-    most-passed type 0xA 6 (first-at _ e 2),
-  )
-
-  pub event-word-fits : Fits 4 (eventWord class category type)
-  event-word-fits = let (a, b, c) = admitted in omega arith
-
-  pub event-word-admitted : eventWordRule (eventWord class category type) ≡ 0
-  unfolding eventWordRule
-  event-word-admitted =
-      let (a, b, c) = admitted in
-      let w : ℕ = eventWord class category type in
-      let mark : w / 65536 ≡ eventMark = omega arith in
-      let is : classOf w ≡ class = omega arith in
-      let ic : categoryOf w ≡ category = omega arith in
-      let it : eventTypeOf w ≡ type = omega arith in
-      first-passes _ (equal-passes 5 mark, ((λ i. eventFault (is i) (ic i) (it i)) ∙ e, tt))
 
 -- An event.
 module _ (out : List ℕ) (place end class category type : ℕ) where

@@ -18,6 +18,7 @@ use Rattle.note.specs.Records.{Record, Context, entry, event, none, behind, rec
 use Rattle.note.specs.Events.{Container, containerBytes, eventWord, eventHead, eventLate}
 use Rattle.note.specs.Files.{versionWord, fileMark, headerBytes, configurationWord, configurationHead, configurationLate, fileBytes, readFile}
 use Rattle.note.specs.Writers.{Written, recordWrote, recordOutput, headerWrote, configurationClosed, configurationOutput}
+use Rattle.note.proofs.ContainerFieldLaws.{event-word-fits, event-word-admitted}
 use Rattle.demands.specs.Pieces.{Piece, writtenOf, recordOf}
 use Rattle.demands.specs.Valid.{ValidRecords, ValidEvents, Valid}
 use Rattle.demands.specs.Assembly.{EventPieces, FilePieces, AllFitting, EventsFitting, FileFits}
@@ -30,7 +31,6 @@ use Rattle.demands.proofs.RowLaws.{record-size, container-size}
 use Rattle.demands.proofs.OutputLaws.{laid-within, laid-contents, grants}
 use Rattle.demands.proofs.WriterLaws.{record-granted, record-laid, header-laid, piece-writes}
 use Rattle.demands.proofs.ClosingLaws.{Checked, configuration-grants, event-grants, event-faultless}
-use Rattle.demands.proofs.ClosingLaws.{event-word-fits, event-word-admitted}
 use Rattle.demands.proofs.AssemblyLaws.{piecesBytes, eventPiecesBytes, structure-bytes, pieces-bytes, records-laid}
 use Rattle.demands.proofs.AssemblyLaws.{contentsFrom, closedWith, container-calls, configuration-stands, event-stands}
 use Rattle.demands.proofs.AssemblyLaws.{headed, version-ok, file-calls, file-stands, assembled-accepted}

@@ -21,4 +21,5 @@ pub mod WriterLaws
 pub mod ClosingLaws
 pub mod AssemblyLaws
 pub mod GrantLaws
+pub mod ReadBackLaws
 pub mod AssemblyExample

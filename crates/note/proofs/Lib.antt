@@ -15,3 +15,4 @@ pub mod UnitLaws
 pub mod KindCases
 pub mod RuleNumbers
 pub mod KindLaws
+pub mod ContainerFieldLaws

@@ -1,5 +1,5 @@
 -- Document 01, 'Words and nesting': the file header, the configuration, and the file.
-use Prim.Native.Nat.{ℕ, _+_, _*_, _%_}
+use Prim.Native.Nat.{ℕ, _+_, _*_, _/_, _%_}
 use mathlib.Core.List.{List, _++_}
 use lib.Dec.{leb, eqb}
 use lib.ListN.{length}
@@ -20,6 +20,12 @@ format = 0x0200
 
 abbrev pub versionWord : ℕ → ℕ → ℕ
 versionWord major minor = major * 16777216 + minor * 65536 + format
+
+abbrev pub daqMajorOf : ℕ → ℕ
+daqMajorOf v = v / 16777216
+
+abbrev pub daqMinorOf : ℕ → ℕ
+daqMinorOf v = v / 65536 % 256
 
 abbrev pub versionRule : ℕ → ℕ
 versionRule v = unless (eqb (v % 65536) format) 4

@@ -1,0 +1,90 @@
+-- What the header's writer and an event's closing were handed is what is read, by name, from what they leave; so also of a whole assembled file.
+-- The idea: the word that stands is the word of these numbers, and the word gives them back (note ContainerFieldLaws).
+use mathlib.Core.Path.{_≡_, refl, sym, ap, _∙_}
+use mathlib.Core.List.{List, [], _∷_, _++_, map, append-assoc}
+use Prim.Native.Nat.{ℕ, _-_, _%_, _<_}
+use lib.ListN.{take, drop}
+use Rattle.theory.specs.Words.{Bytes, put}
+use Rattle.theory.specs.Tests.{ok}
+use Rattle.theory.proofs.StructureLaws.{second-word}
+use Rattle.note.specs.Words.{order, word}
+use Rattle.note.specs.Events.{Container, classOf, categoryOf, eventTypeOf, eventWord, readEvent}
+use Rattle.note.specs.Files.{File, fileMark, format, versionWord, versionOf, eventsOf, daqMajorOf, daqMinorOf, headerBytes, readHeader, readFile}
+use Rattle.note.specs.Writers.{headerWrote, headerOutput, eventClosed, eventOutput}
+use Rattle.note.proofs.ContainerFieldLaws.{event-read-back, header-read-back, header-admitted}
+use Rattle.demands.specs.Assembly.{EventPieces, FilePieces, EventsFaultless, FileFits, Built, eventOf, fileOf, fileAssembled}
+use Rattle.demands.proofs.Bundles.{headerItem}
+use Rattle.demands.proofs.OutputLaws.{laid-from}
+use Rattle.demands.proofs.WriterLaws.{header-laid}
+use Rattle.demands.proofs.ClosingLaws.{event-closes, event-faultless}
+use Rattle.demands.proofs.AssemblyLaws.{assembled-accepted}
+use Rattle.demands.proofs.GrantLaws.{granted-exactly}
+
+-- An event whose first word names this class, category and type.
+pub record NamedEvent (class category type : ℕ) (x : Container) : Type 0 where
+  pub class-is : classOf (x .kind) ≡ class
+  pub category-is : categoryOf (x .kind) ≡ category
+  pub type-is : eventTypeOf (x .kind) ≡ type
+
+-- The event that a granted closing leaves is read there, with the class, category and type handed over.
+pub closed-event-named : (out : List ℕ) (place end class category type next : ℕ) → Bytes out
+    → eventClosed out place end class category type ≡ ok next
+    → (x : Container) × (readEvent tt place (take (end - place) (drop place (eventOutput out place end class category type))) ≡ ok x)
+    × NamedEvent class category type x
+closed-event-named out place end class category type next h e =
+    let k = event-closes out place end class category type next h e in
+    let (a, b, c) = event-read-back class category type (event-faultless out place end class category type next e) in
+    (record { kind = eventWord class category type; body = k .records }, k .reads, record { class-is = a; category-is = b; type-is = c })
+
+-- A version word with these DAQ bytes and the format 2.0.
+pub record NamedVersion (major minor v : ℕ) : Type 0 where
+  pub major-is : daqMajorOf v ≡ major
+  pub minor-is : daqMinorOf v ≡ minor
+  pub format-is : v % 65536 ≡ format
+
+version-named : (major minor : ℕ) → major < 256 → minor < 256 → NamedVersion major minor (versionWord major minor)
+version-named major minor a b =
+    let (x, y, z) = header-read-back major minor a b in
+    record { major-is = x; minor-is = y; format-is = z }
+
+-- The header that the writer leaves is read at byte 0, and its version word, at byte 4, has the two bytes handed over.
+pub written-header-named : (out : List ℕ) (major minor next : ℕ) → major < 256 → minor < 256 → headerWrote out ≡ ok next
+    → (readHeader tt 0 (headerOutput out major minor) ≡ ok (word 4 (headerOutput out major minor)))
+    × NamedVersion major minor (word 4 (headerOutput out major minor))
+unfolding readHeader
+written-header-named out major minor next a b e =
+    let v : ℕ = versionWord major minor in
+    let new : List ℕ = headerOutput out major minor in
+    let rest : List ℕ = drop next out in
+    let (rule, fits) = header-admitted major minor a b in
+    let stands : new ≡ headerBytes v ++ rest = laid-from out new 0 next (headerBytes v) (header-laid out major minor next e) in
+    let apart : headerBytes v ++ rest ≡ put order 4 fileMark ++ (put order 4 v ++ rest) = append-assoc (put order 4 fileMark) (put order 4 v) rest in
+    let second : word 4 new ≡ v = ap (word 4) (stands ∙ apart) ∙ second-word order fileMark v rest fits in
+    let read : readHeader tt 0 new ≡ ok v = ap (headerItem .read tt 0) stands ∙ headerItem .complete tt 0 v rest (rule, fits) in
+    let named : NamedVersion major minor (word 4 new) = rw second (version-named major minor a b) in
+    (read ∙ ap ok (sym second), named)
+
+-- Events in order, each with the numbers of its pieces.
+abbrev pub NamedEvents : List EventPieces → List Container → Type 0
+NamedEvents [] [] = Unit {0}
+NamedEvents [] (x ∷ xs) = ⊥
+NamedEvents (e ∷ es) [] = ⊥
+NamedEvents (e ∷ es) (x ∷ xs) = NamedEvent (e .class) (e .category) (e .type) x × NamedEvents es xs
+
+events-named : (es : List EventPieces) → EventsFaultless es → NamedEvents es (map eventOf es)
+events-named [] h = tt
+events-named (e ∷ es) h =
+    let (a, b, c) = event-read-back (e .class) (e .category) (e .type) (h .0 .word) in
+    (record { class-is = a; category-is = b; type-is = c }, events-named es (h .1))
+
+-- An assembled file is read with the version and the events of its pieces.
+pub assembled-named : (out : List ℕ) (f : FilePieces) → FileFits f → (b : Built) → fileAssembled out f ≡ ok b
+    → (g : File) × (readFile (take (b .next) (b .out)) ≡ ok g) × NamedVersion (f .major) (f .minor) (versionOf g)
+    × NamedEvents (f .events) (eventsOf g)
+unfolding fileOf
+assembled-named out f h b e = (
+  fileOf f,
+  assembled-accepted out f h b e .accepted,
+  version-named (f .major) (f .minor) (h .major) (h .minor),
+  events-named (f .events) (granted-exactly out f h .0 (b, e) .0 .events),
+)
