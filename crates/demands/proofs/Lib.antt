@@ -16,6 +16,7 @@ pub mod RewriteLaws
 pub mod AgainLaws
 pub mod RefusalLaws
 pub mod NumberLaws
+pub mod NumberExamples
 pub mod OutputLaws
 pub mod WriterLaws
 pub mod ClosingLaws

@@ -1,0 +1,186 @@
+-- Each number that stands in a call's list (specs/Numbers) is given by some input: the calls, computed. 1 is given over the limit, whatever stands there.
+use mathlib.Core.Path.{_≡_, refl}
+use mathlib.Core.List.{List, [], _∷_, _++_, map}
+use Prim.Native.Nat.{ℕ, _<_}
+use borrow.Author.Tests.{lt-leb}
+use lib.Dec.{leb}
+use lib.IntN.{pos}
+use lib.ListN.{length, drop}
+use Rattle.theory.specs.Tests.{Res, bad, need, unless}
+use Rattle.note.specs.Limits.{fileLimit}
+use Rattle.note.specs.Words.{words}
+use Rattle.note.specs.Answers.{Given, refused}
+use Rattle.note.specs.Channels.{channelAnswer, codeAnswer}
+use Rattle.note.specs.Records.{Record, alone, readRecord}
+use Rattle.note.specs.Files.{File, readParts, readFile}
+use Rattle.note.specs.Rows.{tableAnswer}
+use Rattle.note.specs.Calls.{recordFound, recordAt, settingAt, sampleAt}
+use Rattle.note.specs.Writers.{wrote, recordWrote, headerWrote, configurationClosed, eventClosed, rewriteWrote}
+use Rattle.note.specs.Examples.{after, p14}
+use Rattle.note.proofs.Computing.{computing}
+use Rattle.demands.specs.Pieces.{Piece, phonon, charge, administrative, trace, history, gps, trigger, tlb, writtenOf}
+
+-- ---- 1
+
+over : {A : Type 0} (n : ℕ) (r : Res A) → fileLimit < n → need (unless (leb n fileLimit) 1) 0 r ≡ bad 1 0
+over n r h = rw (lt-leb n fileLimit h)
+
+-- A lent file over the limit, for a file's calls and for Record's; an output over the limit, for every writer.
+pub long-file-refused : (bs : List ℕ) → fileLimit < length bs → (readFile bs ≡ bad 1 0) × ((place : ℕ) → recordFound bs place ≡ bad 1 0)
+unfolding readFile recordFound
+long-file-refused bs h = (over (length bs) (readParts bs) h, λ place. over (length bs) (readRecord alone place (drop place bs)) h)
+
+pub long-output-refused : (out : List ℕ) → fileLimit < length out
+    → ((place fault size : ℕ) → wrote (length out) place fault size ≡ bad 1 0)
+    × ((place end : ℕ) → configurationClosed out place end ≡ bad 1 0)
+    × ((place end class category type : ℕ) → eventClosed out place end class category type ≡ bad 1 0)
+    × ((bs : List ℕ) → rewriteWrote bs out ≡ bad 1 0)
+unfolding wrote configurationClosed eventClosed rewriteWrote
+long-output-refused out h = (
+  λ place fault size. over (length out) _ h,
+  λ place end. over (length out) _ h,
+  λ place end class category type. over (length out) _ h,
+  λ bs. over (length out) _ h,
+)
+
+-- ---- a file
+
+-- Words of an administrative record and of a trace without samples; a configuration around an entry.
+abbrev dated : List ℕ
+dated = 0x02 ∷ 24 ∷ 1100115 ∷ 1630 ∷ 7 ∷ 0 ∷ 0 ∷ 0 ∷ []
+
+abbrev unsampled : List ℕ
+unsampled = 0x11 ∷ 48 ∷ 0x11 ∷ 12 ∷ 0 ∷ 1 ∷ 10001003 ∷ 0x12 ∷ 12 ∷ 0 ∷ 1 ∷ 0 ∷ 0x13 ∷ 0 ∷ []
+
+abbrev unnamed : List ℕ
+unnamed = 0x00010002 ∷ 32 ∷ 0 ∷ 0 ∷ 0 ∷ 0 ∷ 0 ∷ 0 ∷ 0 ∷ 0 ∷ []
+
+abbrev configured : ℕ → List ℕ → List ℕ
+configured n ws = words (0x01020304 ∷ 0x01000200 ∷ 0x00010000 ∷ n ∷ ws)
+
+-- Of the header; of the configuration; of all that stands behind.
+pub file-numbers-given :
+    map readFile (
+    [] ∷ words (0 ∷ 0 ∷ []) ∷ words (0x01020304 ∷ 0 ∷ []) ∷
+    words (0x01020304 ∷ 0x01000200 ∷ []) ∷ words (0x01020304 ∷ 0x01000200 ∷ 0 ∷ 0 ∷ []) ∷
+    after (0 ∷ []) ∷ after (0 ∷ 0 ∷ []) ∷ configured 8 (0x00010001 ∷ 0 ∷ []) ∷ after (0xA9801000 ∷ 0 ∷ []) ∷ after (0xA9800007 ∷ 0 ∷ []) ∷
+    after (0xA9800000 ∷ 0 ∷ []) ∷ configured 40 unnamed ∷ after (0xA9800000 ∷ 88 ∷ (dated ++ unsampled)) ∷ [])
+    ≡ bad 2 0 ∷ bad 3 0 ∷ bad 4 0 ∷ bad 2 8 ∷ bad 5 8 ∷ bad 2 16 ∷ bad 5 16 ∷ bad 6 16 ∷ bad 7 16 ∷ bad 8 16 ∷ bad 9 16 ∷ bad 10 16 ∷ bad 11 56 ∷ []
+unfolding computing
+file-numbers-given = refl
+
+pub table-number-given : tableAnswer p14 29 ≡ record { number = 12; count = 5; place = 88 }
+unfolding computing
+table-number-given = refl
+
+-- ---- Record, Setting, a sample; channels
+
+abbrev records : List (List ℕ)
+records = [] ∷ words (0 ∷ 0 ∷ []) ∷ words (0x02 ∷ 0 ∷ []) ∷ words unnamed ∷ words unsampled ∷ []
+
+abbrev refusals : List Given
+refusals = refused 2 0 ∷ refused 5 0 ∷ refused 6 0 ∷ refused 10 0 ∷ refused 11 0 ∷ []
+
+pub record-numbers-given : (map (λ bs. recordAt bs 0) records ≡ refusals) × (map (λ bs. settingAt bs 0) records ≡ refusals)
+    × (map (λ bs. sampleAt bs 0 1) records ≡ refusals)
+unfolding computing
+record-numbers-given = (refl, refl, refl)
+
+pub channel-numbers-given : (channelAnswer 12000000 .number ≡ 10) × (codeAnswer 12 0 [] ≡ refused 10 0)
+unfolding computing
+channel-numbers-given = (refl, refl)
+
+-- ---- the writers
+
+abbrev phononOfCode : ℕ → Piece
+phononOfCode code = phonon (record {
+  code = pos code;
+  tower = pos 0;
+  gain = pos 0;
+  qetBias = pos 0;
+  squidBias = pos 0;
+  lockpoint = pos 0;
+  rtfOffset = pos 0;
+  variableGain = pos 0;
+  deltaT = pos 0;
+  t0 = pos 0;
+  traceLength = pos 0;
+})
+
+abbrev chargeOfCode : ℕ → Piece
+chargeOfCode code = charge (record {
+  code = pos code;
+  tower = pos 0;
+  gain = pos 0;
+  bias = pos 0;
+  rtfOffset = pos 0;
+  deltaT = pos 0;
+  t0 = pos 0;
+  traceLength = pos 0;
+})
+
+abbrev dateOf : ℕ → Piece
+dateOf date = administrative (record { date = date; clock = 0; number = 0; time = 0; since = 0; live = 0 })
+
+abbrev traceOfCount : ℕ → ℕ → List ℕ → Piece
+traceOfCount channel n samples =
+    trace (record { address = 0; channel = channel; code = 10001003; t0 = pos 0; delta = 1; n = n; samples = samples })
+
+abbrev historyOfTimes : ℕ → List ℕ → Piece
+historyOfTimes width times = history (record {
+  veto = record { count = 0; times = times; width = width; masks = [] };
+  trigger = record { count = 0; times = []; width = 0; masks = [] };
+})
+
+abbrev gpsOfDay : ℕ → Piece
+gpsOfDay day = gps (record { year = 2010; day = day; status = 0; hour = 0; minute = 0; second = 0; tenths = 0 })
+
+abbrev tlbOfTower : ℕ → Piece
+tlbOfTower w = tlb (record { tower1 = w; tower2 = 0; tower3 = 0; tower4 = 0; tower5 = 0; tower6 = 0 })
+
+abbrev masks : Piece
+masks = trigger (record { mask1 = 0; mask2 = 0; mask3 = 0; mask4 = 0; mask5 = 0; mask6 = 0 })
+
+-- Into an output without room, at byte 3: faults of fields first, then 13.
+abbrev given : List Piece → List (Res ℕ)
+given ps = map (λ (p : Piece). recordWrote [] 3 (writtenOf p)) ps
+
+pub writer-numbers-given :
+    (given (phononOfCode 0 ∷ phononOfCode 10001003 ∷ chargeOfCode 0 ∷ chargeOfCode 10001000 ∷ dateOf 0 ∷ dateOf 1100115 ∷ [])
+    ≡ bad 10 3 ∷ bad 13 3 ∷ bad 10 3 ∷ bad 13 3 ∷ bad 10 3 ∷ bad 13 3 ∷ [])
+    × (given (traceOfCount 1 2 [] ∷ traceOfCount 0 2 [] ∷ traceOfCount 1 0 [] ∷ traceOfCount 1 2 (0 ∷ 0 ∷ 0 ∷ 0 ∷ []) ∷ [])
+    ≡ bad 6 3 ∷ bad 10 3 ∷ bad 11 3 ∷ bad 13 3 ∷ [])
+    × (given (historyOfTimes 0 (0 ∷ []) ∷ historyOfTimes 1 [] ∷ historyOfTimes 0 [] ∷ []) ≡ bad 6 3 ∷ bad 10 3 ∷ bad 13 3 ∷ [])
+    × (given (gpsOfDay 366 ∷ gpsOfDay 365 ∷ masks ∷ tlbOfTower 1 ∷ tlbOfTower 0 ∷ []) ≡ bad 10 3 ∷ bad 13 3 ∷ bad 13 3 ∷ bad 10 3 ∷ bad 13 3 ∷ [])
+unfolding computing writtenOf
+writer-numbers-given = (refl, refl, refl, refl)
+
+pub header-number-given : headerWrote [] ≡ bad 13 0
+unfolding computing
+header-number-given = refl
+
+-- ---- the closings and Rewrite
+
+-- A container from byte 0, closed behind these words.
+abbrev eight : List ℕ → List ℕ
+eight ws = words (0 ∷ 0 ∷ ws)
+
+abbrev configurationOver : List ℕ → Res ℕ
+configurationOver ws = configurationClosed (eight ws) 0 (length (eight ws))
+
+abbrev eventOver : List ℕ → Res ℕ
+eventOver ws = eventClosed (eight ws) 0 (length (eight ws)) 0 0 0
+
+pub closing-numbers-given :
+    (configurationClosed [] 3 0 ≡ bad 13 3)
+    × (map configurationOver ((0 ∷ []) ∷ (0 ∷ 0 ∷ []) ∷ (0x00010001 ∷ 0 ∷ []) ∷ unnamed ∷ []) ≡ bad 2 8 ∷ bad 5 8 ∷ bad 6 8 ∷ bad 10 8 ∷ [])
+    × (eventClosed (eight []) 0 8 1 0 0 ≡ bad 7 0) × (eventClosed (eight []) 0 8 0 0 7 ≡ bad 8 0) × (eventOver [] ≡ bad 9 0)
+    × (eventClosed [] 3 0 0 0 0 ≡ bad 13 3)
+    × (map eventOver ((0 ∷ []) ∷ (0 ∷ 0 ∷ []) ∷ (0x02 ∷ 0 ∷ []) ∷ (0x11 ∷ 0 ∷ []) ∷ (0x02 ∷ 24 ∷ 0 ∷ 0 ∷ 0 ∷ 0 ∷ 0 ∷ 0 ∷ []) ∷ (dated ++ unsampled) ∷ [])
+    ≡ bad 2 8 ∷ bad 5 8 ∷ bad 6 8 ∷ bad 9 8 ∷ bad 10 8 ∷ bad 11 40 ∷ [])
+unfolding computing
+closing-numbers-given = (refl, refl, refl, refl, refl, refl, refl)
+
+pub rewrite-numbers-given : (rewriteWrote p14 [] ≡ bad 13 0) × (rewriteWrote [] [] ≡ bad 2 0)
+unfolding computing
+rewrite-numbers-given = (refl, refl)
