@@ -21,11 +21,11 @@ use Rattle.note.proofs.FieldLaws.{number-at}
 -- ---- a section without a fault
 
 -- "nvt is 0 exactly when nvw is 0 .. ntw is 6 when ntt is positive, and 0 when ntt is 0."
-abbrev Width : Bool → ℕ → ℕ → Type 0
+abbrev pub Width : Bool → ℕ → ℕ → Type 0
 Width false times width = (times ≡ 0) ↔ (width ≡ 0)
 Width true times width = ((times ≡ 0) × (width ≡ 0)) ⊎ ((0 < times) × (width ≡ 6))
 
-width-means : (trigger : Bool) (t w : ℕ) → isWidth trigger t w ≡ true → Width trigger t w
+pub width-means : (trigger : Bool) (t w : ℕ) → isWidth trigger t w ≡ true → Width trigger t w
 unfolding isWidth
 width-means false zero w e = (λ z. eqb-true w 0 e, λ z. refl)
 width-means false (suc t) w e =
@@ -34,7 +34,7 @@ width-means false (suc t) w e =
 width-means true zero w e = inl (refl, eqb-true w 0 e)
 width-means true (suc t) w e = inr (omega arith, eqb-true w 6 (rw (eqb·suc-zero t) at e))
 
-means-width : (trigger : Bool) (t w : ℕ) → Width trigger t w → isWidth trigger t w ≡ true
+pub means-width : (trigger : Bool) (t w : ℕ) → Width trigger t w → isWidth trigger t w ≡ true
 unfolding isWidth
 means-width false zero w h = eq-eqb w 0 (h .0 refl)
 means-width false (suc t) w h = rw (eqb·suc-zero t, ne-eqb w 0 (λ z. let z′ : suc t ≡ 0 = h .1 z in omega arith))

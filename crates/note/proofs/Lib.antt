@@ -16,3 +16,6 @@ pub mod KindCases
 pub mod RuleNumbers
 pub mod KindLaws
 pub mod ContainerFieldLaws
+pub mod AskedLaws
+pub mod RuleLaws
+pub mod GpsRuleLaws

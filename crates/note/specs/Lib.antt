@@ -20,3 +20,4 @@ pub mod Listing
 pub mod Writers
 pub mod Examples
 pub mod Slips
+pub mod Asked

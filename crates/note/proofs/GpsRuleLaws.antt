@@ -1,0 +1,239 @@
+-- The GPS rule said a second time: three words that spell seven numbers in decimal digits, each number within its bounds.
+-- The idea: digits are read as decimal digits (`digits-are-decimal`), and a number of several fields is put together and taken apart.
+use Prim.Native.Nat.{ℕ, zero, suc, _+_, _*_, _/_, _%_, _^_, _≤_, _<_}
+use mathlib.Core.Path.{_≡_, refl, sym, ap, _∙_, subst}
+use mathlib.Core.Logic.{_↔_, _⊎_, inl, inr, ⊎-elim, Iff·trans, by-cases}
+use mathlib.Core.Bool.{Bool, true, false, cond, _&&_}
+use mathlib.Core.List.{List, [], _∷_}
+use native.Mathlib.Omega.{arith}
+use native.Mathlib.Decide.{decLe}
+use native.Mathlib.Nat.{zero-add, suc-add, pow-zero, pow-suc, pow-succ', div-one, div-div-eq-div-mul, mul-assoc}
+use lib.Dec.{leb, eqb}
+use lib.ListN.{length}
+use Rattle.note.specs.Asked.{asks, fine, Divides}
+use Rattle.note.specs.Words.{word}
+use Rattle.note.specs.Gps.{Gps, areDigits, decimal, gpsOf, isLeap, daysOfYear, gpsFault, gpsRule}
+use Rattle.note.proofs.BoolLaws.{Tells, both-tell, either-tells, le-tells, eq-tells}
+use Rattle.note.proofs.AskedLaws.{Gives, no-more, asked, asked-too, said-so, asked-of-part, divides-tells, not-tells}
+use Rattle.note.proofs.GpsLaws.{Spelled, digits-are-decimal, digits-split, digits-above, decimal-above, decimal-fits}
+
+-- ---- what is asked
+
+-- A Gregorian leap year.
+abbrev pub Leap : ℕ → Type 0
+Leap y = Divides 4 y × ((Divides 100 y → ⊥) ⊎ Divides 400 y)
+
+abbrev pub DayOfYear : ℕ → ℕ → Type 0
+DayOfYear y d = (1 ≤ d) × ((d ≤ 365) ⊎ ((d ≡ 366) × Leap y))
+
+-- The words are the digits yyyydddd; a status digit, a zero digit, hhmmss; tenths. And these numbers are a time.
+pub record GpsMeans (b : List ℕ) (f : Gps) : Type 0 where
+  pub date : Spelled 8 (word 0 b) (f .year * 10000 + f .day)
+  pub time : (low : ℕ) × (word 4 b ≡ f .status * 16 ^ 7 + low) × (low < 16 ^ 6)
+      × Spelled 6 low (f .hour * 10000 + f .minute * 100 + f .second)
+  pub part : Spelled 8 (word 8 b) (f .tenths)
+  pub day : DayOfYear (f .year) (f .day)
+  pub status : f .status ≤ 15
+  pub hour : f .hour ≤ 23
+  pub minute : f .minute ≤ 59
+  pub second : f .second ≤ 59
+  pub tenths : f .tenths < 10000000
+
+abbrev pub GpsAsked : List ℕ → ℕ → Type 0
+GpsAsked b = asks (length b ≡ 12) 6 (asks ((f : Gps) × GpsMeans b f) 10 fine)
+
+-- ---- the tests
+
+leap-tells : (y : ℕ) → Tells (isLeap y) (Leap y)
+leap-tells y = both-tell (divides-tells 4 y) (either-tells (not-tells (divides-tells 100 y)) (divides-tells 400 y))
+
+days-tell : (t : Bool) (A : Type 0) (d : ℕ) → Tells t A → Tells (leb d (cond t 366 365)) ((d ≤ 365) ⊎ ((d ≡ 366) × A))
+days-tell true A d told = (
+  λ e. by-cases (decLe d 365) inl (λ g. let l = le-tells d 366 .0 e in inr (omega arith, told .0 refl)),
+  λ h. le-tells d 366 .1 (⊎-elim (λ l. omega arith) (λ l. omega arith) h),
+)
+days-tell false A d told = (
+  λ e. inl (le-tells d 365 .0 e),
+  λ h. le-tells d 365 .1 (⊎-elim (λ l. l) (λ l. absurd (mathlib.Core.Bool.false≢true (told .1 (l .1)))) h),
+)
+
+day-tells : (y d : ℕ) → Tells (leb 1 d && leb d (daysOfYear y)) (DayOfYear y d)
+day-tells y d = both-tell (le-tells 1 d) (days-tell (isLeap y) (Leap y) d (leap-tells y))
+
+-- n + m digits are m digits above n.
+decimal-split : (n m w : ℕ) → decimal (n + m) w ≡ decimal m (w / 16 ^ n) * 10 ^ n + decimal n w
+unfolding decimal
+decimal-split zero m w = rw (zero-add, pow-zero, div-one) (omega arith)
+decimal-split (suc n) m w =
+    let q : w / 16 / 16 ^ n ≡ w / 16 ^ suc n = rw pow-succ' (div-div-eq-div-mul w 16 (16 ^ n)) in
+    let t : 10 ^ suc n ≡ 10 ^ n * 10 = rw pow-suc in
+    let x : ℕ = decimal m (w / 16 ^ suc n) in
+    let e : x * 10 ^ n * 10 ≡ x * (10 ^ n * 10) = mul-assoc x (10 ^ n) 10 in
+    rw (suc-add, decimal-split n m (w / 16), q, t) (omega arith)
+
+-- Each test tells this much of the body.
+abbrev Tested : List ℕ → Type 0
+Tested b =
+    (areDigits 8 (word 0 b) ≡ true) × ((word 4 b / 16777216 % 16 ≡ 0) × ((areDigits 6 (word 4 b) ≡ true) × ((areDigits 8 (word 8 b) ≡ true)
+    × ((gpsOf b .year ≤ 9999) × (DayOfYear (gpsOf b .year) (gpsOf b .day) × ((gpsOf b .status ≤ 15) × ((gpsOf b .hour ≤ 23)
+    × ((gpsOf b .minute ≤ 59) × ((gpsOf b .second ≤ 59) × (gpsOf b .tenths ≤ 9999999))))))))))
+
+module _ (b : List ℕ) where
+  -- The digits of a body that passed spell its fields.
+  tested-means : Tested b → GpsMeans b (gpsOf b)
+  unfolding gpsOf
+  tested-means (date, (gap, (time, (part, (year, (day, (status, (hour, (minute, (second, tenths)))))))))) =
+      let w : ℕ = word 4 b in
+      let low : ℕ = w % 16777216 in
+      let split : w ≡ w / 16777216 * 16 ^ 6 + low = omega arith in
+      let digits : areDigits 6 low ≡ true = sym (digits-above 6 (w / 16777216) low) ∙ ap (areDigits 6) (sym split) ∙ time in
+      let same : decimal 6 w ≡ decimal 6 low = ap (decimal 6) split ∙ decimal-above 6 (w / 16777216) low in
+      let days : decimal 8 (word 0 b) ≡ decimal 4 (word 0 b / 65536) * 10000 + decimal 4 (word 0 b) = decimal-split 4 4 (word 0 b) in
+      let seconds : decimal 6 w ≡ decimal 4 (w / 256) * 100 + decimal 2 w = decimal-split 2 4 w in
+      let minutes : decimal 4 (w / 256) ≡ decimal 2 (w / 256 / 256) * 100 + decimal 2 (w / 256) = decimal-split 2 2 (w / 256) in
+      let q : w / 256 / 256 ≡ w / 65536 = omega arith in
+      let hours : decimal 2 (w / 256 / 256) ≡ decimal 2 (w / 65536) = ap (decimal 2) q in
+      record {
+        date = digits-are-decimal 8 (word 0 b) _ .0 (date, days);
+        time = (low, omega arith, omega arith, digits-are-decimal 6 low _ .0 (digits, omega arith));
+        part = digits-are-decimal 8 (word 8 b) _ .0 (part, refl);
+        day = day;
+        status = status;
+        hour = hour;
+        minute = minute;
+        second = second;
+        tenths = omega arith;
+      }
+
+  -- And what the digits spell are the body's fields, which then pass.
+  module _ (f : Gps) (m : GpsMeans b f) where
+    record Same : Type 0 where
+      date : areDigits 8 (word 0 b) ≡ true
+      gap : word 4 b / 16777216 % 16 ≡ 0
+      time : areDigits 6 (word 4 b) ≡ true
+      part : areDigits 8 (word 8 b) ≡ true
+      years : gpsOf b .year ≤ 9999
+      year : gpsOf b .year ≡ f .year
+      day : gpsOf b .day ≡ f .day
+      status : gpsOf b .status ≡ f .status
+      hour : gpsOf b .hour ≡ f .hour
+      minute : gpsOf b .minute ≡ f .minute
+      second : gpsOf b .second ≡ f .second
+      tenths : gpsOf b .tenths ≡ f .tenths
+
+    day-most : f .day ≤ 366
+    day-most = ⊎-elim (λ l. omega arith) (λ l. omega arith) (m .day .1)
+
+    spelled-same : Same
+    unfolding gpsOf
+    spelled-same =
+        let (low, is, small, spelled) = m .time in
+        let w : ℕ = word 4 b in
+        let split : w ≡ f .status * 16 * 16 ^ 6 + low = omega arith in
+        let (date, days) = digits-are-decimal 8 (word 0 b) _ .1 (m .date) in
+        let (digits, clock) = digits-are-decimal 6 low _ .1 spelled in
+        let (part, tenths) = digits-are-decimal 8 (word 8 b) _ .1 (m .part) in
+        let time : areDigits 6 w ≡ true = ap (areDigits 6) split ∙ digits-above 6 (f .status * 16) low ∙ digits in
+        let same : decimal 6 w ≡ decimal 6 low = ap (decimal 6) split ∙ decimal-above 6 (f .status * 16) low in
+        let inDate = digits-split 4 4 (word 0 b) .0 date in
+        let inTime = digits-split 2 4 w .0 time in
+        let inHours = digits-split 2 2 (w / 256) .0 (inTime .1) in
+        let ofDate : decimal 8 (word 0 b) ≡ decimal 4 (word 0 b / 65536) * 10000 + decimal 4 (word 0 b) = decimal-split 4 4 (word 0 b) in
+        let ofTime : decimal 6 w ≡ decimal 4 (w / 256) * 100 + decimal 2 w = decimal-split 2 4 w in
+        let ofHours : decimal 4 (w / 256) ≡ decimal 2 (w / 256 / 256) * 100 + decimal 2 (w / 256) = decimal-split 2 2 (w / 256) in
+        let q : w / 256 / 256 ≡ w / 65536 = omega arith in
+        let hours : decimal 2 (w / 256 / 256) ≡ decimal 2 (w / 65536) = ap (decimal 2) q in
+        let yearFits : decimal 4 (word 0 b / 65536) < 10000 = decimal-fits 4 (word 0 b / 65536) (inDate .1) in
+        let dayFits : decimal 4 (word 0 b) < 10000 = decimal-fits 4 (word 0 b) (inDate .0) in
+        let minuteFits : decimal 2 (w / 256) < 100 = decimal-fits 2 (w / 256) (inHours .0) in
+        let secondFits : decimal 2 w < 100 = decimal-fits 2 w (inTime .0) in
+        let most = day-most in
+        let minuteMost = m .minute in
+        let secondMost = m .second in
+        record {
+          date = date;
+          gap = omega arith;
+          time = time;
+          part = part;
+          years = omega arith;
+          year = omega arith;
+          day = omega arith;
+          status = omega arith;
+          hour = omega arith;
+          minute = omega arith;
+          second = omega arith;
+          tenths = tenths;
+        }
+
+    pub means-fields : gpsOf b ≡ f
+    means-fields =
+        let s = spelled-same in
+        λ i. record {
+          year = s .year i;
+          day = s .day i;
+          status = s .status i;
+          hour = s .hour i;
+          minute = s .minute i;
+          second = s .second i;
+          tenths = s .tenths i;
+        }
+
+    means-tested : Tested b
+    means-tested =
+        let s = spelled-same in
+        let e = means-fields in
+        let n = m .tenths in (
+          s .date,
+          (
+            s .gap,
+            (
+              s .time,
+              (
+                s .part,
+                (
+                  s .years,
+                  (
+                    rw e (m .day),
+                    (
+                      rw e (m .status),
+                      (
+                        rw e (m .hour),
+                        (rw e (m .minute), (rw e (m .second), rw e (omega arith))),
+                      ),
+                    ),
+                  ),
+                ),
+              ),
+            ),
+          ),
+        )
+
+  -- The rule gives what is asked of digits and numbers.
+  pub gps-rule-exact : (c : ℕ) → (gpsRule b ≡ c) ↔ GpsAsked b c
+  unfolding gpsRule gpsFault
+  gps-rule-exact =
+      let f : Gps = gpsOf b in
+      let same : Tested b ↔ ((f : Gps) × GpsMeans b f) = (λ t. (gpsOf b, tested-means t), λ h. means-tested (h .0) (h .1)) in
+      let digits : (n p : ℕ) → Tells (areDigits n (word p b)) (areDigits n (word p b) ≡ true) = λ n p. (λ e. e, λ e. e) in
+      asked (eq-tells (length b) 12) (
+      said-so same (
+      asked-too (digits 8 0) (
+      asked-too (eq-tells (word 4 b / 16777216 % 16) 0) (
+      asked-too (digits 6 4) (
+      asked-too (digits 8 8) (
+      asked-of-part (_ ∷ _ ∷ _ ∷ _ ∷ _ ∷ _ ∷ _ ∷ []) (
+      asked-too (le-tells (f .year) 9999) (
+      asked-too (day-tells (f .year) (f .day)) (
+      asked-too (le-tells (f .status) 15) (
+      asked-too (le-tells (f .hour) 23) (
+      asked-too (le-tells (f .minute) 59) (
+      asked-too (le-tells (f .second) 59) (
+      asked (le-tells (f .tenths) 9999999)
+      no-more))))))))))))) .exactly
+
+  -- The fields of an accepted body are the numbers that its digits spell, and no others.
+  pub gps-fields-spelled : gpsRule b ≡ 0 → GpsMeans b (gpsOf b)
+  gps-fields-spelled e = ⊎-elim (λ h. ⊎-elim meant (λ g. absurd (omega arith)) (h .1)) (λ h. absurd (omega arith)) (gps-rule-exact 0 .0 e)
+    where
+      meant : ((f : Gps) × GpsMeans b f) × (_≡_ {A = ℕ} 0 0) → GpsMeans b (gpsOf b)
+      meant h = subst (GpsMeans b) (sym (means-fields (h .0 .0) (h .0 .1))) (h .0 .1)
