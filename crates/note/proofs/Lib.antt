@@ -19,3 +19,6 @@ pub mod ContainerFieldLaws
 pub mod AskedLaws
 pub mod RuleLaws
 pub mod GpsRuleLaws
+pub mod WordRuleLaws
+pub mod PlaceLaws
+pub mod ReadingLaws

@@ -21,3 +21,4 @@ pub mod Writers
 pub mod Examples
 pub mod Slips
 pub mod Asked
+pub mod EventKinds
