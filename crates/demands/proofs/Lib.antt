@@ -24,3 +24,4 @@ pub mod AssemblyLaws
 pub mod GrantLaws
 pub mod ReadBackLaws
 pub mod AssemblyExample
+pub mod EventRecordLaws

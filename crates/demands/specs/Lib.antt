@@ -1,4 +1,5 @@
 pub mod Valid
+pub mod EventRecords
 pub mod Pieces
 pub mod Outputs
 pub mod Assembly

@@ -134,8 +134,9 @@ module _ (c : Context) (Allowed Placed : ℕ → Type 0) (kinds : (k : ℕ) → 
       gives-alone (λ n. rule-exact (word 0 bs) (bodyOf bs) n (listed (word 0 bs) a))))))
 
   -- A body's fault is the record's.
-  body-need : (n at : ℕ) (k : ℕ) (b : List ℕ)
-      → bind {B = Record} (need n at (ok b)) (λ (x : List ℕ). ok (record { kind = k; body = x })) ≡ need (first (n ∷ [])) at (ok (record { kind = k; body = b }))
+  body-need : (n at k : ℕ) (b : List ℕ)
+      → bind {B = Record} (need n at (ok b)) (λ x. ok (record { kind = k; body = x }))
+      ≡ need (first (n ∷ [])) at (ok (record { kind = k; body = b }))
   unfolding first
   body-need zero at k b = refl
   body-need (suc n) at k b = refl
