@@ -20,7 +20,7 @@ use Rattle.note.specs.Files.{readHeader, readConfiguration, readParts, r
 use Rattle.note.specs.Rows.{childOf, nodesOf, rowsOf, flat, tableAnswer, tableBuffer, yieldAt}
 use Rattle.note.specs.Calls.{recordFound, recordAt, hundredth, phononSetting, chargeSetting, settingAt}
 use Rattle.note.specs.Calls.{samplesPart, samplesAt, sampleAt, tracesIn, tracesFrom, tracesOf, firstMatch, findAt}
-use Rattle.note.specs.Listing.{rowLines, listing}
+use Rattle.note.specs.Listing.{rowLines, listing, digitsOf, decimalText, lineText, linesText, listingText}
 use Rattle.note.specs.Writers.{wrote, writerGiven, written, phononWritten, chargeWritten, administrativeWritten}
 use Rattle.note.specs.Writers.{traceWritten, historyWritten, gpsWritten, triggerWritten, tlbWritten}
 use Rattle.note.specs.Writers.{recordWrote, recordOutput, headerWrote, headerOutput}
@@ -42,7 +42,7 @@ unfolding
     eventFault eventWordRule readEvent readEvents readHeader readConfiguration readParts readFile
     childOf nodesOf rowsOf flat tableAnswer tableBuffer yieldAt
     recordFound recordAt hundredth phononSetting chargeSetting settingAt samplesPart samplesAt sampleAt tracesIn tracesFrom tracesOf firstMatch findAt
-    rowLines listing
+    rowLines listing digitsOf decimalText lineText linesText listingText
     wrote writerGiven written phononWritten chargeWritten administrativeWritten traceWritten historyWritten gpsWritten triggerWritten tlbWritten
     recordWrote recordOutput headerWrote headerOutput configurationClosed eventClosed configurationOutput eventOutput
     recordAgain fileRewritten rewriteWrote rewriteOutput

@@ -9,7 +9,7 @@ use Rattle.note.proofs.Computing.{computing}
 pub examples-hold : AllHold examples
 unfolding computing
 examples-hold =
-    let files : AllHold (drop 15 examples) = (refl, (refl, (refl, (refl, (refl, tt))))) in
+    let files : AllHold (drop 15 examples) = (refl, (refl, (refl, (refl, (refl, (refl, tt)))))) in
     let words : AllHold (drop 6 examples) = (refl, (refl, (refl, (refl, (refl, (refl, (refl, (refl, ((refl, refl), files))))))))) in
     (refl, (refl, (refl, (refl, (refl, (refl, words))))))
 

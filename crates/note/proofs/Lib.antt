@@ -22,3 +22,4 @@ pub mod GpsRuleLaws
 pub mod WordRuleLaws
 pub mod PlaceLaws
 pub mod ReadingLaws
+pub mod ListingLaws

@@ -9,7 +9,7 @@ use Rattle.note.specs.Channels.{ascii, nameOf, channelAnswer}
 use Rattle.note.specs.Administrative.{administrativeFault}
 use Rattle.note.specs.Trace.{sampleIn}
 use Rattle.note.specs.Gps.{gpsRule}
-use Rattle.note.specs.Listing.{listing}
+use Rattle.note.specs.Listing.{listing, listingText}
 
 -- What an example says.
 pub data Example : Type 0 where
@@ -19,9 +19,14 @@ pub data Example : Type 0 where
   gps : (first second third number : ℕ) → Example
   samples : (bytes : List ℕ) (one two : ℕ) → Example
   listed : (bytes : List ℕ) (lines : List (List ℕ)) → Example
+  printed : (bytes : List ℕ) (lines : List String) → Example
 
 -- What it means: a code's channel or its refusal; the fault (0: valid) of the series words and of a GPS body; the samples that bytes
--- hold; the listing of a file.
+-- hold; the listing of a file, as numbers and as lines of text, each with its end.
+abbrev pub typed : List String → List ℕ
+typed [] = []
+typed (s ∷ ss) = ascii s ++ (10 ∷ typed ss)
+
 abbrev pub Holds : Example → Type 0
 Holds (named code kind detector analysis cold) =
     channelAnswer code ≡ record {
@@ -45,6 +50,7 @@ Holds (series date clock number) = administrativeFault date clock ≡ number
 Holds (gps first second third number) = gpsRule (words (first ∷ second ∷ third ∷ [])) ≡ number
 Holds (samples bytes one two) = (sampleIn bytes 1 ≡ one) × (sampleIn bytes 2 ≡ two)
 Holds (listed bytes lines) = listing bytes ≡ lines
+Holds (printed bytes lines) = listingText bytes ≡ typed lines
 
 abbrev pub AllHold : List Example → Type 0
 AllHold [] = Unit {0}
@@ -86,5 +92,12 @@ examples =
     (3 ∷ 5 ∷ 16 ∷ 72 ∷ 0 ∷ 0 ∷ 2 ∷ []) ∷
     (4 ∷ 6 ∷ 24 ∷ 32 ∷ 3 ∷ 7 ∷ 1263573000 ∷ []) ∷
     (5 ∷ 11 ∷ 56 ∷ 32 ∷ 3 ∷ 16777220 ∷ 33554432 ∷ []) ∷ [])
+    ∷ printed p14 (
+    "0 5 88" ∷
+    "1 1 0 8 0 16777728 0" ∷
+    "2 2 8 8 0 0 0" ∷
+    "3 5 16 72 0 0 2" ∷
+    "4 6 24 32 3 7 1263573000" ∷
+    "5 11 56 32 3 16777220 33554432" ∷ [])
     ∷ listed (p14 ++ (0 ∷ [])) ((2 ∷ 0 ∷ 88 ∷ []) ∷ [])  -- "One byte after the last event gives 2 there."
     ∷ []

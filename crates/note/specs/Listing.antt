@@ -1,7 +1,7 @@
--- Document 01, 'Rows and calls': the listing program's lines, as numbers. Their text is no definition: it is compared with stored output.
-use Prim.Native.Nat.{ℕ, _+_}
+-- Document 01, 'Rows and calls': the listing program's lines, as numbers; then their text, as bytes.
+use Prim.Native.Nat.{ℕ, zero, suc, _+_, _/_, _%_}
 use mathlib.Core.Bool.{cond}
-use mathlib.Core.List.{List, [], _∷_}
+use mathlib.Core.List.{List, [], _∷_, _++_}
 use lib.Dec.{leb}
 use lib.ListN.{length}
 use Rattle.theory.specs.Tests.{Res, ok, bad}
@@ -23,3 +23,34 @@ linesGiven bs (ok f) = (0 ∷ length (rowsOf f) ∷ length bs ∷ []) ∷ rowLin
 -- "Reads standard input (up to 16,384 bytes; longer gives 1)."
 unfoldable pub listing : List ℕ → List (List ℕ)
 listing bs = cond (leb (length bs) listingLimit) (linesGiven bs (readFile bs)) ((1 ∷ 0 ∷ 0 ∷ []) ∷ [])
+
+-- "In decimal", without a sign: the digits of a number's tenth and then its last, 48 being the digit 0; none at 0, so that no zero stands in
+-- front. The first argument only bounds the steps: a number has no more digits than it counts.
+unfoldable pub digitsOf : ℕ → ℕ → List ℕ
+digitsOf zero n = []
+digitsOf (suc f) zero = []
+digitsOf (suc f) (suc n) = digitsOf f (suc n / 10) ++ ((48 + suc n % 10) ∷ [])
+
+-- A number's text; 0 is one digit too.
+unfoldable pub decimalText : ℕ → List ℕ
+decimalText zero = 48 ∷ []
+decimalText (suc n) = digitsOf (suc n) (suc n)
+
+-- "One blank between" (32): what stands behind a number, by the numbers that follow it; behind the last the line's end (10).
+abbrev pub separator : List ℕ → ℕ
+separator [] = 10
+separator (n ∷ ns) = 32
+
+-- A line of numbers.
+unfoldable pub lineText : List ℕ → List ℕ
+lineText [] = []
+lineText (n ∷ ns) = decimalText n ++ (separator ns ∷ lineText ns)
+
+-- Lines one after the other.
+unfoldable pub linesText : List (List ℕ) → List ℕ
+linesText [] = []
+linesText (l ∷ ls) = lineText l ++ linesText ls
+
+-- All that the program prints of a file.
+unfoldable pub listingText : List ℕ → List ℕ
+listingText bs = linesText (listing bs)
