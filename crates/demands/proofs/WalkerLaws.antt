@@ -1,32 +1,16 @@
 -- The walker's yields are the table's rows in order, then the end for ever; over a refused file that refusal for ever.
 -- The idea: the table's buffer is the rows' numbers one after the other, six to a row.
-use mathlib.Core.Path.{_≡_, refl, sym, ap, _∙_}
-use mathlib.Core.List.{List, [], _∷_, _++_, append-assoc}
-use Prim.Native.Nat.{ℕ, zero, suc, _+_, _*_, _≤_, _<_}
-use native.Mathlib.Nat.{le-of-suc-le-suc, not-suc-le-zero}
-use native.Mathlib.Omega.{arith}
+use mathlib.Core.Path.{_≡_, sym, ap}
+use mathlib.Core.List.{List, []}
+use Prim.Native.Nat.{ℕ, _*_, _≤_, _<_}
 use lib.ListN.{length, take, drop}
-use lib.Seq.{drop-append-add}
 use borrow.Author.Tests.{le-leb, lt-ltb, le-ltb}
 use Rattle.theory.specs.Tests.{ok, bad}
-use Rattle.theory.specs.Layout.{Row, row}
 use Rattle.note.specs.Limits.{rowWidth}
 use Rattle.note.specs.Answers.{accepted, refused, counts}
 use Rattle.note.specs.Files.{File, readFile}
-use Rattle.note.specs.Rows.{rowsOf, rowNumbers, flat, tableAnswer, tableBuffer, yieldAt}
-
--- six numbers from row k on are row k's
-flat-at : (rs : List Row) (rest : List ℕ) (k : ℕ) → k < length rs
-    → take rowWidth (drop (rowWidth * k) (flat rs ++ rest)) ≡ rowNumbers (row rs k)
-unfolding flat
-flat-at [] rest k h = absurd (not-suc-le-zero h)
-flat-at (r ∷ rs) rest zero h = refl
-flat-at (r ∷ rs) rest (suc k) h =
-    let e : rowWidth * suc k ≡ length (rowNumbers r) + rowWidth * k = omega arith in
-    ap (λ (m : ℕ). take rowWidth (drop m ((rowNumbers r ++ flat rs) ++ rest))) e
-    ∙ ap (λ (x : List ℕ). take rowWidth (drop (length (rowNumbers r) + rowWidth * k) x)) (append-assoc (rowNumbers r) (flat rs) rest)
-    ∙ ap (take rowWidth) (drop-append-add (rowNumbers r) (flat rs ++ rest) (rowWidth * k))
-    ∙ flat-at rs rest k (le-of-suc-le-suc h)
+use Rattle.note.specs.Rows.{rowsOf, tableAnswer, tableBuffer, yieldAt}
+use Rattle.note.proofs.FlatLaws.{flat-at}
 
 -- A file that is accepted, with rows enough lent.
 module _ (bs old : List ℕ) (f : File) (e : readFile bs ≡ ok f) (room : rowWidth * length (rowsOf f) ≤ length old) where

@@ -12,6 +12,7 @@ pub mod HistoryLaws
 pub mod GpsLaws
 pub mod TlbLaws
 pub mod UnitLaws
+pub mod FlatLaws
 pub mod KindCases
 pub mod RuleNumbers
 pub mod KindLaws

@@ -4,14 +4,15 @@
 use mathlib.Core.Path.{_≡_, refl, sym, ap, ap₂, _∙_, subst}
 use mathlib.Core.Logic.{_≢_}
 use mathlib.Core.Bool.{Bool, true, false, cond}
-use mathlib.Core.List.{List, [], _∷_, _++_, append-assoc}
+use mathlib.Core.List.{List, _++_}
 use Prim.Native.Nat.{ℕ, zero, suc, _+_, _*_, _≤_, _<_}
 use native.Mathlib.Nat.{le-of-suc-le-suc, not-suc-le-zero}
 use native.Mathlib.Decide.{ℕ-discrete}
 use native.Mathlib.Omega.{arith}
-use lib.ListN.{length, drop, getD, length-append, length-drop}
-use lib.Seq.{getD-append-add, drop-at, ext-getD}
-use borrow.Author.Tests.{leb-true, le-leb}
+use lib.Dec.{ltb}
+use lib.ListN.{length, take, drop, getD, length-append, length-drop}
+use lib.Seq.{getD-take, getD-drop, drop-at, ext-getD}
+use borrow.Author.Tests.{leb-true, le-leb, ltb-true}
 use Rattle.theory.specs.Words.{Bytes}
 use Rattle.theory.specs.Tests.{Res, ok, bad}
 use Rattle.theory.specs.Layout.{Row, noRow, row, Tiles, Owns, OneParent}
@@ -19,6 +20,7 @@ use Rattle.theory.proofs.LayoutLaws.{owner, owner-one}
 use Rattle.note.specs.Limits.{rowWidth}
 use Rattle.note.specs.Files.{File, readFile}
 use Rattle.note.specs.Rows.{rowsOf, isBox, rowNumbers, flat, fits, tableGiven, tableFilled, tableAnswer, tableBuffer}
+use Rattle.note.proofs.FlatLaws.{length-flat, flat-at}
 use Rattle.demands.specs.Parents.{ParentByKind}
 use Rattle.demands.proofs.RowLaws.{rows-inside, rows-tile-file, few-rows-in-file, parent-before-child}
 use Rattle.demands.proofs.ParentLaws.{parent-by-kind}
@@ -27,36 +29,23 @@ use Rattle.demands.proofs.RefusalLaws.{refusal-is-numbered}
 
 -- ---- rows read back
 
-length-flat : (rs : List Row) → length (flat rs) ≡ rowWidth * length rs
-unfolding flat
-length-flat [] = refl
-length-flat (r ∷ rs) = omega (arith, length-flat rs)
-
--- behind one row, the next row is the first
-number-behind : (r : Row) (xs : List ℕ) (j c : ℕ) → numberAt (rowNumbers r ++ xs) (suc j) c ≡ numberAt xs j c
-number-behind r xs j c =
-    let e : rowWidth * suc j + c ≡ length (rowNumbers r) + (rowWidth * j + c) = omega arith in
-    ap (λ (m : ℕ). getD (rowNumbers r ++ xs) m 0) e ∙ getD-append-add (rowNumbers r) xs (rowWidth * j + c) 0
-
-row-behind : (r : Row) (xs : List ℕ) (j : ℕ) → rowAt (rowNumbers r ++ xs) (suc j) ≡ rowAt xs j
-row-behind r xs j = λ i. record {
-  kind = number-behind r xs j 0 i;
-  start = number-behind r xs j 1 i;
-  whole = number-behind r xs j 2 i;
-  parent = number-behind r xs j 3 i;
-  one = number-behind r xs j 4 i;
-  two = number-behind r xs j 5 i;
-}
+-- Number c of row j is the c-th of the numbers from that row on.
+number-of : (buffer : List ℕ) (j c : ℕ) → c < rowWidth → numberAt buffer j c ≡ getD (take rowWidth (drop (rowWidth * j) buffer)) c 0
+number-of buffer j c h = rw (getD-take rowWidth (drop (rowWidth * j) buffer) c 0 h, getD-drop)
 
 -- row j of the rows' numbers is row j
 flat-row : (rs : List Row) (rest : List ℕ) (j : ℕ) → j < length rs → rowAt (flat rs ++ rest) j ≡ row rs j
-unfolding flat
-flat-row [] rest j h = absurd (not-suc-le-zero h)
-flat-row (r ∷ rs) rest zero h = refl
-flat-row (r ∷ rs) rest (suc j) h =
-    ap (λ (x : List ℕ). rowAt x (suc j)) (append-assoc (rowNumbers r) (flat rs) rest)
-    ∙ row-behind r (flat rs ++ rest) j
-    ∙ flat-row rs rest j (le-of-suc-le-suc h)
+flat-row rs rest j h = λ i. record {
+  kind = at 0 refl i;
+  start = at 1 refl i;
+  whole = at 2 refl i;
+  parent = at 3 refl i;
+  one = at 4 refl i;
+  two = at 5 refl i;
+}
+  where
+    at : (c : ℕ) → ltb c rowWidth ≡ true → numberAt (flat rs ++ rest) j c ≡ getD (rowNumbers (row rs j)) c 0
+    at c l = number-of (flat rs ++ rest) j c (ltb-true c rowWidth l) ∙ ap (λ (x : List ℕ). getD x c 0) (flat-at rs rest j h)
 
 pub length-rowsFrom : (buffer : List ℕ) (j n : ℕ) → length (rowsFrom buffer j n) ≡ n
 unfolding rowsFrom

@@ -1,37 +1,17 @@
--- Rows in the buffer: one row's six stores, rows after rows, and the buffer from its first row on.
+-- Rows in the buffer: rows after rows, and the buffer from its first row on.
 -- The idea: rows stored one after the other are one run of numbers, whatever was stored before them.
 use Prim.Native.Nat.{ℕ, suc, _+_, _*_, _≤_, _<_}
 use native.Mathlib.Omega.{arith}
 use mathlib.Core.Path.{_≡_, refl, sym, ap, _∙_}
-use mathlib.Core.List.{List, [], _∷_, _++_, append-assoc}
+use mathlib.Core.List.{List, [], _∷_, _++_}
 use lib.ListN.{length, set, drop}
 use lib.Seq.{sets, sets-eq, length-sets, set-comm}
 use Rattle.theory.specs.Layout.{Row}
 use Rattle.theory.proofs.StoreLaws.{sets-append}
 use Rattle.note.specs.Limits.{rowWidth}
 use Rattle.note.specs.Rows.{flat}
+use Rattle.note.proofs.FlatLaws.{length-flat, flat-append}
 use Rattle.rows.specs.Buffers.{stored}
-
-pub six-stores : (l : List ℕ) (i a b c d e f : ℕ)
-    → set (set (set (set (set (set l i a) (i + 1) b) (i + 2) c) (i + 3) d) (i + 4) e) (i + 5) f
-    ≡ sets l i (a ∷ b ∷ c ∷ d ∷ e ∷ f ∷ [])
-six-stores l i a b c d e f =
-    let p : i + 1 ≡ suc i = omega arith in
-    let q : i + 2 ≡ suc (suc i) = omega arith in
-    let r : i + 3 ≡ suc (suc (suc i)) = omega arith in
-    let s : i + 4 ≡ suc (suc (suc (suc i))) = omega arith in
-    let t : i + 5 ≡ suc (suc (suc (suc (suc i)))) = omega arith in
-    rw (p, q, r, s, t)
-
-flat-append : (xs ys : List Row) → flat (xs ++ ys) ≡ flat xs ++ flat ys
-unfolding flat
-flat-append [] ys = refl
-flat-append (x ∷ xs) ys = rw (flat-append xs ys, append-assoc)
-
-pub length-flat : (xs : List Row) → length (flat xs) ≡ length xs * rowWidth
-unfolding flat
-length-flat [] = refl
-length-flat (x ∷ xs) = omega (arith, length-flat xs)
 
 -- Rows, and then more rows.
 pub stored-append : (old : List ℕ) (n : ℕ) (xs ys : List Row) → stored old n (xs ++ ys) ≡ stored (stored old n xs) (n + length xs) ys

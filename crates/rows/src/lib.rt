@@ -15,6 +15,8 @@ ghost use mathlib.Core.Bool.{true};
 ghost use mathlib.Core.List.{[], _∷_};
 ghost use Prim.Native.Nat.{_+_, _*_, _≤_, _<_};
 ghost use lib.ListN.{length};
+ghost use lib.Seq.{sets};
+ghost use Rattle.theory.specs.Stores.{HasEach};
 ghost use Rattle.rows.specs.Buffers.{rowOf, stored};
 ghost use Rattle.rows.specs.Values.{standingOf, hasValues, valuesOf};
 
@@ -134,16 +136,32 @@ pub fn values_in(kind: u32, b: &[u8]) -> Values
     }
 }
 
+// Stores the numbers of a row, one after the other, in its part of the buffer.
+fn put_each(part: &mut [u32], kind: u32, start: u32, whole: u32, parent: u32, one: u32, two: u32)
+    requires { ⌜ HasEach 6 (now part) ⌝ }
+    ensures { λ _. ⌜ now (part .exit) ≡ sets (now (part .entry)) 0 (kind ∷ start ∷ whole ∷ parent ∷ one ∷ two ∷ []) ⌝ }
+{
+    part[0] = kind;
+    part[1] = start;
+    part[2] = whole;
+    part[3] = parent;
+    part[4] = one;
+    part[5] = two;
+}
+
 /// Stores the row with the index n, from 0.
 pub fn put_row(rows: &mut [u32], n: usize, row: Row)
     requires { ⌜ n * 6 + 6 ≤ length (now rows) ⌝ }
     ensures { λ _. ⌜ now (rows .exit) ≡ stored (now (rows .entry)) n (rowOf row ∷ []) ⌝ }
 {
     let i = n * ROW_WIDTH;
-    rows[i] = row.kind;
-    rows[i + 1] = row.start;
-    rows[i + 2] = row.whole;
-    rows[i + 3] = row.parent;
-    rows[i + 4] = row.one;
-    rows[i + 5] = row.two;
+    put_each(
+        &mut rows[i..i + ROW_WIDTH],
+        row.kind,
+        row.start,
+        row.whole,
+        row.parent,
+        row.one,
+        row.two,
+    );
 }

@@ -1,18 +1,15 @@
--- Runs of stores: stores one after the other, and stores into the part that is lent on from a place.
--- The idea: `sets` of one list after another is `sets` of both, whatever the room; only a part that is lent on asks for room.
-use Prim.Native.Nat.{ℕ, zero, suc, _+_, _-_, _*_, _≤_, _<_}
+-- Runs of stores, one after the other: of lists, of a list block by block, of words.
+-- The idea: `sets` of one list after another is `sets` of both, whatever the room.
+use Prim.Native.Nat.{ℕ, _+_, _-_, _*_, _≤_, _<_}
 use mathlib.Core.Path.{_≡_, refl, sym, ap, _∙_}
-use mathlib.Core.List.{List, [], _∷_, _++_, append-nil}
+use mathlib.Core.List.{List, [], _∷_, _++_}
 use native.Mathlib.Omega.{arith}
 use native.Mathlib.Numerals.{add-one}
-use lib.ListN.{length, take, drop, getD, set, length-drop, drop-of-length-le}
-use lib.Seq.{sets, sets-eq, length-take-le, take-add, take-suc, take-all, take-append-seam}
-use borrow.Rule.Slice.PartMut.{putMid, midOf}
+use lib.ListN.{length, take, drop, getD, set}
+use lib.Seq.{sets, sets-eq, length-take-le, take-add, take-suc, take-append-seam}
 use Rattle.theory.proofs.WordLaws.{length-puts, puts-append}
 use Rattle.theory.proofs.StoreLaws.{sets-append}
 use Rattle.note.specs.Words.{order, words}
-
--- ---- one after the other
 
 -- Stores from the place behind those before them.
 stored-next : (l : List ℕ) (at next : ℕ) (a b : List ℕ) → at + length a ≡ next → sets (sets l at a) next b ≡ sets l at (a ++ b)
@@ -56,25 +53,3 @@ word-more l ws at i h =
 -- What was stored at the front stands there.
 pub front-stored : (l a : List ℕ) → 0 + length a ≤ length l → take (length a) (sets l 0 a) ≡ a
 front-stored l a h = ap (take (length a)) (sets-eq a l 0 h) ∙ take-append-seam a (drop (0 + length a) l)
-
--- ---- into the part that is lent on from a place
-
-sets-nil : (i : ℕ) (vs : List ℕ) → sets [] i vs ≡ []
-sets-nil i [] = refl
-sets-nil i (a ∷ vs) = sets-nil (suc i) vs
-
-sets-cons : (x : ℕ) (l : List ℕ) (i : ℕ) (vs : List ℕ) → sets (x ∷ l) (suc i) vs ≡ x ∷ sets l i vs
-sets-cons x l i [] = refl
-sets-cons x l i (a ∷ vs) = sets-cons x (set l i a) (suc i) vs
-
-sets-drop : (k : ℕ) (l : List ℕ) (vs : List ℕ) → take k l ++ sets (drop k l) 0 vs ≡ sets l k vs
-sets-drop zero l vs = refl
-sets-drop (suc k) [] vs = sets-nil 0 vs ∙ sym (sets-nil (suc k) vs)
-sets-drop (suc k) (x ∷ l) vs = ap (λ (r : List ℕ). x ∷ r) (sets-drop k l vs) ∙ sym (sets-cons x l k vs)
-
--- Stores into `&mut out[at..]`, seen in `out` when the loan ends.
-pub rest-stored : (l : List ℕ) (at : ℕ) (vs e : List ℕ) → at ≤ length l → e ≡ sets (midOf at (length l - at) l) 0 vs
-    → putMid at (length l - at) l e ≡ sets l at vs
-rest-stored l at vs e h q =
-    let m : length (drop at l) ≤ length l - at = omega (arith, length-drop at l) in
-    rw (q, take-all (length l - at) (drop at l) m, drop-of-length-le (drop at l) m, append-nil, sets-drop)

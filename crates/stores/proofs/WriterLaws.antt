@@ -17,7 +17,7 @@ use Rattle.note.specs.Limits.{fileLimit}
 use Rattle.note.specs.Answers.{Given, givenWriter}
 use Rattle.note.specs.Writers.{wrote, writerGiven, written, Written, recordWrote, recordOutput}
 use Rattle.stores.specs.Writes.{Wrote}
-use Rattle.stores.proofs.StoreLaws.{rest-stored}
+use Rattle.theory.proofs.StoreLaws.{part-stored}
 
 -- ---- an answer determines the result
 
@@ -123,7 +123,9 @@ module _ {out : List ℕ} {place : ℕ} {w : Written} {r : WriterAnswer} (a : Ad
 
   pub writes : {next : ℕ} → r ≡ Next next → (rest : List ℕ) → rest ≡ sets (midOf place (length out - place) out) 0 (w .bytes)
       → Wrote out place w (Next next) (putMid place (length out - place) out rest)
-  writes n rest q = lays n (rest-stored out place (w .bytes) rest (omega (arith, has-room n .1)) q)
+  writes n rest q =
+      let room : place + length (w .bytes) ≤ length out = has-room n .1 in
+      lays n (part-stored out place (length out - place) (w .bytes) rest (omega arith) (omega arith) q)
 
 -- A call of a writer: the output, the place, the answer and the output afterwards; what was handed on, a fault and bytes, and what was meant.
 pub record WriterCall : Type 0 where

@@ -7,6 +7,7 @@ ghost use mathlib.Core.List.{[], _∷_};
 ghost use Prim.Native.Nat.{_+_, _*_, _≤_, _<_};
 ghost use lib.ListN.{length};
 ghost use lib.Seq.{sets};
+ghost use Rattle.theory.specs.Stores.{HasEach};
 ghost use Rattle.note.specs.Words.{words};
 ghost use Rattle.note.specs.Answers.{givenWriter};
 ghost use Rattle.note.specs.Writers.{wrote, writerGiven};
@@ -41,15 +42,29 @@ pub fn admitted(room: usize, place: usize, fault: u32, size: usize) -> WriterAns
     }
 }
 
+// Stores four bytes, one after the other, in a part.
+fn put_each(part: &mut [u8], a: u8, b: u8, c: u8, d: u8)
+    requires { ⌜ HasEach 4 (now part) ⌝ }
+    ensures { λ _. ⌜ now (part .exit) ≡ sets (now (part .entry)) 0 (a ∷ b ∷ c ∷ d ∷ []) ⌝ }
+{
+    part[0] = a;
+    part[1] = b;
+    part[2] = c;
+    part[3] = d;
+}
+
 // Stores a word from a place on.
 fn put_word(out: &mut [u8], at: usize, w: u32)
     requires { ⌜ at + 4 ≤ length (now out) ⌝ }
     ensures { λ _. ⌜ now (out .exit) ≡ sets (now (out .entry)) at (words (w ∷ [])) ⌝ }
 {
-    out[at] = (w % 256) as u8;
-    out[at + 1] = (w / 256 % 256) as u8;
-    out[at + 2] = (w / 65536 % 256) as u8;
-    out[at + 3] = (w / 16777216) as u8;
+    put_each(
+        &mut out[at..at + 4],
+        (w % 256) as u8,
+        (w / 256 % 256) as u8,
+        (w / 65536 % 256) as u8,
+        (w / 16777216) as u8,
+    );
 }
 
 /// Stores words one after the other, from a place on.

@@ -1,70 +1,40 @@
--- Six stores are one run of six numbers.
-use Prim.Native.Nat.{_*_}
+-- `rows::put_row` meets its contract: six stores in the row's part of the buffer.
+-- The idea: stores into a lent part, however many, are one law.
+use Prim.Native.Nat.{_+_, _-_, _*_, _≤_}
+use mathlib.Core.List.{[], _∷_}
+use native.Mathlib.Omega.{arith}
 use denote.Ref.{now}
-use Rattle.rows.proofs.StoreLaws.{six-stores}
+use lib.ListN.{length}
+use Rattle.theory.proofs.StoreLaws.{part-stored}
 use Rattle.note.specs.Rows.{flat}
 use Rattle.rows.specs.Buffers.{rowOf, stored}
-use lib.ListN.{length-set}
-use native.Mathlib.Omega.{arith}
 use borrow.Author.Needs.{needs}
 use Rattle.rows.proofs.put_row.Statement.{statement}
 use Rattle.rows.proofs.put_row.Tie as tie
 use Rattle.rows.proofs.put_row.Reads as reads
 use Rattle.rows.proofs.put_row.Lts as lts
+use Rattle.rows.proofs.put_each.Reads as put-each-reads
 
 mul-i : tie.Need-mul-i
 mul-i c = search needs
 
-mul-rows : tie.Need-mul-rows
-mul-rows c = search needs
+add-put-each : tie.Need-add-put-each
+add-put-each c = search needs
 
-slice-write-rows : tie.Need-slice-write-rows
-slice-write-rows c = search needs
+mul-put-each : tie.Need-mul-put-each
+mul-put-each c = search needs
 
-add-rows : tie.Need-add-rows
-add-rows c = search needs
+sub-put-each : tie.Need-sub-put-each
+sub-put-each c = search needs
 
-mul-rows-2 : tie.Need-mul-rows-2
-mul-rows-2 c = search needs
+part-put-each-start : tie.Need-part-put-each-start
+part-put-each-start c = search needs
 
-slice-write-rows-2 : tie.Need-slice-write-rows-2
-slice-write-rows-2 c = simp length-set (omega arith)
+part-put-each-end : tie.Need-part-put-each-end
+part-put-each-end c = search needs
 
-add-rows-2 : tie.Need-add-rows-2
-add-rows-2 c = search needs
-
-mul-rows-3 : tie.Need-mul-rows-3
-mul-rows-3 c = search needs
-
-slice-write-rows-3 : tie.Need-slice-write-rows-3
-slice-write-rows-3 c = simp length-set (omega arith)
-
-add-rows-3 : tie.Need-add-rows-3
-add-rows-3 c = search needs
-
-mul-rows-4 : tie.Need-mul-rows-4
-mul-rows-4 c = search needs
-
-slice-write-rows-4 : tie.Need-slice-write-rows-4
-slice-write-rows-4 c = simp length-set (omega arith)
-
-add-rows-4 : tie.Need-add-rows-4
-add-rows-4 c = search needs
-
-mul-rows-5 : tie.Need-mul-rows-5
-mul-rows-5 c = search needs
-
-slice-write-rows-5 : tie.Need-slice-write-rows-5
-slice-write-rows-5 c = simp length-set (omega arith)
-
-add-rows-5 : tie.Need-add-rows-5
-add-rows-5 c = search needs
-
-mul-rows-6 : tie.Need-mul-rows-6
-mul-rows-6 c = search needs
-
-slice-write-rows-6 : tie.Need-slice-write-rows-6
-slice-write-rows-6 c = simp length-set (omega arith)
+put-each-requires : tie.Need-put-each-requires
+put-each-requires c κs = search needs
 
 same-length : tie.Need-same-length
 same-length c = search needs
@@ -72,31 +42,22 @@ same-length c = search needs
 returns : tie.Need-returns
 unfolding stored flat rowOf
 returns c =
-    let a = c .args in
-    let r = a .row in
-    six-stores (now (a .rows)) (a .n * 6) (r .kind) (r .start) (r .whole) (r .parent) (r .one) (r .two)
+    let start = c .before .before .before .before .before in
+    let a = start .args in
+    let i = a .n * 6 in
+    let room : i + 6 ≤ length (now (a .rows)) = start .pre in
+    part-stored (now (a .rows)) i (i + 6 - i) (flat (rowOf (a .row) ∷ [])) _ (omega arith) (omega arith) (c .before .before .put-each .ensures)
 
 pub put-row-spec : {M : Type 1} → statement M
 put-row-spec =
     tie.close
     (tie.spec
     mul-i
-    mul-rows
-    slice-write-rows
-    add-rows
-    mul-rows-2
-    slice-write-rows-2
-    add-rows-2
-    mul-rows-3
-    slice-write-rows-3
-    add-rows-3
-    mul-rows-4
-    slice-write-rows-4
-    add-rows-4
-    mul-rows-5
-    slice-write-rows-5
-    add-rows-5
-    mul-rows-6
-    slice-write-rows-6
+    add-put-each
+    mul-put-each
+    sub-put-each
+    part-put-each-start
+    part-put-each-end
+    put-each-requires
     same-length
     returns)

@@ -1,48 +1,47 @@
--- `stores::put_word` meets its contract: four stores in a row are the word's four bytes.
--- The idea: division by 256 again and again, as `bytes` has it.
-use Prim.Native.Nat.{suc, _+_, _/_, _%_}
-use mathlib.Core.Path.{_≡_}
+-- `stores::put_word` meets its contract: the word's four bytes are stored in its part of the output.
+-- The idea: division by 256 again and again, as `bytes` has it; stores into a lent part are one law.
+use Prim.Native.Nat.{_+_, _-_, _/_, _%_, _≤_}
+use mathlib.Core.Path.{_≡_, _∙_}
+use mathlib.Core.List.{[], _∷_}
 use native.Mathlib.Omega.{arith}
-use lib.ListN.{length-set}
+use denote.Ref.{now}
+use lib.ListN.{length}
 use Rattle.theory.specs.Words.{bytes, put, puts}
+use Rattle.theory.proofs.StoreLaws.{part-stored}
+use Rattle.note.specs.Words.{words}
 use borrow.Author.Needs.{needs}
 use Rattle.stores.proofs.put_word.Statement.{statement}
 use Rattle.stores.proofs.put_word.Tie as tie
 use Rattle.stores.proofs.put_word.Reads as reads
 use Rattle.stores.proofs.put_word.Lts as lts
+use Rattle.stores.proofs.put_each.Reads as put-each-reads
 
-cast-out : tie.Need-cast-out
-cast-out c = search needs
+add-put-each : tie.Need-add-put-each
+add-put-each c = search needs
 
-slice-write-out : tie.Need-slice-write-out
-slice-write-out c = search needs
+sub-put-each : tie.Need-sub-put-each
+sub-put-each c = search needs
 
-cast-out-2 : tie.Need-cast-out-2
-cast-out-2 c = search needs
+part-put-each-start : tie.Need-part-put-each-start
+part-put-each-start c = search needs
 
-add-out : tie.Need-add-out
-add-out c = search needs
+part-put-each-end : tie.Need-part-put-each-end
+part-put-each-end c = search needs
 
-slice-write-out-2 : tie.Need-slice-write-out-2
-slice-write-out-2 c = simp length-set (omega arith)
+cast-put-each : tie.Need-cast-put-each
+cast-put-each c = search needs
 
-cast-out-3 : tie.Need-cast-out-3
-cast-out-3 c = search needs
+cast-put-each-2 : tie.Need-cast-put-each-2
+cast-put-each-2 c = search needs
 
-add-out-2 : tie.Need-add-out-2
-add-out-2 c = search needs
+cast-put-each-3 : tie.Need-cast-put-each-3
+cast-put-each-3 c = search needs
 
-slice-write-out-3 : tie.Need-slice-write-out-3
-slice-write-out-3 c = simp length-set (omega arith)
+cast-put-each-4 : tie.Need-cast-put-each-4
+cast-put-each-4 c = search needs
 
-cast-out-4 : tie.Need-cast-out-4
-cast-out-4 c = search needs
-
-add-out-3 : tie.Need-add-out-3
-add-out-3 c = search needs
-
-slice-write-out-4 : tie.Need-slice-write-out-4
-slice-write-out-4 c = simp length-set (omega arith)
+put-each-requires : tie.Need-put-each-requires
+put-each-requires c κs = search needs
 
 same-length : tie.Need-same-length
 same-length c = search needs
@@ -50,29 +49,28 @@ same-length c = search needs
 returns : tie.Need-returns
 unfolding bytes put puts
 returns c =
-    let at = c .args .at in
-    let w = c .args .w in
-    let a1 : at + 1 ≡ suc at = omega arith in
-    let a2 : at + 2 ≡ suc (suc at) = omega arith in
-    let a3 : at + 3 ≡ suc (suc (suc at)) = omega arith in
-    let d2 : w / 65536 ≡ w / 256 / 256 = omega arith in
-    let d3 : w / 16777216 ≡ w / 256 / 256 / 256 % 256 = omega arith in
-    rw (a1, a2, a3, d2, d3)
+    let start = c .before .before .before .before .before in
+    let out = now (start .args .out) in
+    let at = start .args .at in
+    let w = start .args .w in
+    let room : at + 4 ≤ length out = start .pre in
+    let third : w / 65536 ≡ w / 256 / 256 = omega arith in
+    let fourth : w / 16777216 ≡ w / 256 / 256 / 256 % 256 = omega (arith, start) in
+    part-stored out at (at + 4 - at) (words (w ∷ [])) _ (omega arith) (omega arith)
+    (c .before .before .put-each .ensures ∙ rw (third, fourth))
 
 pub put-word-spec : {M : Type 1} → statement M
 put-word-spec =
     tie.close
     (tie.spec
-    cast-out
-    slice-write-out
-    cast-out-2
-    add-out
-    slice-write-out-2
-    cast-out-3
-    add-out-2
-    slice-write-out-3
-    cast-out-4
-    add-out-3
-    slice-write-out-4
+    add-put-each
+    sub-put-each
+    part-put-each-start
+    part-put-each-end
+    cast-put-each
+    cast-put-each-2
+    cast-put-each-3
+    cast-put-each-4
+    put-each-requires
     same-length
     returns)
