@@ -13,8 +13,7 @@ use borrow.Author.Tests.{eq-eqb, ne-eqb}
 use Rattle.theory.specs.Words.{Bytes}
 use Rattle.theory.specs.Tests.{Res, ok}
 use Rattle.theory.proofs.WordLaws.{word-of-part}
-use Rattle.theory.proofs.TestLaws.{ok-inj}
-use Rattle.theory.proofs.LoopLaws.{Ahead, ahead}
+use Rattle.theory.proofs.LoopLaws.{Ahead, ahead, none-read}
 use Rattle.note.specs.Limits.{fileLimit}
 use Rattle.note.specs.Words.{order, word}
 use Rattle.note.specs.Administrative.{administrativeKind, administrativeOf}
@@ -30,16 +29,6 @@ use Rattle.record.proofs.StepLaws.{Read, read-shows, cutBody, cut-length, cut-b
 use Rattle.containers.proofs.RecordLoop.{recordAt, behindOf, left, length-behind, Bytes-behind}
 use Rattle.containers.proofs.EventLoop.{Shown, event-shows}
 use Rattle.find.specs.Search.{Searchable, tracesRead}
-
-no-records : (c : Context) (at : ℕ) (bs : List ℕ) (rs : List Record) → length bs ≤ 0 → readRecords c at bs ≡ ok rs → rs ≡ []
-unfolding readRecords
-no-records c at [] rs l e = sym (ok-inj e)
-no-records c at (b ∷ bs) rs l e = absurd (omega arith)
-
-no-events : (at : ℕ) (bs : List ℕ) (es : List Container) → length bs ≤ 0 → readEvents tt at bs ≡ ok es → es ≡ []
-unfolding readEvents
-no-events at [] es l e = sym (ok-inj e)
-no-events at (b ∷ bs) es l e = absurd (omega arith)
 
 -- An event of another number has no match.
 other-number : (number code n : ℕ) → (n ≡ number → ⊥) → (at : ℕ) (rs : List Record) (ts : List TraceAt)
@@ -75,7 +64,7 @@ module _ {number code : ℕ} {answer : List ℕ} {next : ℕ} {later : List Trac
   pub looked : length bs ≤ 0 → firstMatch number code later ≡ answer
   unfolding tracesIn
   looked l =
-      let none-left : i .rs ≡ [] = no-records (i .state) place bs (i .rs) l (i .reads) in
+      let none-left : i .rs ≡ [] = none-read recordItem (i .state) place bs (i .rs) l (sym (same-records (i .state) place bs) ∙ i .reads) in
       ap (λ (rs : List Record). firstMatch number code (tracesIn number place rs ++ later)) (sym none-left) ∙ i .still
 
   module _ (l : 0 < length bs) where
@@ -183,7 +172,7 @@ module _ {number code : ℕ} {answer : List ℕ} {at : ℕ} {bs : List ℕ} (i :
   pub searched : length bs ≤ 0 → [] ≡ answer
   unfolding tracesFrom firstMatch
   searched l =
-      let none-left : i .es ≡ [] = no-events at bs (i .es) l (i .reads) in
+      let none-left : i .es ≡ [] = none-read eventItem tt at bs (i .es) l (sym (same-events tt at bs) ∙ i .reads) in
       ap (λ (es : List Container). firstMatch number code (tracesFrom at es)) (sym none-left) ∙ i .still
 
   module _ (l : 0 < length bs) where
