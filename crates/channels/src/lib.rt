@@ -2,10 +2,9 @@
 use note::ChannelAnswer;
 use note::CodeAnswer;
 use note::Name;
+use words::join;
 ghost use mathlib.Core.Path.{_≡_};
-ghost use mathlib.Core.List.{[], _∷_};
 ghost use Prim.Native.Nat.{_%_};
-ghost use Rattle.theory.specs.Words.{num};
 ghost use Rattle.note.specs.Answers.{givenCode};
 ghost use Rattle.note.specs.Channels.{channelAnswer, codeAnswer, named, phononNamed, chargeNamed, numbered, channelOf};
 ghost use Rattle.channels.specs.Tables.{undotted, lookedUp, analysisNumber, coldNumber, sizeOf, nameOfNumber, isSpelled, channelCalled, groupsOf, groupOf};
@@ -58,13 +57,6 @@ fn letter(byte: u8) -> u8
     byte
 }
 
-// Four letters as one number, the first lowest.
-fn joined(a: u8, b: u8, c: u8, d: u8) -> u32
-    ensures { λ r. ⌜ r ≡ num (a ∷ b ∷ c ∷ d ∷ []) ⌝ }
-{
-    a as u32 + 256 * (b as u32) + 65536 * (c as u32) + 16777216 * (d as u32)
-}
-
 // The name that a table has for a type's channel, as a number; 0 where it has none.
 fn look_up(table: &[u8; 576], kind: u32, channel: u32) -> u32
     ensures { λ r. ⌜ r ≡ lookedUp (now (table .entry)) kind channel ⌝ }
@@ -76,7 +68,7 @@ fn look_up(table: &[u8; 576], kind: u32, channel: u32) -> u32
         return 0;
     }
     let at = (kind * 48 + channel * 4) as usize;
-    joined(
+    join(
         letter(table[at]),
         letter(table[at + 1]),
         letter(table[at + 2]),

@@ -6,8 +6,8 @@ ghost use lib.ListN.{length};
 ghost use Rattle.theory.specs.Words.{num};
 ghost use Rattle.note.specs.Words.{word};
 
-// The number of four bytes, the lowest first.
-fn join(a: u8, b: u8, c: u8, d: u8) -> u32
+/// The number of four bytes, the lowest first.
+pub fn join(a: u8, b: u8, c: u8, d: u8) -> u32
     ensures { λ r. ⌜ r ≡ num (a ∷ b ∷ c ∷ d ∷ []) ⌝ }
 {
     a as u32 + b as u32 * 256 + c as u32 * 65536 + d as u32 * 16_777_216

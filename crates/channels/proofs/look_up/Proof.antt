@@ -58,8 +58,8 @@ element-copy-out-letter-4 c = search needs
 letter-requires-4 : tie.Need-letter-requires-4
 letter-requires-4 c κs = search needs
 
-joined-requires : tie.Need-joined-requires
-joined-requires c κs = search needs
+join-requires : tie.Need-join-requires
+join-requires c κs = search needs
 
 -- Where the function starts, from the second letter on.
 abbrev start : tie.After-letter2 → tie.Start
@@ -91,5 +91,5 @@ look-up-spec =
     add-letter-3
     element-copy-out-letter-4
     letter-requires-4
-    joined-requires
+    join-requires
     returns-3)
