@@ -24,7 +24,7 @@ use stores::put_words;
 use stores::write_structure;
 ghost use mathlib.Core.Path.{_≡_};
 ghost use mathlib.Core.List.{[], map};
-ghost use Prim.Native.Nat.{_+_, _*_, _%_, _≤_, _<_};
+ghost use Prim.Native.Nat.{_+_, _*_, _%_, _^_, _≤_, _<_};
 ghost use lib.ListN.{length};
 ghost use lib.Seq.{sets};
 ghost use Rattle.note.specs.Words.{unsigned};
@@ -372,35 +372,22 @@ pub fn write_history(
 
 // ---- GPS
 
-// A number's last two decimal digits as BCD, which fill a byte.
-fn two_digits(v: u32) -> u32
-    ensures { λ r. ⌜ (r ≡ bcd 2 v) × (r < 256) ⌝ }
+// A number's last n decimal digits as BCD.
+fn digits(n: u32, v: u32) -> u32
+    requires { ⌜ n ≤ 8 ⌝ }
+    ensures { λ r. ⌜ (r ≡ bcd n v) × (r < 16 ^ n) ⌝ }
 {
-    v / 10 % 10 * 16 + v % 10
-}
-
-// Its last four, which fill half a word.
-fn four_digits(v: u32) -> u32
-    ensures { λ r. ⌜ (r ≡ bcd 4 v) × (r < 65536) ⌝ }
-{
-    two_digits(v / 100) * 256 + two_digits(v)
-}
-
-// Its last eight, which fill a word.
-fn eight_digits(v: u32) -> u32
-    ensures { λ r. ⌜ r ≡ bcd 8 v ⌝ }
-{
-    four_digits(v / 10000) * 65536 + four_digits(v)
+    if n == 0 {
+        return 0;
+    }
+    digits(n - 1, v / 10) * 16 + v % 10
 }
 
 // A GPS record's second word: the status, a zero, hhmmss. Of a status over 15, which is refused, the lowest four bits.
 fn gps_clock(status: u32, hour: u32, minute: u32, second: u32) -> u32
     ensures { λ r. ⌜ r ≡ status % 16 * 268435456 + bcd 2 hour * 65536 + bcd 2 minute * 256 + bcd 2 second ⌝ }
 {
-    status % 16 * 268435456
-        + two_digits(hour) * 65536
-        + two_digits(minute) * 256
-        + two_digits(second)
+    status % 16 * 268435456 + digits(2, hour) * 65536 + digits(2, minute) * 256 + digits(2, second)
 }
 
 /// Writes a GPS record: year, day, status, hour, minute, second, tenths of a microsecond.
@@ -425,7 +412,7 @@ pub fn write_gps(
       tenths = tenths;
     })) r (now (out .exit)) ⌝ }
 {
-    let date = four_digits(year) * 65536 + four_digits(day);
+    let date = digits(4, year) * 65536 + digits(4, day);
     let fault = gps_fault(year, day, status, hour, minute, second, tenths);
     write_structure(
         out,
@@ -435,7 +422,7 @@ pub fn write_gps(
         &[
             date,
             gps_clock(status, hour, minute, second),
-            eight_digits(tenths),
+            digits(8, tenths),
         ],
         &[],
     )

@@ -17,16 +17,15 @@ use Rattle.writers.proofs.write_gps.Tie as tie
 use Rattle.writers.proofs.write_gps.Reads as reads
 use Rattle.writers.proofs.write_gps.Lts as lts
 use Rattle.fields.proofs.gps_fault.Reads as gps-fault-reads
-use Rattle.writers.proofs.eight_digits.Reads as eight-digits-reads
-use Rattle.writers.proofs.four_digits.Reads as four-digits-reads
+use Rattle.writers.proofs.digits.Reads as digits-reads
 use Rattle.writers.proofs.gps_clock.Reads as gps-clock-reads
 use Rattle.stores.proofs.write_structure.Reads as write-structure-reads
 
 -- From the last call back to where the tenths were made; from there to where the fault was asked, and to the start.
-abbrev made : tie.After-write-structure → tie.After-eight-digits
+abbrev made : tie.After-write-structure → tie.After-digits3
 made c = c .before .before .before
 
-abbrev asked : tie.After-eight-digits → tie.After-gps-fault
+abbrev asked : tie.After-digits3 → tie.After-gps-fault
 asked c = c .before .before .before
 
 abbrev start : tie.After-gps-fault → tie.Start
@@ -37,14 +36,14 @@ status-kept : (f : Gps) → gpsFault f ≡ 0 → f .status % 16 ≡ f .status
 unfolding gpsFault
 status-kept f fine = omega (arith, leb-true (f .status) 15 (holds-at _ fine 2 _ 9 refl))
 
-four-digits-requires : tie.Need-four-digits-requires
-four-digits-requires c κs = search needs
+digits-requires : tie.Need-digits-requires
+digits-requires c κs = search needs
 
 mul-date : tie.Need-mul-date
 mul-date c = search needs
 
-four-digits-requires-2 : tie.Need-four-digits-requires-2
-four-digits-requires-2 c κs = search needs
+digits-requires-2 : tie.Need-digits-requires-2
+digits-requires-2 c κs = search needs
 
 add-date : tie.Need-add-date
 add-date c = search needs
@@ -55,8 +54,8 @@ gps-fault-requires c κs = search needs
 gps-clock-requires : tie.Need-gps-clock-requires
 gps-clock-requires c κs = search needs
 
-eight-digits-requires : tie.Need-eight-digits-requires
-eight-digits-requires c κs = search needs
+digits-requires-3 : tie.Need-digits-requires-3
+digits-requires-3 c κs = search needs
 
 slice-aggregate-write-structure : tie.Need-slice-aggregate-write-structure
 slice-aggregate-write-structure c = search needs
@@ -77,26 +76,26 @@ returns c =
     let tenths = made stored in
     let fault = asked tenths in
     let a = start fault .args in
-    let year = fault .before .before .four-digits .ensures .0 in
-    let day = fault .before .four-digits2 .ensures .0 in
+    let year = fault .before .before .digits .ensures .0 in
+    let day = fault .before .digits2 .ensures .0 in
     let clock : ℕ → ℕ = λ s. s * 268435456 + bcd 2 (a .hour) * 65536 + bcd 2 (a .minute) * 256 + bcd 2 (a .second) in
     let clock-kept : fault .gps-fault .result ≡ 0 → tenths .before .gps-clock .result ≡ clock (a .status) =
     λ z. tenths .before .gps-clock .ensures ∙ ap clock (status-kept _ (sym (fault .gps-fault .ensures) ∙ z)) in
     bytes-unasked _ (fault .gps-fault .ensures)
-    (λ z. λ i. structured 0x60 ((year i * 65536 + day i) ∷ clock-kept z i ∷ tenths .eight-digits .ensures i ∷ []) [])
+    (λ z. λ i. structured 0x60 ((year i * 65536 + day i) ∷ clock-kept z i ∷ tenths .digits3 .ensures .0 i ∷ []) [])
     (stored .write-structure .ensures)
 
 pub write-gps-spec : {M : Type 1} → statement M
 write-gps-spec =
     tie.close
     (tie.spec
-    four-digits-requires
+    digits-requires
     mul-date
-    four-digits-requires-2
+    digits-requires-2
     add-date
     gps-fault-requires
     gps-clock-requires
-    eight-digits-requires
+    digits-requires-3
     slice-aggregate-write-structure
     slice-aggregate-write-structure-2
     write-structure-requires
