@@ -225,7 +225,7 @@ module _ (bs : List ℕ) (c p : ℕ) where
   configuration-fault v rest hv is (inr w) =
       let rs : List Record = w .before in
       let n : ℕ = length (recordsBytes rs ++ w .part) in
-      at-entry v rs (w .part) (w .beyond) hv (w .valid) (w .left)
+      at-entry v rs (w .part) (w .beyond) hv (w .valid) (omega (arith, w .left))
       (subst (λ (x : ℕ). Cut bs (headerBytes v ++ (front x n ++ recordsBytes rs)) (w .part) (w .beyond) p)
       (equal-passed (w .word) configurationWord 4 (w .head-ok))
       (within-cut configurationHead configurationLate entry bs (headerBytes v) c p rest is w))
@@ -233,11 +233,11 @@ module _ (bs : List ℕ) (c p : ℕ) where
 
   event-fault : (f : File) (rest : List ℕ) → Valid f → 1 ≤ length rest → bs ≡ fileBytes f ++ rest → InEvent f rest c p → FirstFault bs c p
   event-fault f rest v left is (inl (here, own)) =
-      at-event f rest v left
+      at-event f rest v (omega arith)
       (record { splits = is ∙ ap (λ (r : List ℕ). fileBytes f ++ r) (sym (append-nil rest)); place = here })
       (subst (λ (m : ℕ). Itself eventHead eventLate rest c m) (sym here) own)
   event-fault f rest v left is (inr w) =
-      at-record f (w .word) (w .before) (w .part) (w .beyond) v (w .head-ok) (w .valid) (w .left)
+      at-record f (w .word) (w .before) (w .part) (w .beyond) v (w .head-ok) (w .valid) (omega (arith, w .left))
       (within-cut eventHead eventLate (event none) bs (fileBytes f) c p rest is w)
       (w .fault)
 
@@ -319,9 +319,9 @@ parts-refused bs c p l (at-entry v rs part beyond hv valid left cut e) =
     let X : List ℕ = headerBytes v in
     configuration-refuses bs c p v _ hv (cut .splits ∙ append-assoc X _ (part ++ beyond))
     (inr (cut-within configurationHead configurationLate entry bs X c p configurationWord rs part beyond l
-    (omega arith) refl refl valid left cut e))
+    (omega arith) refl refl valid (omega arith) cut e))
 parts-refused bs c p l (at-event f part v left cut own) =
-    event-refuses bs c p f part v left (cut .splits ∙ ap (λ (r : List ℕ). fileBytes f ++ r) (append-nil part))
+    event-refuses bs c p f part v (omega arith) (cut .splits ∙ ap (λ (r : List ℕ). fileBytes f ++ r) (append-nil part))
     (inl (cut .place, subst (λ (m : ℕ). Itself eventHead eventLate part c m) (cut .place) own))
 parts-refused bs c p l (at-record f w rs part beyond v admitted valid left cut e) =
     let X : List ℕ = fileBytes f in
