@@ -35,7 +35,7 @@ use Rattle.demands.specs.Edited.{startOf, pair, replaced}
 use Rattle.demands.proofs.Bundles.{recordItem, eventItem, headerItem, record-valid}
 use Rattle.demands.proofs.Follows.{parts-ok, parts-valid, file-complete}
 use Rattle.demands.proofs.RowLaws.{container-size}
-use Rattle.demands.proofs.RecordLaws.{rows-read, Reads-at}
+use Rattle.demands.proofs.ContentLaws.{record-at-row}
 use Rattle.demands.proofs.PartLaws.{byte-found, samples-given}
 use Rattle.demands.proofs.SpotLaws.{recordsBefore, recordsAfter, placeOf, records-split}
 
@@ -58,7 +58,7 @@ found-at : (v : ℕ) (c : Container) (p : Spot) (r : Record) (bs : List ℕ) →
     → recordFound bs (startOf (v, (c, plug p r)) k) ≡ foundAs (startOf (v, (c, plug p r)) k) (beside c p r k)
 found-at v c p r bs h e k l =
     let f : File = (v, (c, plug p r)) in
-    Reads-at bs (rowsOf f) (rowRecords f) (rows-read bs f h e) k l
+    record-at-row bs f h e k l
     ∙ ap (λ (ls : List (Option Record)). foundAs (startOf f k) (getD ls k none)) (records-split v c p r)
 
 -- ---- one byte of a sample

@@ -19,6 +19,8 @@ pub mod NumberLaws
 pub mod NumberExamples
 pub mod OutputLaws
 pub mod WriterLaws
+pub mod PieceLaws
+pub mod ContentLaws
 pub mod ClosingLaws
 pub mod AssemblyLaws
 pub mod GrantLaws

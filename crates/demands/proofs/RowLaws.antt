@@ -85,7 +85,7 @@ rowsBehind f = eventRows (nextRow 2 (configurationOf f)) (nextPlace 8 (configura
 -- ---- no child is a box
 
 -- the row kinds of records are no boxes, whatever the kind word
-child-kind : (k : ℕ) → isBox (kindOf k .row) ≡ false
+pub child-kind : (k : ℕ) → isBox (kindOf k .row) ≡ false
 child-kind k = kind-cases (λ w x. isBox (x .row) ≡ false) k refl refl refl refl refl refl refl refl refl
 
 children-good : (rs : List Record) → GoodChildren isBox (childrenOf rs)

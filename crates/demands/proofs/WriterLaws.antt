@@ -203,7 +203,7 @@ module _ (place : ℕ) (f : History) (e : historyFault f ≡ 0) where
   trigger-place : place + 8 + triggerAt (historyBytes f) ≡ triggerFrom place f
   trigger-place = omega (arith, after-section 0 (historyBytes f) (f .veto) veto-is)
 
-  history-answer : historyKind .values place (historyBytes f)
+  pub history-answer : historyKind .values place (historyBytes f)
       ≡ counts (sectionAnswer (vetoFrom place f) (f .veto) ++ sectionAnswer (triggerFrom place f) (f .trigger))
   history-answer =
       let b : List ℕ = historyBytes f in

@@ -6,6 +6,7 @@ pub mod Assembly
 pub mod FirstFault
 pub mod RowRecords
 pub mod Parents
+pub mod RowContents
 pub mod Edited
 pub mod RowTraces
 pub mod Numbers

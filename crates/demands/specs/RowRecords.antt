@@ -1,15 +1,12 @@
 -- Which record each row is: beside the rows of a file, in the same order, the record or entry of that row, and none for the header,
 -- the configuration and the events.
 use Prim.Native.Nat.{ℕ}
-use mathlib.Core.Path.{_≡_}
 use mathlib.Core.List.{List, [], _∷_, _++_, map}
 use mathlib.Core.Option.{Option, some, none}
 use Rattle.theory.specs.Tests.{Res, ok, bad}
-use Rattle.theory.specs.Layout.{Row}
 use Rattle.note.specs.Records.{Record}
 use Rattle.note.specs.Events.{Container}
 use Rattle.note.specs.Files.{File, configurationOf, eventsOf}
-use Rattle.note.specs.Calls.{recordFound}
 
 -- A container's rows: itself, then what it holds.
 abbrev pub containerRecords : Container → List (Option Record)
@@ -26,10 +23,3 @@ rowRecords f = none ∷ (containerRecords (configurationOf f) ++ eventsRecords (
 abbrev pub foundAs : ℕ → Option Record → Res Record
 foundAs place none = bad 5 place
 foundAs place (some r) = ok r
-
--- At every row's first byte Record finds what the row is.
-abbrev pub Reads : List ℕ → List Row → List (Option Record) → Type 0
-Reads bs [] [] = Unit {0}
-Reads bs [] (l ∷ ls) = ⊥
-Reads bs (r ∷ rs) [] = ⊥
-Reads bs (r ∷ rs) (l ∷ ls) = (recordFound bs (r .start) ≡ foundAs (r .start) l) × Reads bs rs ls

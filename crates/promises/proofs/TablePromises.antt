@@ -1,5 +1,5 @@
--- Demand 3, of what Table gives: the rows that stand in its buffer tile the file, lie inside their parents and are at most an eighth of
--- the length; the rest of the buffer is unchanged, and on a refusal all of it.
+-- Demand 3, of what Table gives: the rows that stand in its buffer tile the file, lie each inside its one parent, say what stands at their
+-- starts and are at most an eighth of the length; the rest of the buffer is unchanged, and on a refusal all of it.
 -- The idea: the rows read back from the buffer are the rows of the file, of which the demands are proved.
 use mathlib.Core.Path.{_≡_, refl, sym, ap, ap₂, _∙_, subst}
 use mathlib.Core.Logic.{_≢_}
@@ -22,8 +22,10 @@ use Rattle.note.specs.Files.{File, readFile}
 use Rattle.note.specs.Rows.{rowsOf, isBox, rowNumbers, flat, fits, tableGiven, tableFilled, tableAnswer, tableBuffer}
 use Rattle.note.proofs.FlatLaws.{length-flat, flat-at}
 use Rattle.demands.specs.Parents.{ParentByKind}
+use Rattle.demands.specs.RowContents.{RowRead}
 use Rattle.demands.proofs.RowLaws.{rows-inside, rows-tile-file, few-rows-in-file, parent-before-child}
 use Rattle.demands.proofs.ParentLaws.{parent-by-kind}
+use Rattle.demands.proofs.ContentLaws.{rows-read}
 use Rattle.promises.specs.Buffers.{numberAt, rowAt, rowsFrom, tableCount, tableRows, tableRow}
 use Rattle.demands.proofs.RefusalLaws.{refusal-is-numbered}
 
@@ -222,3 +224,7 @@ module _ (bs old : List ℕ) (zero-given : tableAnswer bs (length old) .number �
     -- Header, configuration and events have no parent, entries have the configuration's row, records that of an event.
     pub table-parent-by-kind : (j : ℕ) → j < tableCount bs old → ParentByKind (tableRows bs old) (tableRow bs old j)
     table-parent-by-kind = of-table (λ rs j r. ParentByKind rs r) (λ f e. parent-by-kind bs f h e)
+
+    -- Kind, start, whole length and both values of row j of the buffer are those of what stands there.
+    pub table-rows-read : (j : ℕ) → j < tableCount bs old → RowRead bs (tableRows bs old) j (tableRow bs old j)
+    table-rows-read = of-table (RowRead bs) (λ f e. rows-read bs f h e)

@@ -1,0 +1,78 @@
+-- Document 01, 'Rows and calls', of a row's numbers: what kind, start, whole length and both values say of the bytes that stand there. The
+-- parent is told in Parents.
+use Prim.Native.Nat.{ℕ, suc, _+_, _/_, _%_, _≤_}
+use mathlib.Core.Path.{_≡_}
+use mathlib.Core.Logic.{_≢_}
+use mathlib.Core.List.{List}
+use Rattle.theory.specs.Tests.{ok}
+use Rattle.theory.specs.Layout.{Row, childCount}
+use Rattle.note.specs.Words.{word, unsigned}
+use Rattle.note.specs.Gps.{gpsBytes}
+use Rattle.note.specs.Records.{recordSize}
+use Rattle.note.specs.Calls.{recordFound, recordAt}
+use Rattle.demands.specs.Pieces.{Piece, phonon, charge, administrative, trace, history, gps, trigger, tlb, recordOf, answerOf}
+
+-- The header's row: the file's first eight bytes, the version word.
+pub record HeaderRow (bs : List ℕ) (r : Row) : Type 0 where
+  pub kind : r .kind ≡ 1
+  pub start : r .start ≡ 0
+  pub whole : r .whole ≡ 8
+  pub first-word : word 0 bs ≡ 0x01020304
+  pub one : r .one ≡ word 4 bs
+  pub two : r .two ≡ 0
+
+-- The configuration's row: it stands at byte 8; its length word; as many entries as rows have it, row number 2, as their parent.
+pub record ConfigurationRow (bs : List ℕ) (all : List Row) (r : Row) : Type 0 where
+  pub kind : r .kind ≡ 2
+  pub start : r .start ≡ 8
+  pub first-word : word (r .start) bs ≡ 0x00010000
+  pub whole : r .whole ≡ 8 + word (r .start + 4) bs
+  pub one : r .one ≡ childCount 2 all
+  pub two : r .two ≡ 0
+
+-- An event's row, row j from 0: the halves of its first word; its length word; as many records as rows have it as their parent.
+pub record EventRow (bs : List ℕ) (all : List Row) (j : ℕ) (r : Row) : Type 0 where
+  pub upper-half : word (r .start) bs / 65536 ≡ 0xA980
+  pub whole : r .whole ≡ 8 + word (r .start + 4) bs
+  pub one : r .one ≡ word (r .start) bs % 65536
+  pub two : r .two ≡ childCount (suc j) all
+
+-- The row kind of a record or an entry, and its row's two values, as fields of Record's answer; of GPS the two words that the fields make.
+unfoldable pub rowKind : Piece → ℕ
+rowKind (phonon f) = 3
+rowKind (charge f) = 4
+rowKind (administrative f) = 6
+rowKind (trace f) = 7
+rowKind (history f) = 8
+rowKind (gps f) = 9
+rowKind (trigger f) = 10
+rowKind (tlb f) = 11
+
+unfoldable pub rowValues : Piece → ℕ × ℕ
+rowValues (phonon f) = (unsigned (f .code), unsigned (f .tower))
+rowValues (charge f) = (unsigned (f .code), unsigned (f .tower))
+rowValues (administrative f) = (f .number, f .time)
+rowValues (trace f) = (f .code, f .n)
+rowValues (history f) = (f .veto .count, f .trigger .count)
+rowValues (gps f) = (word 0 (gpsBytes f), word 4 (gpsBytes f))
+rowValues (trigger f) = (f .mask1, f .mask2)
+rowValues (tlb f) = (f .tower1, f .tower2)
+
+-- The row of a record or an entry: the fields that Record answers at its start, of the record that it finds there; that record's kind and
+-- size; two of those fields.
+pub record PieceRow (bs : List ℕ) (r : Row) : Type 0 where
+  pub fields : Piece
+  pub found : recordFound bs (r .start) ≡ ok (recordOf fields)
+  pub answer : recordAt bs (r .start) ≡ answerOf (r .start) fields
+  pub kind : r .kind ≡ rowKind fields
+  pub whole : r .whole ≡ recordSize (recordOf fields)
+  pub one : r .one ≡ rowValues fields .0
+  pub two : r .two ≡ rowValues fields .1
+
+-- Row j of the rows all, from 0: the first is the header's, the second the configuration's; behind them a row of kind 5 is an event's, any
+-- other that of an entry or a record.
+pub record RowRead (bs : List ℕ) (all : List Row) (j : ℕ) (r : Row) : Type 0 where
+  pub header : j ≡ 0 → HeaderRow bs r
+  pub configuration : j ≡ 1 → ConfigurationRow bs all r
+  pub event : 2 ≤ j → r .kind ≡ 5 → EventRow bs all j r
+  pub piece : 2 ≤ j → r .kind ≢ 5 → PieceRow bs r
