@@ -1,4 +1,5 @@
--- Each number that stands in a call's list (specs/Numbers) is given by some input: the calls, computed. 1 is given over the limit, whatever stands there.
+-- The lists of specs/Numbers are the numbers that the calls give for these inputs, computed: no list has a number that its call never gives. 1 is
+-- given over the limit, whatever stands there.
 use mathlib.Core.Path.{_≡_, refl}
 use mathlib.Core.List.{List, [], _∷_, _++_, map}
 use Prim.Native.Nat.{ℕ, _<_}
@@ -6,19 +7,21 @@ use borrow.Author.Tests.{lt-leb}
 use lib.Dec.{leb}
 use lib.IntN.{pos}
 use lib.ListN.{length, drop}
-use Rattle.theory.specs.Tests.{Res, bad, need, unless}
+use Rattle.theory.specs.Tests.{Res, ok, bad, need, unless}
 use Rattle.note.specs.Limits.{fileLimit}
 use Rattle.note.specs.Words.{words}
 use Rattle.note.specs.Answers.{Given, refused}
 use Rattle.note.specs.Channels.{channelAnswer, codeAnswer}
-use Rattle.note.specs.Records.{Record, alone, readRecord}
-use Rattle.note.specs.Files.{File, readParts, readFile}
+use Rattle.note.specs.Records.{entry, event, none, alone, readRecord}
+use Rattle.note.specs.Files.{readParts, readFile}
 use Rattle.note.specs.Rows.{tableAnswer}
 use Rattle.note.specs.Calls.{recordFound, recordAt, settingAt, sampleAt}
 use Rattle.note.specs.Writers.{wrote, recordWrote, headerWrote, configurationClosed, eventClosed, rewriteWrote}
 use Rattle.note.specs.Examples.{after, p14}
 use Rattle.note.proofs.Computing.{computing}
 use Rattle.demands.specs.Pieces.{Piece, phonon, charge, administrative, trace, history, gps, trigger, tlb, writtenOf}
+use Rattle.demands.specs.Numbers.{recordNumbers, headerNumbers, configurationNumbers, restNumbers, writerNumbers}
+use Rattle.demands.specs.Numbers.{configurationClosingNumbers, eventClosingNumbers}
 
 -- ---- 1
 
@@ -58,16 +61,23 @@ unnamed = 0x00010002 ∷ 32 ∷ 0 ∷ 0 ∷ 0 ∷ 0 ∷ 0 ∷ 0 ∷ 0 ∷ 0 ∷ 
 abbrev configured : ℕ → List ℕ → List ℕ
 configured n ws = words (0x01020304 ∷ 0x01000200 ∷ 0x00010000 ∷ n ∷ ws)
 
+-- Refusals of these numbers at one place; the numbers of refusals.
+abbrev at : {A : Type 0} → ℕ → List ℕ → List (Res A)
+at place ns = map (λ (c : ℕ). bad c place) ns
+
+abbrev number : {A : Type 0} → Res A → ℕ
+number (ok a) = 0
+number (bad c p) = c
+
 -- Of the header; of the configuration; of all that stands behind.
 pub file-numbers-given :
-    map readFile (
-    [] ∷ words (0 ∷ 0 ∷ []) ∷ words (0x01020304 ∷ 0 ∷ []) ∷
-    words (0x01020304 ∷ 0x01000200 ∷ []) ∷ words (0x01020304 ∷ 0x01000200 ∷ 0 ∷ 0 ∷ []) ∷
+    (map readFile ([] ∷ words (0 ∷ 0 ∷ []) ∷ words (0x01020304 ∷ 0 ∷ []) ∷ []) ≡ at 0 headerNumbers)
+    × (map readFile (words (0x01020304 ∷ 0x01000200 ∷ []) ∷ words (0x01020304 ∷ 0x01000200 ∷ 0 ∷ 0 ∷ []) ∷ []) ≡ at 8 configurationNumbers)
+    × (map (λ bs. number (readFile bs)) (
     after (0 ∷ []) ∷ after (0 ∷ 0 ∷ []) ∷ configured 8 (0x00010001 ∷ 0 ∷ []) ∷ after (0xA9801000 ∷ 0 ∷ []) ∷ after (0xA9800007 ∷ 0 ∷ []) ∷
-    after (0xA9800000 ∷ 0 ∷ []) ∷ configured 40 unnamed ∷ after (0xA9800000 ∷ 88 ∷ (dated ++ unsampled)) ∷ [])
-    ≡ bad 2 0 ∷ bad 3 0 ∷ bad 4 0 ∷ bad 2 8 ∷ bad 5 8 ∷ bad 2 16 ∷ bad 5 16 ∷ bad 6 16 ∷ bad 7 16 ∷ bad 8 16 ∷ bad 9 16 ∷ bad 10 16 ∷ bad 11 56 ∷ []
+    after (0xA9800000 ∷ 0 ∷ []) ∷ configured 40 unnamed ∷ after (0xA9800000 ∷ 88 ∷ (dated ++ unsampled)) ∷ []) ≡ restNumbers)
 unfolding computing
-file-numbers-given = refl
+file-numbers-given = (refl, refl, refl)
 
 pub table-number-given : tableAnswer p14 29 ≡ record { number = 12; count = 5; place = 88 }
 unfolding computing
@@ -79,7 +89,7 @@ abbrev records : List (List ℕ)
 records = [] ∷ words (0 ∷ 0 ∷ []) ∷ words (0x02 ∷ 0 ∷ []) ∷ words unnamed ∷ words unsampled ∷ []
 
 abbrev refusals : List Given
-refusals = refused 2 0 ∷ refused 5 0 ∷ refused 6 0 ∷ refused 10 0 ∷ refused 11 0 ∷ []
+refusals = map (λ (c : ℕ). refused c 0) (recordNumbers alone)
 
 pub record-numbers-given : (map (λ bs. recordAt bs 0) records ≡ refusals) × (map (λ bs. settingAt bs 0) records ≡ refusals)
     × (map (λ bs. sampleAt bs 0 1) records ≡ refusals)
@@ -146,14 +156,17 @@ abbrev given : List Piece → List (Res ℕ)
 given ps = map (λ (p : Piece). recordWrote [] 3 (writtenOf p)) ps
 
 pub writer-numbers-given :
-    (given (phononOfCode 0 ∷ phononOfCode 10001003 ∷ chargeOfCode 0 ∷ chargeOfCode 10001000 ∷ dateOf 0 ∷ dateOf 1100115 ∷ [])
-    ≡ bad 10 3 ∷ bad 13 3 ∷ bad 10 3 ∷ bad 13 3 ∷ bad 10 3 ∷ bad 13 3 ∷ [])
+    (given (phononOfCode 0 ∷ phononOfCode 10001003 ∷ []) ≡ at 3 (writerNumbers (phononOfCode 0)))
+    × (given (chargeOfCode 0 ∷ chargeOfCode 10001000 ∷ []) ≡ at 3 (writerNumbers (chargeOfCode 0)))
+    × (given (dateOf 0 ∷ dateOf 1100115 ∷ []) ≡ at 3 (writerNumbers (dateOf 0)))
     × (given (traceOfCount 1 2 [] ∷ traceOfCount 0 2 [] ∷ traceOfCount 1 0 [] ∷ traceOfCount 1 2 (0 ∷ 0 ∷ 0 ∷ 0 ∷ []) ∷ [])
-    ≡ bad 6 3 ∷ bad 10 3 ∷ bad 11 3 ∷ bad 13 3 ∷ [])
-    × (given (historyOfTimes 0 (0 ∷ []) ∷ historyOfTimes 1 [] ∷ historyOfTimes 0 [] ∷ []) ≡ bad 6 3 ∷ bad 10 3 ∷ bad 13 3 ∷ [])
-    × (given (gpsOfDay 366 ∷ gpsOfDay 365 ∷ masks ∷ tlbOfTower 1 ∷ tlbOfTower 0 ∷ []) ≡ bad 10 3 ∷ bad 13 3 ∷ bad 13 3 ∷ bad 10 3 ∷ bad 13 3 ∷ [])
+    ≡ at 3 (writerNumbers (traceOfCount 1 2 [])))
+    × (given (historyOfTimes 0 (0 ∷ []) ∷ historyOfTimes 1 [] ∷ historyOfTimes 0 [] ∷ []) ≡ at 3 (writerNumbers (historyOfTimes 0 [])))
+    × (given (gpsOfDay 366 ∷ gpsOfDay 365 ∷ []) ≡ at 3 (writerNumbers (gpsOfDay 365)))
+    × (given (masks ∷ []) ≡ at 3 (writerNumbers masks))
+    × (given (tlbOfTower 1 ∷ tlbOfTower 0 ∷ []) ≡ at 3 (writerNumbers (tlbOfTower 0)))
 unfolding computing writtenOf
-writer-numbers-given = (refl, refl, refl, refl)
+writer-numbers-given = (refl, refl, refl, refl, refl, refl, refl, refl)
 
 pub header-number-given : headerWrote [] ≡ bad 13 0
 unfolding computing
@@ -172,14 +185,15 @@ abbrev eventOver : List ℕ → Res ℕ
 eventOver ws = eventClosed (eight ws) 0 (length (eight ws)) 0 0 0
 
 pub closing-numbers-given :
-    (configurationClosed [] 3 0 ≡ bad 13 3)
-    × (map configurationOver ((0 ∷ []) ∷ (0 ∷ 0 ∷ []) ∷ (0x00010001 ∷ 0 ∷ []) ∷ unnamed ∷ []) ≡ bad 2 8 ∷ bad 5 8 ∷ bad 6 8 ∷ bad 10 8 ∷ [])
-    × (eventClosed (eight []) 0 8 1 0 0 ≡ bad 7 0) × (eventClosed (eight []) 0 8 0 0 7 ≡ bad 8 0) × (eventOver [] ≡ bad 9 0)
-    × (eventClosed [] 3 0 0 0 0 ≡ bad 13 3)
-    × (map eventOver ((0 ∷ []) ∷ (0 ∷ 0 ∷ []) ∷ (0x02 ∷ 0 ∷ []) ∷ (0x11 ∷ 0 ∷ []) ∷ (0x02 ∷ 24 ∷ 0 ∷ 0 ∷ 0 ∷ 0 ∷ 0 ∷ 0 ∷ []) ∷ (dated ++ unsampled) ∷ [])
-    ≡ bad 2 8 ∷ bad 5 8 ∷ bad 6 8 ∷ bad 9 8 ∷ bad 10 8 ∷ bad 11 40 ∷ [])
+    (configurationClosed [] 3 0 ∷ [] ≡ at 3 configurationClosingNumbers)
+    × (map configurationOver ((0 ∷ []) ∷ (0 ∷ 0 ∷ []) ∷ (0x00010001 ∷ 0 ∷ []) ∷ unnamed ∷ []) ≡ at 8 (recordNumbers entry))
+    × (eventClosed (eight []) 0 8 1 0 0 ∷ eventClosed (eight []) 0 8 0 0 7 ∷ eventOver [] ∷ eventClosed [] 0 0 0 0 0 ∷ []
+    ≡ at 0 eventClosingNumbers)
+    × (map (λ ws. number (eventOver ws)) (
+    (0 ∷ []) ∷ (0 ∷ 0 ∷ []) ∷ (0x02 ∷ 0 ∷ []) ∷ (0x11 ∷ 0 ∷ []) ∷ (0x02 ∷ 24 ∷ 0 ∷ 0 ∷ 0 ∷ 0 ∷ 0 ∷ 0 ∷ []) ∷ (dated ++ unsampled) ∷ [])
+    ≡ recordNumbers (event none))
 unfolding computing
-closing-numbers-given = (refl, refl, refl, refl, refl, refl, refl)
+closing-numbers-given = (refl, refl, refl, refl)
 
 pub rewrite-numbers-given : (rewriteWrote p14 [] ≡ bad 13 0) × (rewriteWrote [] [] ≡ bad 2 0)
 unfolding computing

@@ -35,7 +35,8 @@ use Rattle.note.proofs.RuleNumbers.{history-fault-numbers, gps-fault-numbers, t
 use Rattle.demands.specs.Pieces.{Piece, phonon, charge, administrative, trace, history, gps, trigger, tlb, writtenOf}
 use Rattle.demands.specs.Numbers.{At, From, Refusal, within-limit, recordNumbers, ContainerNumbers, itself, inside}
 use Rattle.demands.specs.Numbers.{FileRefusal, RecordRefusal, TableRefusal, of-file, few-rows}
-use Rattle.demands.specs.Numbers.{writerNumbers, WriterRefusal, ClosingRefusal, RewriteNumbers, of-read, small-output}
+use Rattle.demands.specs.Numbers.{writerNumbers, WriterRefusal, configurationClosingNumbers, eventClosingNumbers, ClosingRefusal}
+use Rattle.demands.specs.Numbers.{RewriteNumbers, of-read, small-output}
 use Rattle.demands.proofs.RefusalLaws.{Gives, need-gives, bind-gives, gives-wider, record-gives, records-give, limit-gives, file-gives}
 use Rattle.demands.proofs.RefusalLaws.{file-numbers}
 
@@ -235,17 +236,18 @@ module _ (out : List ℕ) (place end : ℕ) where
       (gives-wider (From (place + 8) (recordNumbers context)) P r (λ c p h. inside h) (records-give context (place + 8) (contentsOf out place end)))
       (λ rs. tt)
 
-  pub configuration-closing-numbers : (c p : ℕ) → configurationClosed out place end ≡ bad c p → ClosingRefusal out place (13 ∷ []) entry c p
+  pub configuration-closing-numbers : (c p : ℕ) → configurationClosed out place end ≡ bad c p
+      → ClosingRefusal out place configurationClosingNumbers entry c p
   unfolding configurationClosed
   configuration-closing-numbers c p e =
-      subst (Gives (ClosingRefusal out place (13 ∷ []) entry)) e
-      (within-gives (13 ∷ []) (recordNumbers entry) _ refl (contents-give (13 ∷ []) entry))
+      subst (Gives (ClosingRefusal out place configurationClosingNumbers entry)) e
+      (within-gives configurationClosingNumbers (recordNumbers entry) _ refl (contents-give configurationClosingNumbers entry))
 
   pub event-closing-numbers : (class category type c p : ℕ) → eventClosed out place end class category type ≡ bad c p
-      → ClosingRefusal out place (7 ∷ 8 ∷ 9 ∷ 13 ∷ []) (event none) c p
+      → ClosingRefusal out place eventClosingNumbers (event none) c p
   unfolding eventClosed
   event-closing-numbers class category type c p e =
-      let own : List ℕ = 7 ∷ 8 ∷ 9 ∷ 13 ∷ [] in
+      let own : List ℕ = eventClosingNumbers in
       let P : ℕ → ℕ → Type 0 = ContainerNumbers place own (recordNumbers (event none)) in
       let mine : (c : ℕ) → among c own ≡ true → P c place = λ c a. itself (a, refl) in
       let fault : ℕ = eventFault class category type in

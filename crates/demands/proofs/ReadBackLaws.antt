@@ -2,29 +2,24 @@
 -- The idea: the word that stands is the word of these numbers, and the word gives them back (note ContainerFieldLaws).
 use mathlib.Core.Path.{_≡_, refl, sym, ap, _∙_}
 use mathlib.Core.List.{List, [], _∷_, _++_, map, append-assoc}
-use Prim.Native.Nat.{ℕ, _-_, _%_, _<_}
+use Prim.Native.Nat.{ℕ, _-_, _<_}
 use lib.ListN.{take, drop}
 use Rattle.theory.specs.Words.{Bytes, put}
 use Rattle.theory.specs.Tests.{ok}
 use Rattle.theory.proofs.StructureLaws.{second-word}
 use Rattle.note.specs.Words.{order, word}
-use Rattle.note.specs.Events.{Container, classOf, categoryOf, eventTypeOf, eventWord, readEvent}
-use Rattle.note.specs.Files.{File, fileMark, format, versionWord, versionOf, eventsOf, daqMajorOf, daqMinorOf, headerBytes, readHeader, readFile}
+use Rattle.note.specs.Events.{Container, eventWord, readEvent}
+use Rattle.note.specs.Files.{File, fileMark, versionWord, versionOf, eventsOf, headerBytes, readHeader, readFile}
 use Rattle.note.specs.Writers.{headerWrote, headerOutput, eventClosed, eventOutput}
 use Rattle.note.proofs.ContainerFieldLaws.{event-read-back, header-read-back, header-admitted}
 use Rattle.demands.specs.Assembly.{EventPieces, FilePieces, EventsFaultless, FileFits, Built, eventOf, fileOf, fileAssembled}
+use Rattle.demands.specs.Named.{NamedEvent, NamedEvents, NamedVersion}
 use Rattle.demands.proofs.Bundles.{headerItem}
 use Rattle.demands.proofs.OutputLaws.{laid-from}
 use Rattle.demands.proofs.WriterLaws.{header-laid}
 use Rattle.demands.proofs.ClosingLaws.{event-closes, event-faultless}
 use Rattle.demands.proofs.AssemblyLaws.{assembled-accepted}
 use Rattle.demands.proofs.GrantLaws.{granted-exactly}
-
--- An event whose first word names this class, category and type.
-pub record NamedEvent (class category type : ℕ) (x : Container) : Type 0 where
-  pub class-is : classOf (x .kind) ≡ class
-  pub category-is : categoryOf (x .kind) ≡ category
-  pub type-is : eventTypeOf (x .kind) ≡ type
 
 -- The event that a granted closing leaves is read there, with the class, category and type handed over.
 pub closed-event-named : (out : List ℕ) (place end class category type next : ℕ) → Bytes out
@@ -36,12 +31,7 @@ closed-event-named out place end class category type next h e =
     let (a, b, c) = event-read-back class category type (event-faultless out place end class category type next e) in
     (record { kind = eventWord class category type; body = k .records }, k .reads, record { class-is = a; category-is = b; type-is = c })
 
--- A version word with these DAQ bytes and the format 2.0.
-pub record NamedVersion (major minor v : ℕ) : Type 0 where
-  pub major-is : daqMajorOf v ≡ major
-  pub minor-is : daqMinorOf v ≡ minor
-  pub format-is : v % 65536 ≡ format
-
+-- The words of these numbers have them.
 version-named : (major minor : ℕ) → major < 256 → minor < 256 → NamedVersion major minor (versionWord major minor)
 version-named major minor a b =
     let (x, y, z) = header-read-back major minor a b in
@@ -63,13 +53,6 @@ written-header-named out major minor next a b e =
     let read : readHeader tt 0 new ≡ ok v = ap (headerItem .read tt 0) stands ∙ headerItem .complete tt 0 v rest (rule, fits) in
     let named : NamedVersion major minor (word 4 new) = rw second (version-named major minor a b) in
     (read ∙ ap ok (sym second), named)
-
--- Events in order, each with the numbers of its pieces.
-abbrev pub NamedEvents : List EventPieces → List Container → Type 0
-NamedEvents [] [] = Unit {0}
-NamedEvents [] (x ∷ xs) = ⊥
-NamedEvents (e ∷ es) [] = ⊥
-NamedEvents (e ∷ es) (x ∷ xs) = NamedEvent (e .class) (e .category) (e .type) x × NamedEvents es xs
 
 events-named : (es : List EventPieces) → EventsFaultless es → NamedEvents es (map eventOf es)
 events-named [] h = tt

@@ -23,6 +23,7 @@ use Rattle.note.specs.Files.{readHeader, readConfiguration, readParts, readFile
 use Rattle.note.proofs.BoolLaws.{among-tells, upTo, one-up-to}
 use Rattle.note.proofs.RuleNumbers.{rule-numbers, entry-rule-numbers, event-word-numbers}
 use Rattle.demands.specs.Numbers.{At, From, Refusal, over-limit, within-limit, recordNumbers, ContainerNumbers, itself, inside}
+use Rattle.demands.specs.Numbers.{headerNumbers, configurationNumbers, restNumbers}
 use Rattle.demands.specs.Numbers.{FileNumbers, of-header, of-configuration, of-rest, FileRefusal}
 
 -- An answer, or a refusal of this sort.
@@ -148,11 +149,11 @@ container-gives head late c own two heads lates s at bs =
     structure-gives order head late (λ s at bs. readRecords c (at + 8) bs) P own two s heads lates at bs (λ n h. itself (h, refl))
     (λ w part h. gives-wider (From (at + 8) (recordNumbers c)) P (readRecords c (at + 8) part) (λ n p e. inside e) (records-give c (at + 8) part))
 
-configuration-gives : (at : ℕ) (bs : List ℕ) → Gives (ContainerNumbers at (2 ∷ 5 ∷ []) (recordNumbers entry)) (readConfiguration tt at bs)
+configuration-gives : (at : ℕ) (bs : List ℕ) → Gives (ContainerNumbers at configurationNumbers (recordNumbers entry)) (readConfiguration tt at bs)
 unfolding readConfiguration Numbered
 configuration-gives at bs =
-    container-gives configurationHead configurationLate entry (2 ∷ 5 ∷ []) refl (λ w. unless-numbered (2 ∷ 5 ∷ []) (eqb w configurationWord) 5 refl)
-    (λ w n. tt) tt at bs
+    container-gives configurationHead configurationLate entry configurationNumbers refl
+    (λ w. unless-numbered configurationNumbers (eqb w configurationWord) 5 refl) (λ w n. tt) tt at bs
 
 event-gives : (at : ℕ) (bs : List ℕ)
     → Gives (ContainerNumbers at (2 ∷ 5 ∷ 7 ∷ 8 ∷ 9 ∷ []) (recordNumbers (event none))) (readEvent tt at bs)
@@ -161,25 +162,21 @@ event-gives at bs =
     container-gives eventHead eventLate (event none) (2 ∷ 5 ∷ 7 ∷ 8 ∷ 9 ∷ []) refl
     (λ w. numbered-wider (5 ∷ 7 ∷ 8 ∷ []) _ (eventHead tt w) refl (event-word-numbers w)) (λ w n. unless-numbered _ (leb 1 n) 9 refl) tt at bs
 
--- All that can stand behind a configuration's first eight bytes.
-abbrev behindNumbers : List ℕ
-behindNumbers = 2 ∷ 5 ∷ 6 ∷ 7 ∷ 8 ∷ 9 ∷ 10 ∷ 11 ∷ []
-
-events-give : (from at : ℕ) (bs : List ℕ) → from ≤ at → Gives (From from behindNumbers) (readEvents tt at bs)
+events-give : (from at : ℕ) (bs : List ℕ) → from ≤ at → Gives (From from restNumbers) (readEvents tt at bs)
 unfolding readEvents
 events-give from at bs l =
-    let P : ℕ → ℕ → Type 0 = From from behindNumbers in
+    let P : ℕ → ℕ → Type 0 = From from restNumbers in
     sequence-gives eventStep containerSize readEvent P (λ s q. from ≤ q) (λ s q e h. omega (arith, h))
     (λ s q bs h. gives-wider _ P (readEvent tt q bs) (λ n p e. spread q n p h e) (event-gives q bs)) (length bs) tt at bs l
   where
-    spread : (q n p : ℕ) → from ≤ q → ContainerNumbers q (2 ∷ 5 ∷ 7 ∷ 8 ∷ 9 ∷ []) (recordNumbers (event none)) n p → From from behindNumbers n p
-    spread q n p h (itself (a, e)) = (among-wider (2 ∷ 5 ∷ 7 ∷ 8 ∷ 9 ∷ []) behindNumbers n refl a, omega arith)
-    spread q n p h (inside (a, e)) = (among-wider (recordNumbers (event none)) behindNumbers n refl a, omega arith)
+    spread : (q n p : ℕ) → from ≤ q → ContainerNumbers q (2 ∷ 5 ∷ 7 ∷ 8 ∷ 9 ∷ []) (recordNumbers (event none)) n p → From from restNumbers n p
+    spread q n p h (itself (a, e)) = (among-wider (2 ∷ 5 ∷ 7 ∷ 8 ∷ 9 ∷ []) restNumbers n refl a, omega arith)
+    spread q n p h (inside (a, e)) = (among-wider (recordNumbers (event none)) restNumbers n refl a, omega arith)
 
-header-gives : (bs : List ℕ) → Gives (At 0 (2 ∷ 3 ∷ 4 ∷ [])) (readHeader tt 0 bs)
+header-gives : (bs : List ℕ) → Gives (At 0 headerNumbers) (readHeader tt 0 bs)
 unfolding readHeader
 header-gives bs =
-    let ns : List ℕ = 2 ∷ 3 ∷ 4 ∷ [] in
+    let ns : List ℕ = headerNumbers in
     let P : ℕ → ℕ → Type 0 = At 0 ns in
     let own : (n : ℕ) → among n ns ≡ true → P n 0 = λ n h. (h, refl) in
     let v : ℕ = wordAt order 4 4 bs in
@@ -193,17 +190,17 @@ parts-give : (bs : List ℕ) → Gives FileNumbers (readParts bs)
 unfolding readParts
 parts-give bs =
     pair-gives (λ s v. tt) (λ v. 8) readHeader (readPair (λ s c. tt) containerSize readConfiguration readEvents) FileNumbers tt 0 bs
-    (gives-wider (At 0 (2 ∷ 3 ∷ 4 ∷ [])) FileNumbers (readHeader tt 0 bs) (λ c p h. of-header h) (header-gives bs))
+    (gives-wider (At 0 headerNumbers) FileNumbers (readHeader tt 0 bs) (λ c p h. of-header h) (header-gives bs))
     (λ v. pair-gives (λ s c. tt) containerSize readConfiguration readEvents FileNumbers tt 8 (drop 8 bs)
     (gives-wider _ FileNumbers (readConfiguration tt 8 (drop 8 bs)) spread (configuration-gives 8 (drop 8 bs)))
     (λ x.
     let at : ℕ = 8 + containerSize x in
     let rest : List ℕ = drop (containerSize x) (drop 8 bs) in
-    gives-wider (From 16 behindNumbers) FileNumbers (readEvents tt at rest) (λ c p h. of-rest h) (events-give 16 at rest (omega arith))))
+    gives-wider (From 16 restNumbers) FileNumbers (readEvents tt at rest) (λ c p h. of-rest h) (events-give 16 at rest (omega arith))))
   where
-    spread : (c p : ℕ) → ContainerNumbers 8 (2 ∷ 5 ∷ []) (recordNumbers entry) c p → FileNumbers c p
+    spread : (c p : ℕ) → ContainerNumbers 8 configurationNumbers (recordNumbers entry) c p → FileNumbers c p
     spread c p (itself h) = of-configuration h
-    spread c p (inside (a, e)) = of-rest (among-wider (recordNumbers entry) behindNumbers c refl a, e)
+    spread c p (inside (a, e)) = of-rest (among-wider (recordNumbers entry) restNumbers c refl a, e)
 
 -- Whatever asks first that a lent buffer of n bytes is within the limit.
 pub limit-gives : {A : Type 0} (P : ℕ → ℕ → Type 0) (n : ℕ) (r : Res A) → Gives P r → Gives (Refusal n P) (need (unless (leb n fileLimit) 1) 0 r)
@@ -228,9 +225,9 @@ in-table ns (suc c) z u h = (omega arith, one-up-to 11 ns (suc c) u (among-tells
 
 file-in-table : (bs : List ℕ) (c p : ℕ) → FileRefusal bs c p → (0 < c) × (c ≤ 11)
 file-in-table bs c p (over-limit l e q) = (omega arith, omega arith)
-file-in-table bs c p (within-limit l (of-header h)) = in-table (2 ∷ 3 ∷ 4 ∷ []) c refl refl (h .0)
-file-in-table bs c p (within-limit l (of-configuration h)) = in-table (2 ∷ 5 ∷ []) c refl refl (h .0)
-file-in-table bs c p (within-limit l (of-rest h)) = in-table behindNumbers c refl refl (h .0)
+file-in-table bs c p (within-limit l (of-header h)) = in-table headerNumbers c refl refl (h .0)
+file-in-table bs c p (within-limit l (of-configuration h)) = in-table configurationNumbers c refl refl (h .0)
+file-in-table bs c p (within-limit l (of-rest h)) = in-table restNumbers c refl refl (h .0)
 
 pub refusal-is-numbered : (bs : List ℕ) (c p : ℕ) → readFile bs ≡ bad c p → 0 < c
 refusal-is-numbered bs c p e = file-in-table bs c p (file-numbers bs c p e) .0

@@ -10,3 +10,4 @@ pub mod RowContents
 pub mod Edited
 pub mod RowTraces
 pub mod Numbers
+pub mod Named

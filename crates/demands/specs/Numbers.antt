@@ -39,10 +39,19 @@ pub data ContainerNumbers (place : ℕ) (own contents : List ℕ) (c p : ℕ) : 
   inside : From (place + 8) contents c p → ContainerNumbers place own contents c p
 
 -- A file: its header at byte 0, its configuration at byte 8, and all that stands behind the configuration's first eight bytes.
+abbrev pub headerNumbers : List ℕ
+headerNumbers = 2 ∷ 3 ∷ 4 ∷ []
+
+abbrev pub configurationNumbers : List ℕ
+configurationNumbers = 2 ∷ 5 ∷ []
+
+abbrev pub restNumbers : List ℕ
+restNumbers = 2 ∷ 5 ∷ 6 ∷ 7 ∷ 8 ∷ 9 ∷ 10 ∷ 11 ∷ []
+
 pub data FileNumbers (c p : ℕ) : Type 0 where
-  of-header : At 0 (2 ∷ 3 ∷ 4 ∷ []) c p → FileNumbers c p
-  of-configuration : At 8 (2 ∷ 5 ∷ []) c p → FileNumbers c p
-  of-rest : From 16 (2 ∷ 5 ∷ 6 ∷ 7 ∷ 8 ∷ 9 ∷ 10 ∷ 11 ∷ []) c p → FileNumbers c p
+  of-header : At 0 headerNumbers c p → FileNumbers c p
+  of-configuration : At 8 configurationNumbers c p → FileNumbers c p
+  of-rest : From 16 restNumbers c p → FileNumbers c p
 
 -- The refusals of a whole file: those of Find, of a walker's yields and of the visitor.
 abbrev pub FileRefusal : List ℕ → ℕ → ℕ → Type 0
@@ -75,6 +84,12 @@ abbrev pub WriterRefusal : List ℕ → ℕ → List ℕ → ℕ → ℕ → Typ
 WriterRefusal out place ns c p = Refusal (length out) (At place ns) c p
 
 -- A closing's own refusals have the place given; a fault of its contents stands in them.
+abbrev pub configurationClosingNumbers : List ℕ
+configurationClosingNumbers = 13 ∷ []
+
+abbrev pub eventClosingNumbers : List ℕ
+eventClosingNumbers = 7 ∷ 8 ∷ 9 ∷ 13 ∷ []
+
 abbrev pub ClosingRefusal : List ℕ → ℕ → List ℕ → Context → ℕ → ℕ → Type 0
 ClosingRefusal out place own context c p = Refusal (length out) (ContainerNumbers place own (recordNumbers context)) c p
 
