@@ -27,3 +27,4 @@ pub mod GrantLaws
 pub mod ReadBackLaws
 pub mod AssemblyExample
 pub mod EventRecordLaws
+pub mod WriterRefusalLaws

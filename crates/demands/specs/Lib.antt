@@ -2,6 +2,7 @@ pub mod Valid
 pub mod EventRecords
 pub mod Pieces
 pub mod Outputs
+pub mod WriterRefusals
 pub mod Assembly
 pub mod FirstFault
 pub mod RowRecords
