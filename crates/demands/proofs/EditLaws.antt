@@ -31,7 +31,7 @@ use Rattle.note.proofs.TraceLaws.{trace-length, trace-blind, trace-row-blind, t
 use Rattle.note.proofs.TraceLaws.{sample-is-bytes, changed-is-bytes, sample-stays}
 use Rattle.demands.specs.Valid.{ValidRecord, Valid}
 use Rattle.demands.specs.RowRecords.{rowRecords, foundAs}
-use Rattle.demands.specs.Edited.{startOf, pair, replaced}
+use Rattle.demands.specs.Edited.{startOf, pair, halfReplaced, replaced}
 use Rattle.demands.proofs.Bundles.{recordItem, eventItem, headerItem, record-valid}
 use Rattle.demands.proofs.Follows.{parts-ok, parts-valid, file-complete}
 use Rattle.demands.proofs.RowLaws.{container-size}
@@ -74,7 +74,7 @@ module _ (b : List ℕ) (i x : ℕ) (h : Bytes b) (l : i < length b) where
       lower : getD b p 0 < 256
       lower = Bytes-at b p h
 
-      go : (t : Bool) → eqb (i % 2) 0 ≡ t → pair (set b i x) p ≡ cond t (pair b p / 256 * 256 + x) (x * 256 + pair b p % 256)
+      go : (t : Bool) → eqb (i % 2) 0 ≡ t → pair (set b i x) p ≡ halfReplaced t x (pair b p)
       go true e =
           let even : i % 2 ≡ 0 = eqb-true (i % 2) 0 e in
           let here : p ≡ i = omega arith in
@@ -94,7 +94,7 @@ module _ (b : List ℕ) (i x : ℕ) (h : Bytes b) (l : i < length b) where
       lower : getD b p 0 < 256
       lower = Bytes-at b p h
 
-      go : (t : Bool) → eqb (i % 2) 0 ≡ t → cond t (pair b p / 256 * 256 + x) (x * 256 + pair b p % 256) ≢ pair b p
+      go : (t : Bool) → eqb (i % 2) 0 ≡ t → halfReplaced t x (pair b p) ≢ pair b p
       go true e w =
           let even : i % 2 ≡ 0 = eqb-true (i % 2) 0 e in
           let here : p ≡ i = omega arith in

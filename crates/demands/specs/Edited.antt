@@ -3,7 +3,7 @@
 use Prim.Native.Nat.{ℕ, _+_, _-_, _*_, _/_, _%_, _<_}
 use mathlib.Core.Path.{_≡_}
 use mathlib.Core.Logic.{_≢_}
-use mathlib.Core.Bool.{cond}
+use mathlib.Core.Bool.{Bool, true, false}
 use mathlib.Core.List.{List, [], _∷_}
 use lib.Dec.{eqb}
 use lib.ListN.{length, take, drop, getD, set}
@@ -35,9 +35,13 @@ pair bs p = getD bs p 0 + 256 * getD bs (p + 1) 0
 abbrev pub held : List ℕ → ℕ → ℕ → ℕ
 held bs start i = pair bs (start + 56 + 2 * (holder start i - 1))
 
--- A sample s with one of its two bytes replaced by x: the lower one at an even offset, the higher one at an odd one; the other stays.
+-- A sample s with its lower byte (true) or its upper byte replaced by x, the other one kept; at an even offset it is the lower.
+abbrev pub halfReplaced : Bool → ℕ → ℕ → ℕ
+halfReplaced true x s = s / 256 * 256 + x
+halfReplaced false x s = x * 256 + s % 256
+
 abbrev pub replaced : ℕ → ℕ → ℕ → ℕ
-replaced m x s = cond (eqb (m % 2) 0) (s / 256 * 256 + x) (x * 256 + s % 256)
+replaced m x s = halfReplaced (eqb (m % 2) 0) x s
 
 -- Of the trace that begins at `start` and is `whole` bytes long, byte i, inside its samples, becomes x. The sample that holds it is given
 -- before and after; a different byte makes a different sample. Samples gives the same part, and its bytes with that one replaced.
