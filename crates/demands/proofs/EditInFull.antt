@@ -6,7 +6,7 @@ use mathlib.Core.List.{List, [], _∷_}
 use Prim.Native.Nat.{ℕ, _+_, _-_, _*_, _/_, _≤_, _<_}
 use native.Mathlib.Decide.{ℕ-discrete}
 use native.Mathlib.Omega.{arith}
-use lib.ListN.{length, getD, set, length-set}
+use lib.ListN.{length, take, drop, getD, set, length-set}
 use lib.Seq.{getD-set-other}
 use Rattle.theory.specs.Words.{Bytes}
 use Rattle.theory.specs.Tests.{ok}
@@ -17,7 +17,7 @@ use Rattle.note.specs.Records.{Record, recordSize}
 use Rattle.note.specs.Events.{Container}
 use Rattle.note.specs.Files.{File, versionOf, configurationOf, readFile}
 use Rattle.note.specs.Rows.{rowsOf, isBox}
-use Rattle.note.specs.Calls.{recordGiven, settingGiven, sampleGiven, recordAt, settingAt, samplesAt, sampleAt}
+use Rattle.note.specs.Calls.{recordGiven, settingGiven, sampleGiven, recordAt, settingAt, samplesPart, samplesAt, sampleAt}
 use Rattle.demands.specs.Edited.{startOf, offset, pair, replaced, SampleEdited, Edited}
 use Rattle.demands.proofs.Follows.{file-sound}
 use Rattle.demands.proofs.RowLaws.{byte-has-one-row}
@@ -31,6 +31,16 @@ module _ {bs : List ℕ} {v : ℕ} {c : Container} {p : Spot} {t : Record} {j m 
   same-offset : offset (at d j) (i d) ≡ m - 48
   same-offset = omega (arith, d .start, d .from)
 
+  -- The part that Samples gives, and its bytes.
+  part-there : samplesPart bs (at d j) ≡ (at d j + 56, row (rowsOf (old d)) j .whole - 56)
+  part-there =
+      let size : length (t .body) - 48 ≡ row (rowsOf (old d)) j .whole - 56 = omega (arith, d .whole) in
+      part-before d j (d .below) refl ∙ ap (λ (s : ℕ). (at d j + 56, s)) size
+
+  bytes-there : samplesAt bs (at d j) ≡ take (row (rowsOf (old d)) j .whole - 56) (drop (at d j + 56) bs)
+  unfolding samplesAt
+  bytes-there = ap (λ (s : ℕ × ℕ). take (s .1) (drop (s .0) bs)) part-there
+
   -- What is read of the trace whose byte it is.
   trace-edited : SampleEdited bs (at d j) (row (rowsOf (old d)) j .whole) (i d) x
   trace-edited =
@@ -38,7 +48,6 @@ module _ {bs : List ℕ} {v : ℕ} {c : Container} {p : Spot} {t : Record} {j m 
       let bs′ : List ℕ = set bs (i d) x in
       let two : ℕ → ℕ = λ o. pair bs (start + 56 + 2 * (o / 2 + 1 - 1)) in
       let place : start + 56 + (m - 48) ≡ i d = omega (arith, d .start, d .from) in
-      let size : length (t .body) - 48 ≡ row (rowsOf (old d)) j .whole - 56 = omega (arith, d .whole) in
       record {
         before =
             subst (λ (o : ℕ). sampleAt bs start (o / 2 + 1) ≡ accepted (counts (two o ∷ []))) (sym same-offset)
@@ -49,7 +58,8 @@ module _ {bs : List ℕ} {v : ℕ} {c : Container} {p : Spot} {t : Record} {j m 
         differs = λ differs.
             subst (λ (o : ℕ). replaced o x (two o) ≢ two o) (sym same-offset)
             (held-differs d j (d .below) refl (λ e. differs (e ∙ ap (λ (z : ℕ). getD bs z 0) place)));
-        part = part-before d j (d .below) refl ∙ ap (λ (s : ℕ). (start + 56, s)) size;
+        part = part-there;
+        bytes = bytes-there;
         part-stays = part-after d j (d .below) refl ∙ sym (part-before d j (d .below) refl);
         part-bytes =
             subst (λ (o : ℕ). samplesAt bs′ start ≡ set (samplesAt bs start) o x) (sym same-offset) (bytes-after d j (d .below) refl);

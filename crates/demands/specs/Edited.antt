@@ -44,12 +44,14 @@ abbrev pub replaced : ℕ → ℕ → ℕ → ℕ
 replaced m x s = halfReplaced (eqb (m % 2) 0) x s
 
 -- Of the trace that begins at `start` and is `whole` bytes long, byte i, inside its samples, becomes x. The sample that holds it is given
--- before and after; a different byte makes a different sample. Samples gives the same part, and its bytes with that one replaced.
+-- before and after; a different byte makes a different sample. Samples gives all the trace's bytes behind the first 56, the same part
+-- before and after, its bytes with that one replaced.
 pub record SampleEdited (bs : List ℕ) (start whole i x : ℕ) : Type 0 where
   pub before : sampleAt bs start (holder start i) ≡ accepted (counts (held bs start i ∷ []))
   pub after : sampleAt (set bs i x) start (holder start i) ≡ accepted (counts (replaced (offset start i) x (held bs start i) ∷ []))
   pub differs : x ≢ getD bs i 0 → replaced (offset start i) x (held bs start i) ≢ held bs start i
   pub part : samplesPart bs start ≡ (start + 56, whole - 56)
+  pub bytes : samplesAt bs start ≡ take (whole - 56) (drop (start + 56) bs)
   pub part-stays : samplesPart (set bs i x) start ≡ samplesPart bs start
   pub part-bytes : samplesAt (set bs i x) start ≡ set (samplesAt bs start) (offset start i) x
 
