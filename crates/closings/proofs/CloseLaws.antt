@@ -17,7 +17,7 @@ use Rattle.note.specs.Events.{eventWord, eventFault}
 use Rattle.note.specs.Files.{configurationWord}
 use Rattle.note.specs.Writers.{writerGiven, written, contentsOf, ended, closingBytes}
 use Rattle.note.specs.Writers.{configurationClosed, configurationOutput, eventClosed, eventOutput}
-use Rattle.demands.proofs.ClosingLaws.{admitted}
+use Rattle.note.proofs.ContainerFieldLaws.{admitted}
 use Rattle.note.specs.declared.WriterAnswer.{WriterAnswer}
 use Rattle.note.specs.declared.WriterAnswer.the-variants.{Next, Refused}
 use Rattle.stores.proofs.WriterLaws.{next-told, refusal-told, unchanged, stored, written-unasked}
