@@ -1,6 +1,6 @@
 -- A walker for C goes the walker's way: its numbers carry all that a step asks, so from opening its k-th yield is the table's k-th row,
 -- then the end.
--- The idea: a step does not ask what was yielded last, and the numbers that are 32 bits wide fit them.
+-- The idea: a step does not ask what was yielded last, and the numbers that are 32 bits wide fit them: a refusal's is at most 11, rows are few.
 use mathlib.Core.Path.{_≡_, refl, ap, _∙_}
 use mathlib.Core.Bool.{Bool, true, false, cond, and-eq-true-iff}
 use mathlib.Core.List.{List}
@@ -10,15 +10,23 @@ use lib.Dec.{leb, ltb, eqb}
 use lib.ListN.{length}
 use borrow.Author.Tests.{leb-true}
 use Rattle.theory.specs.Words.{Bytes}
+use Rattle.theory.specs.Tests.{Res, ok, bad}
 use Rattle.note.specs.Limits.{fileLimit}
 use Rattle.note.specs.Words.{word}
 use Rattle.note.specs.Answers.{givenYield}
+use Rattle.note.specs.Files.{File, readFile}
 use Rattle.note.specs.Rows.{yieldAt}
 use Rattle.rows.specs.Values.{hasValues}
+use Rattle.demands.proofs.RefusalLaws.{refusal-is-small}
 use Rattle.walk.specs.declared.Spot.{Spot}
-use Rattle.walk.specs.Steps.{stands, bodyIn, stayed, ended, headerStep, recordStep, containerStep, usable, stepOf, openedOf, stepsFrom}
+use Rattle.walk.specs.Steps.{stands, bodyIn, stayed, ended, headerStep, recordStep, containerStep, usable, stepOf}
+use Rattle.walk.specs.Steps.{startGiven, startOf, openedOf, stepsFrom}
 use Rattle.walk.proofs.WalkLaws.{walk-yields, steps-more}
-use Rattle.exports.specs.Walkers.{numbersOf, narrow, spotOf, walkerAfter, Narrow}
+use Rattle.exports.specs.Walkers.{numbersOf, narrow, spotOf, walkerAfter}
+
+-- A spot whose 32-bit numbers are such.
+abbrev Narrow : Spot → Type 0
+Narrow at = (at .number < 4294967296) × (at .parent < 4294967296) × (at .rows < 4294967296)
 
 -- A step does not ask what was yielded last.
 last-unasked : (bs : List ℕ) (at : Spot) → stepOf bs (ended at) ≡ stepOf bs at
@@ -73,23 +81,30 @@ unfolding stepsFrom
 steps-narrow bs zero at h = h
 steps-narrow bs (suc k) at h = steps-narrow bs k (stepOf bs at) (step-narrow bs at h)
 
+-- A walk starts with no row behind it, and with 0 or a refusal's number, which is small.
+opened-narrow : (bs : List ℕ) → Narrow (openedOf bs)
+unfolding openedOf startOf
+opened-narrow bs = step-narrow bs (startGiven (readFile bs)) (go (readFile bs) refl)
+  where
+    go : (r : Res File) → readFile bs ≡ r → Narrow (startGiven r)
+    go (ok f) e = (omega arith, omega arith, omega arith)
+    go (bad c p) e = (omega (arith, refusal-is-small bs c p e), omega arith, omega arith)
+
 -- The numbers after opening and k steps are those of the walk.
-numbers-follow : (bs : List ℕ) → Narrow (openedOf bs) → (k : ℕ) → walkerAfter bs k ≡ numbersOf (stepsFrom bs k (openedOf bs))
+numbers-follow : (bs : List ℕ) (k : ℕ) → walkerAfter bs k ≡ numbersOf (stepsFrom bs k (openedOf bs))
 unfolding walkerAfter stepsFrom
-numbers-follow bs h zero = refl
-numbers-follow bs h (suc k) =
+numbers-follow bs zero = refl
+numbers-follow bs (suc k) =
     let at : Spot = stepsFrom bs k (openedOf bs) in
-    ap (λ (ns : List ℕ). numbersOf (stepOf bs (spotOf ns))) (numbers-follow bs h k)
-    ∙ ap (λ (x : Spot). numbersOf (stepOf bs x)) (carried at (steps-narrow bs k (openedOf bs) h))
+    ap (λ (ns : List ℕ). numbersOf (stepOf bs (spotOf ns))) (numbers-follow bs k)
+    ∙ ap (λ (x : Spot). numbersOf (stepOf bs x)) (carried at (steps-narrow bs k (openedOf bs) (opened-narrow bs)))
     ∙ ap numbersOf (last-unasked bs at ∙ steps-more bs k (openedOf bs))
 
--- The C walker's theorem: what dwj_next tells after opening and k calls before it is the definition's yield with the number k + 1. That
--- the first numbers fit 32 bits is what the types of dwj_open's spot say.
-pub c-walker-yields : (bs : List ℕ) → Bytes bs → Narrow (openedOf bs) → (k : ℕ)
-    → givenYield (stepOf bs (spotOf (walkerAfter bs k)) .last) ≡ yieldAt bs (suc k)
-c-walker-yields bs b h k =
+-- The C walker's theorem: what dwj_next tells after opening and k calls before it is the definition's yield with the number k + 1.
+pub c-walker-yields : (bs : List ℕ) → Bytes bs → (k : ℕ) → givenYield (stepOf bs (spotOf (walkerAfter bs k)) .last) ≡ yieldAt bs (suc k)
+c-walker-yields bs b k =
     let at : Spot = stepsFrom bs k (openedOf bs) in
-    ap (λ (ns : List ℕ). givenYield (stepOf bs (spotOf ns) .last)) (numbers-follow bs h k)
-    ∙ ap (λ (x : Spot). givenYield (stepOf bs x .last)) (carried at (steps-narrow bs k (openedOf bs) h))
+    ap (λ (ns : List ℕ). givenYield (stepOf bs (spotOf ns) .last)) (numbers-follow bs k)
+    ∙ ap (λ (x : Spot). givenYield (stepOf bs x .last)) (carried at (steps-narrow bs k (openedOf bs) (opened-narrow bs)))
     ∙ ap (λ (x : Spot). givenYield (x .last)) (last-unasked bs at ∙ steps-more bs k (openedOf bs))
     ∙ walk-yields bs (suc k) b

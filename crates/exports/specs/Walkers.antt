@@ -1,5 +1,5 @@
 -- A walker for C: its numbers in a lent buffer, any of which are taken, and its yield in lent numbers.
-use Prim.Native.Nat.{ℕ, zero, suc, _%_, _<_}
+use Prim.Native.Nat.{ℕ, zero, suc, _%_}
 use mathlib.Core.List.{List, [], _∷_}
 use lib.ListN.{getD}
 use Rattle.note.specs.declared.WalkerYield.{WalkerYield}
@@ -35,7 +35,3 @@ rowAfter old (Refused number place) = old
 unfoldable pub walkerAfter : List ℕ → ℕ → List ℕ
 walkerAfter bs zero = numbersOf (openedOf bs)
 walkerAfter bs (suc k) = numbersOf (stepOf bs (spotOf (walkerAfter bs k)))
-
--- A spot whose 32-bit numbers are such.
-abbrev pub Narrow : Spot → Type 0
-Narrow at = (at .number < 4294967296) × (at .parent < 4294967296) × (at .rows < 4294967296)
