@@ -57,7 +57,7 @@ days-tell false A d told = (
   λ h. le-tells d 365 .1 (⊎-elim (λ l. l) (λ l. absurd (mathlib.Core.Bool.false≢true (told .1 (l .1)))) h),
 )
 
-day-tells : (y d : ℕ) → Tells (leb 1 d && leb d (daysOfYear y)) (DayOfYear y d)
+pub day-tells : (y d : ℕ) → Tells (leb 1 d && leb d (daysOfYear y)) (DayOfYear y d)
 day-tells y d = both-tell (le-tells 1 d) (days-tell (isLeap y) (Leap y) d (leap-tells y))
 
 -- n + m digits are m digits above n.

@@ -24,3 +24,5 @@ pub mod WordRuleLaws
 pub mod PlaceLaws
 pub mod ReadingLaws
 pub mod ListingLaws
+pub mod FieldFaultLaws
+pub mod ValueLaws

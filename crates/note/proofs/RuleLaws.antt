@@ -134,7 +134,7 @@ HistoryAsked b =
     asks (length b ≡ sectionEnd (sectionEnd 0 b) b) 6
     fine))))
 
-width-tells : (trigger : Bool) (n w : ℕ) → Tells (isWidth trigger n w) (Width trigger n w)
+pub width-tells : (trigger : Bool) (n w : ℕ) → Tells (isWidth trigger n w) (Width trigger n w)
 width-tells trigger n w = (width-means trigger n w, means-width trigger n w)
 
 section-gives : (trigger : Bool) (p : ℕ) (b ds : List ℕ) (rest : ℕ → Type 0) → Gives ds rest

@@ -1,0 +1,100 @@
+-- What Record and Setting give for each kind, by the places of the words: the row kind, then the fields in word order. So two exchanged
+-- fields, or one read from another place, show.
+use Prim.Native.Nat.{ℕ, _+_, _*_}
+use mathlib.Core.Path.{_≡_, refl, ap}
+use mathlib.Core.List.{List, [], _∷_, map}
+use lib.IntN.{ℤ}
+use Rattle.theory.specs.Tests.{ok}
+use Rattle.note.specs.Words.{word, signed}
+use Rattle.note.specs.Answers.{Value, accepted, whole, float, count, counts, wholes}
+use Rattle.note.specs.Phonon.{phononOf}
+use Rattle.note.specs.Charge.{chargeOf}
+use Rattle.note.specs.Administrative.{administrativeOf}
+use Rattle.note.specs.Trace.{traceOf}
+use Rattle.note.specs.History.{widthAt, widthOf, after, sectionValues}
+use Rattle.note.specs.Gps.{Gps, gpsOf}
+use Rattle.note.specs.Trigger.{triggerOf}
+use Rattle.note.specs.Tlb.{tlbOf}
+use Rattle.note.specs.Records.{Record, kindOf}
+use Rattle.note.specs.Calls.{recordGiven, hundredth, phononSetting, chargeSetting, settingGiven}
+use Rattle.note.proofs.RuleLaws.{timesIn, widthIn, sectionEnd}
+use Rattle.note.proofs.GpsRuleLaws.{GpsMeans, means-fields}
+
+-- A record or entry of kind k with the body b.
+abbrev structure : ℕ → List ℕ → Record
+structure k b = record { kind = k; body = b }
+
+module _ (place : ℕ) (b : List ℕ) where
+  -- The words at these places, signed.
+  abbrev signedAt : List ℕ → List ℤ
+  signedAt ps = map (λ (p : ℕ). signed (word p b)) ps
+
+  abbrev wordsAt : List ℕ → List ℕ
+  wordsAt ps = map (λ (p : ℕ). word p b) ps
+
+  pub phonon-values : recordGiven place (ok (structure 0x00010001 b))
+      ≡ accepted (count 3 ∷ wholes (signedAt (0 ∷ 4 ∷ 8 ∷ 12 ∷ 16 ∷ 20 ∷ 24 ∷ 28 ∷ 32 ∷ 36 ∷ 40 ∷ [])))
+  unfolding kindOf phononOf
+  phonon-values = refl
+
+  pub charge-values : recordGiven place (ok (structure 0x00010002 b))
+      ≡ accepted (count 4 ∷ wholes (signedAt (0 ∷ 4 ∷ 8 ∷ 12 ∷ 16 ∷ 20 ∷ 24 ∷ 28 ∷ [])))
+  unfolding kindOf chargeOf
+  charge-values = refl
+
+  pub administrative-values : recordGiven place (ok (structure 0x02 b))
+      ≡ accepted (count 6 ∷ counts (wordsAt (0 ∷ 4 ∷ 8 ∷ 12 ∷ 16 ∷ 20 ∷ [])))
+  unfolding kindOf administrativeOf
+  administrative-values = refl
+
+  -- Address, digitizer channel, code, t0, delta t, n.
+  pub trace-values : recordGiven place (ok (structure 0x11 b))
+      ≡ accepted (count 7 ∷ count (word 8 b) ∷ count (word 12 b) ∷ count (word 16 b) ∷ whole (signed (word 28 b))
+      ∷ count (word 32 b) ∷ count (word 44 b) ∷ [])
+  unfolding kindOf traceOf
+  trace-values = refl
+
+  -- Of each section the count, where the times start, the width, where the masks start; the body stands 8 bytes behind the place.
+  pub history-values : recordGiven place (ok (structure 0x21 b))
+      ≡ accepted (count 8 ∷ counts (
+      timesIn 0 b ∷ (place + 8 + 4) ∷ widthIn 0 b ∷ (place + 8 + (0 + 4 + 4 * timesIn 0 b + 4))
+      ∷ timesIn (sectionEnd 0 b) b ∷ (place + 8 + (sectionEnd 0 b + 4))
+      ∷ widthIn (sectionEnd 0 b) b ∷ (place + 8 + (sectionEnd 0 b + 4 + 4 * timesIn (sectionEnd 0 b) b + 4)) ∷ []))
+  unfolding kindOf widthAt widthOf after sectionValues
+  history-values = refl
+
+  -- The seven numbers that the digits spell.
+  pub gps-values : (f : Gps) → GpsMeans b f → recordGiven place (ok (structure 0x60 b))
+      ≡ accepted (count 9 ∷ counts (f .year ∷ f .day ∷ f .status ∷ f .hour ∷ f .minute ∷ f .second ∷ f .tenths ∷ []))
+  unfolding kindOf
+  gps-values f m =
+      ap (λ (g : Gps). accepted (count 9 ∷ counts (g .year ∷ g .day ∷ g .status ∷ g .hour ∷ g .minute ∷ g .second ∷ g .tenths ∷ [])))
+      (means-fields b f m)
+
+  -- The six masks behind the time.
+  pub trigger-values : recordGiven place (ok (structure 0x80 b))
+      ≡ accepted (count 10 ∷ counts (wordsAt (4 ∷ 8 ∷ 12 ∷ 16 ∷ 20 ∷ 24 ∷ [])))
+  unfolding kindOf triggerOf
+  trigger-values = refl
+
+  pub tlb-values : recordGiven place (ok (structure 0x81 b))
+      ≡ accepted (count 11 ∷ counts (wordsAt (0 ∷ 4 ∷ 8 ∷ 12 ∷ 16 ∷ 20 ∷ [])))
+  unfolding kindOf tlbOf
+  tlb-values = refl
+
+  -- Setting: gain, QET bias, SQUID bias and lockpoint in working units, and of a charge entry the gain alone; the rest whole.
+  abbrev unit : ℕ → Value
+  unit p = float (hundredth (signed (word p b)))
+
+  abbrev plain : ℕ → Value
+  plain p = whole (signed (word p b))
+
+  pub phonon-setting-values : settingGiven place (ok (structure 0x00010001 b))
+      ≡ accepted (count 3 ∷ plain 0 ∷ plain 4 ∷ unit 8 ∷ unit 12 ∷ unit 16 ∷ unit 20 ∷ plain 24 ∷ plain 28 ∷ plain 32 ∷ plain 36 ∷ plain 40 ∷ [])
+  unfolding phononSetting phononOf
+  phonon-setting-values = refl
+
+  pub charge-setting-values : settingGiven place (ok (structure 0x00010002 b))
+      ≡ accepted (count 4 ∷ plain 0 ∷ plain 4 ∷ unit 8 ∷ plain 12 ∷ plain 16 ∷ plain 20 ∷ plain 24 ∷ plain 28 ∷ [])
+  unfolding chargeSetting chargeOf
+  charge-setting-values = refl
