@@ -26,3 +26,4 @@ pub mod ReadingLaws
 pub mod ListingLaws
 pub mod FieldFaultLaws
 pub mod ValueLaws
+pub mod ChannelTableLaws

@@ -22,3 +22,4 @@ pub mod Examples
 pub mod Slips
 pub mod Asked
 pub mod EventKinds
+pub mod ChannelTable
