@@ -11,7 +11,7 @@ use native.Mathlib.Omega.{arith}
 use lib.ListN.{length, getD, length-append, length-map}
 use Rattle.theory.specs.Words.{Bytes, Fits, put}
 use Rattle.theory.specs.Tests.{Res, ok, bad}
-use Rattle.theory.specs.Layout.{Row, Node, single, box, total, childRow, childRows, rows, rowCount, row, childCount}
+use Rattle.theory.specs.Layout.{Row, Node, total, childRow, childRows, rows, rowCount, row, childCount}
 use Rattle.theory.proofs.WordLaws.{word-after-put, word-past}
 use Rattle.theory.proofs.StructureLaws.{second-word}
 use Rattle.theory.proofs.LayoutLaws.{length-childRows, rowCount-append, box-counted}
@@ -31,7 +31,7 @@ use Rattle.demands.proofs.Follows.{file-sound}
 use Rattle.demands.proofs.FaultLaws.{length-front}
 use Rattle.demands.proofs.OutputLaws.{structure-apart}
 use Rattle.demands.proofs.RowLaws.{record-size, children-total, container-size, child-kind}
-use Rattle.demands.proofs.RowLaws.{configurationRow, eventRow, nextRow, nextPlace, recordRows, eventRows, rowsBehind}
+use Rattle.demands.proofs.RowLaws.{configurationRow, eventRow, nextRow, nextPlace, recordRows, eventRows, headerNode, nodesBefore, rowsBehind}
 use Rattle.demands.proofs.RecordLaws.{found-from, reads-record, reads-none, reads-container, event-mark, no-kind, no-configuration, no-header}
 use Rattle.demands.proofs.PieceLaws.{shown}
 
@@ -199,8 +199,6 @@ module _ (bs : List ℕ) (f : File) (h : Bytes bs) (e : readFile bs ≡ ok f) wh
       let room : 8 ≤ length bs = rw eb (omega (arith, length-append top later)) in
       let (first, second) = container-words bs top (eventsBytes es) c fitting (v .configuration-fits) eb in
       let kids : List Row = recordRows 2 16 (c .body) in
-      let passed : List Node =
-      single (record { kind = 1; size = 8; one = versionOf f; two = 0 }) ∷ box 2 (length (c .body)) 0 (childrenOf (c .body)) ∷ [] in
       let own : RowRead bs (rowsOf f) 1 (configurationRow c) = record {
         header = λ z. absurd (omega arith);
         configuration = λ z. record {
@@ -208,8 +206,7 @@ module _ (bs : List ℕ) (f : File) (h : Bytes bs) (e : readFile bs ≡ ok f) wh
           start = refl;
           first-word = ap (λ (p : ℕ). word p bs) header ∙ first ∙ v .configuration-word;
           whole = omega (arith, ap (λ (p : ℕ). word (p + 4) bs) header ∙ second, children-total (c .body));
-          one = sym (box-counted (single (record { kind = 1; size = 8; one = versionOf f; two = 0 }) ∷ []) 2 _ _ (childrenOf (c .body))
-              (map eventNode es) ∙ length-map (c .body) childOf);
+          one = sym (box-counted (headerNode f ∷ []) 2 _ _ (childrenOf (c .body)) (map eventNode es) ∙ length-map (c .body) childOf);
           two = refl;
         };
         event = λ z k. absurd (omega arith);
@@ -232,7 +229,7 @@ module _ (bs : List ℕ) (f : File) (h : Bytes bs) (e : readFile bs ≡ ok f) wh
         reads-append bs (rowsOf f) 1 (1 + suc (length kids)) (configurationRow c ∷ kids) (rowsBehind f) (containerRecords c) (eventsRecords es) refl
             (reads-box bs limit (rowsOf f) entry 1 2 8 c top (eventsBytes es) (configurationRow c) (omega arith) refl own fitting none-such
             (v .entries-valid) eb header)
-            (reads-events bs limit (rowsOf f) passed (1 + suc (length kids)) (nextRow 2 c) (nextPlace 8 c) es (top ++ containerBytes c)
+            (reads-events bs limit (rowsOf f) (nodesBefore f) (1 + suc (length kids)) (nextRow 2 c) (nextPlace 8 c) es (top ++ containerBytes c)
             (omega arith) (omega (arith, length-childRows 2 16 (childrenOf (c .body)))) refl (v .events-valid)
             (eb ∙ sym (append-assoc top (containerBytes c) (eventsBytes es))) size),
       )

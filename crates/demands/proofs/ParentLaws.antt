@@ -8,17 +8,17 @@ use native.Mathlib.Omega.{arith}
 use lib.ListN.{length}
 use Rattle.theory.specs.Words.{Bytes}
 use Rattle.theory.specs.Tests.{ok}
-use Rattle.theory.specs.Layout.{Row, Node, single, box, childRows, rows, rowCount, row}
+use Rattle.theory.specs.Layout.{Row, Node, childRows, rows, rowCount, row}
 use Rattle.theory.proofs.LayoutLaws.{All, All-append, All-at, length-rows, rowCount-append, box-at}
 use Rattle.note.specs.Records.{Record, Seen, entry, event, none, isKind, behind, noted, recordSize, kindOf}
 use Rattle.note.specs.Events.{Container}
-use Rattle.note.specs.Files.{File, configurationOf, eventsOf, versionOf, readFile}
+use Rattle.note.specs.Files.{File, configurationOf, eventsOf, readFile}
 use Rattle.note.specs.Rows.{childOf, childrenOf, eventNode, nodesOf, rowsOf}
 use Rattle.note.proofs.KindCases.{kind-cases}
 use Rattle.demands.specs.Valid.{ValidRecord, ValidRecords, ValidEvents, Valid}
 use Rattle.demands.specs.Parents.{ParentByKind}
 use Rattle.demands.proofs.Follows.{file-sound}
-use Rattle.demands.proofs.RowLaws.{nextRow, nextPlace, recordRows, eventRows, rowsBehind}
+use Rattle.demands.proofs.RowLaws.{nextRow, nextPlace, recordRows, eventRows, nodesBefore, rowsBehind}
 
 -- An entry is of row kind 3 or 4, a record in an event of 6 to 11.
 entry-kind : (r : Record) → ValidRecord entry r → (3 ≤ kindOf (r .kind) .row) × (kindOf (r .kind) .row ≤ 4)
@@ -113,16 +113,14 @@ rows-by-kind : (f : File) → Valid f → All (ParentByKind (rowsOf f)) (rowsOf 
 unfolding rowsOf nodesOf rows
 rows-by-kind f v =
     let c : Container = configurationOf f in
-    let header : Node = single (record { kind = 1; size = 8; one = versionOf f; two = 0 }) in
-    let passed : List Node = header ∷ box 2 (length (c .body)) 0 (childrenOf (c .body)) ∷ [] in
-    let number : suc (rowCount passed) ≡ nextRow 2 c = omega arith in (
+    let number : suc (rowCount (nodesBefore f)) ≡ nextRow 2 c = omega arith in (
       outer-by-kind (rowsOf f) _ (omega arith) (omega arith) (λ a b. omega arith) refl,
       (
         outer-by-kind (rowsOf f) _ (omega arith) (omega arith) (λ a b. omega arith) refl,
         All-append (ParentByKind (rowsOf f)) (recordRows 2 16 (c .body)) (rowsBehind f)
             (entries-by-kind (rowsOf f) 16 (c .body) refl (v .entries-valid))
             (subst (λ (n : ℕ). All (ParentByKind (rowsOf f)) (eventRows n (nextPlace 8 c) (eventsOf f))) number
-            (events-by-kind (rowsOf f) passed (nextPlace 8 c) (eventsOf f) refl (v .events-valid))),
+            (events-by-kind (rowsOf f) (nodesBefore f) (nextPlace 8 c) (eventsOf f) refl (v .events-valid))),
       ),
     )
 

@@ -9,7 +9,7 @@ use native.Mathlib.Omega.{arith}
 use lib.ListN.{length, length-append}
 use Rattle.theory.specs.Words.{Bytes}
 use Rattle.theory.specs.Tests.{ok}
-use Rattle.theory.specs.Layout.{Row, total, extents, childRows, rows, row, Tiles, Owns, OneParent}
+use Rattle.theory.specs.Layout.{Row, Node, single, box, total, extents, childRows, rows, row, Tiles, Owns, OneParent}
 use Rattle.theory.proofs.StructureLaws.{length-structure}
 use Rattle.theory.proofs.LayoutLaws.{GoodChildren, Good, row-tiles, few-rows, owner, owner-one, one-parent, parent-before}
 use Rattle.note.specs.Words.{order}
@@ -77,6 +77,13 @@ recordRows i at rs = childRows i at (childrenOf rs)
 
 abbrev pub eventRows : ℕ → ℕ → List Container → List Row
 eventRows i at es = rows i at (map eventNode es)
+
+-- The nodes of a file's header and of its configuration, which stand before the events'.
+abbrev pub headerNode : File → Node
+headerNode f = single (record { kind = 1; size = 8; one = versionOf f; two = 0 })
+
+abbrev pub nodesBefore : File → List Node
+nodesBefore f = headerNode f ∷ box 2 (length (configurationOf f .body)) 0 (childrenOf (configurationOf f .body)) ∷ []
 
 -- The rows of a file's events: behind its configuration, which has row number 2 and stands at byte 8.
 abbrev pub rowsBehind : File → List Row
