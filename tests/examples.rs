@@ -1,5 +1,6 @@
-//! examples [DIR]: writes the example files into DIR (examples/ without one), and beside each its
+//! examples [DIR [limit]]: writes the example files into DIR (examples/ without one), and beside each its
 //! listing by the outside implementation; prints a line about each: name, size, the listing's first line.
+//! With `limit` it writes in their place one accepted file of exactly the listing's limit, with many rows.
 
 #[allow(dead_code)]
 #[path = "outside/aimed.rs"]
@@ -58,11 +59,18 @@ fn main() -> io::Result<()> {
     let (every_kind, broken_word) = every_kind();
     let mut damaged = every_kind.clone();
     files::set_word(&mut damaged, broken_word, bcd(2010) << 16 | bcd(366));
-    for (name, bytes) in [
-        ("p14.raw", aimed::p14()),
-        ("every-kind.raw", every_kind),
-        ("damaged.raw", damaged),
-    ] {
+    let files = if std::env::args().nth(2).as_deref() == Some("limit") {
+        let limit = at_limit();
+        assert_eq!(limit.len(), MOST_LISTED);
+        vec![("limit.raw", limit)]
+    } else {
+        vec![
+            ("p14.raw", aimed::p14()),
+            ("every-kind.raw", every_kind),
+            ("damaged.raw", damaged),
+        ]
+    };
+    for (name, bytes) in files {
         assert!(bytes.len() <= MOST_LISTED);
         fs::write(folder.join(name), &bytes)?;
         let listing = listing(&reader::table(&bytes));
@@ -119,6 +127,21 @@ fn every_kind() -> (Vec<u8>, usize) {
     bytes.extend(event(EVENT | RAW_BARIUM_SELECTIVE, &barium));
     bytes.extend(event(EVENT | MONTE_CARLO_NEUTRON, &simulated));
     (bytes, gps_word)
+}
+
+// 408 of the smallest events, two of them with an empty history: 820 rows in as many bytes as the
+// listing program reads.
+fn at_limit() -> Vec<u8> {
+    let mut bytes = words(&[MAGIC, VERSION]);
+    bytes.extend(configuration(&[]));
+    for number in 0..408 {
+        let mut records = vec![administrative(SERIES, number * 10_000_000, number)];
+        if number % 204 == 0 {
+            records.push(history(&[], &[], &[]));
+        }
+        bytes.extend(event(EVENT | RAW_SEARCH, &records));
+    }
+    bytes
 }
 
 // A signed number as its word.

@@ -2,7 +2,8 @@
 // many rows to lend, how many bytes the file has) and the file. Printed are answer, count and place; then, of an accepted file, each
 // row's number and six values. A case that is cut short, or is larger than the buffer for files, ends the program.
 use libc::STDIN_FILENO;
-use lines::print_table;
+use libc::STDOUT_FILENO;
+use lines::put_table;
 ghost use Prim.Native.Nat.{_*_, _≤_};
 ghost use lib.ListN.{length};
 
@@ -41,7 +42,9 @@ fn answer_case(file: &mut [u8], rows: &mut [u32]) -> bool {
     }
     let capacity = lent(asked, rows);
     let answer = dwejrasq::table(&file[..size], &mut rows[..6 * capacity]);
-    print_table(answer, rows);
+    let mut text = [0u8; 5_631];
+    let made = put_table(&mut text, answer, rows);
+    io::write_all(STDOUT_FILENO, &text[..made]);
     true
 }
 

@@ -9,7 +9,8 @@ use Rattle.cases.proofs.answer_case.Lts as lts
 use Rattle.cases.proofs.lent.Reads as lent-reads
 use Rattle.cases.proofs.word.Reads as word-reads
 use Rattle.io.proofs.read_full.Reads as read-full-reads
-use Rattle.lines.proofs.print_table.Reads as print-table-reads
+use Rattle.io.proofs.write_all.Reads as write-all-reads
+use Rattle.lines.proofs.put_table.Reads as put-table-reads
 use Rattle.dwejrasq.proofs.table.Reads as table-reads
 
 slice-aggregate-read-full : tie.Need-slice-aggregate-read-full
@@ -90,8 +91,20 @@ slice-aggregate-table-2 c = sym (length-take-le _ _ (slice-relend-prefix-table (
 table-requires : tie.Need-table-requires
 table-requires c κs = search needs
 
-print-table-requires : tie.Need-print-table-requires
-print-table-requires c κs = search needs
+slice-aggregate-put-table : tie.Need-slice-aggregate-put-table
+slice-aggregate-put-table c = search needs
+
+put-table-requires : tie.Need-put-table-requires
+put-table-requires c κs = search needs
+
+array-share-prefix-text : tie.Need-array-share-prefix-text
+array-share-prefix-text c = search needs
+
+slice-aggregate-write-all : tie.Need-slice-aggregate-write-all
+slice-aggregate-write-all c = search needs
+
+write-all-requires : tie.Need-write-all-requires
+write-all-requires c κs = search needs
 
 same-length-2 : tie.Need-same-length-2
 same-length-2 c = search needs
@@ -132,7 +145,11 @@ answer-case-spec =
     slice-relend-prefix-table
     slice-aggregate-table-2
     table-requires
-    print-table-requires
+    slice-aggregate-put-table
+    put-table-requires
+    array-share-prefix-text
+    slice-aggregate-write-all
+    write-all-requires
     same-length-2
     same-length-3
     returns-4)
