@@ -1,6 +1,6 @@
 // The walking program: walks a file from standard input, of up to 8,192 bytes, by a walker of struct and slice, and prints each yield
-// until two behind the first that is no row: a row's number and six values, the end, or a refusal's number and place. Then the file's
-// first half, and no bytes at all.
+// until two behind the first that is no row: a row's number and six values, the end, or a refusal's number and place. Then it walks the
+// file's first half, and no bytes at all.
 use libc::STDIN_FILENO;
 use libc::STDOUT_FILENO;
 use note::WalkerYield;
@@ -32,6 +32,7 @@ fn yield_at(file: &[u8], k: usize) -> WalkerYield
     after_steps(file, k)
 }
 
+// A number and a blank.
 fn print(n: u64) {
     io::print_decimal(STDOUT_FILENO, n);
     io::write_all(STDOUT_FILENO, b" ");
