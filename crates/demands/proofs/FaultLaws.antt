@@ -24,7 +24,8 @@ use Rattle.note.specs.Events.{Container, containerBytes, eventsBytes, eventMark
 use Rattle.note.specs.Files.{File, configurationWord, configurationHead, configurationLate, headerBytes, fileMark, versionRule}
 use Rattle.note.specs.Files.{versionOf, configurationOf, eventsOf, fileBytes, readHeader, readParts, readFile}
 use Rattle.demands.specs.Valid.{ValidRecords, Valid}
-use Rattle.demands.specs.FirstFault.{Cut, ValidHeader, front, past, Itself, Refusal, too-long, at-fault}
+use Rattle.demands.specs.FirstFault.{Cut, ValidHeader, front, past, Itself}
+use Rattle.demands.specs.Refusals.{Refusal, too-long, within-limit}
 use Rattle.demands.specs.FirstFault.{FirstFault, at-header, at-configuration, at-entry, at-event, at-record}
 use Rattle.demands.proofs.Bundles.{recordBody, recordItem, records, box, configurationItem, eventItem, events, headerItem, parts}
 use Rattle.demands.proofs.Bundles.{same-record, same-parts, records-valid, records-ok}
@@ -354,19 +355,19 @@ unfolding readFile
 over-limit bs l = rw (lt-leb (length bs) fileLimit l)
 
 -- Every file: it is refused with a number at a place exactly when it is over the limit, with 1 at 0, or has that first fault.
-pub refused-exactly : (bs : List ℕ) (c p : ℕ) → Bytes bs → (readFile bs ≡ bad c p) ↔ Refusal bs c p
+pub refused-exactly : (bs : List ℕ) (c p : ℕ) → Bytes bs → (readFile bs ≡ bad c p) ↔ Refusal (length bs) (FirstFault bs) c p
 refused-exactly bs c p h = (there (leb (length bs) fileLimit) refl, back)
   where
-    there : (t : Bool) → leb (length bs) fileLimit ≡ t → readFile bs ≡ bad c p → Refusal bs c p
-    there true t e = let l : length bs ≤ fileLimit = leb-true (length bs) fileLimit t in at-fault l (first-fault bs c p h l e)
+    there : (t : Bool) → leb (length bs) fileLimit ≡ t → readFile bs ≡ bad c p → Refusal (length bs) (FirstFault bs) c p
+    there true t e = let l : length bs ≤ fileLimit = leb-true (length bs) fileLimit t in within-limit l (first-fault bs c p h l e)
     there false t e =
         let l : fileLimit < length bs = leb-false (length bs) fileLimit t in
         let (number, place) = bad-inj (sym e ∙ over-limit bs l) in
         too-long l number place
 
-    back : Refusal bs c p → readFile bs ≡ bad c p
+    back : Refusal (length bs) (FirstFault bs) c p → readFile bs ≡ bad c p
     back (too-long l ec ep) = over-limit bs l ∙ ap₂ bad (sym ec) (sym ep)
-    back (at-fault l e) = fault-exactly bs c p h l .1 e
+    back (within-limit l e) = fault-exactly bs c p h l .1 e
 
 -- The place of a refusal lies in the file, or at its end.
 pub fault-in-file : (bs : List ℕ) (c p : ℕ) → Bytes bs → readFile bs ≡ bad c p → p ≤ length bs
@@ -382,6 +383,6 @@ fault-in-file bs c p h e = within-file (refused-exactly bs c p h .0 e)
     in-fault (at-event f part v left cut own) = cut-place _ _ _ cut
     in-fault (at-record f w rs part beyond v hw valid left cut e) = cut-place _ _ _ cut
 
-    within-file : Refusal bs c p → p ≤ length bs
+    within-file : Refusal (length bs) (FirstFault bs) c p → p ≤ length bs
     within-file (too-long l ec ep) = omega arith
-    within-file (at-fault l e) = in-fault e
+    within-file (within-limit l e) = in-fault e

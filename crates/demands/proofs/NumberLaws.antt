@@ -33,7 +33,8 @@ use Rattle.note.specs.Writers.{fileRewritten, rewriteWrote}
 use Rattle.note.proofs.RuleNumbers.{phonon-fault-numbers, charge-fault-numbers, administrative-fault-numbers, trace-fault-numbers}
 use Rattle.note.proofs.RuleNumbers.{history-fault-numbers, gps-fault-numbers, tlb-fault-numbers, event-fault-numbers}
 use Rattle.demands.specs.Pieces.{Piece, phonon, charge, administrative, trace, history, gps, trigger, tlb, writtenOf}
-use Rattle.demands.specs.Numbers.{At, From, Refusal, within-limit, recordNumbers, ContainerNumbers, itself, inside}
+use Rattle.demands.specs.Refusals.{Refusal, within-limit}
+use Rattle.demands.specs.Numbers.{At, From, recordNumbers, ContainerNumbers, itself, inside}
 use Rattle.demands.specs.Numbers.{FileRefusal, RecordRefusal, TableRefusal, of-file, few-rows}
 use Rattle.demands.specs.Numbers.{writerNumbers, WriterRefusal, configurationClosingNumbers, eventClosingNumbers, ClosingRefusal}
 use Rattle.demands.specs.Numbers.{RewriteNumbers, of-read, small-output}

@@ -22,7 +22,8 @@ use Rattle.note.specs.Files.{fileMark, format, versionRule, configurationWord, 
 use Rattle.note.specs.Files.{readHeader, readConfiguration, readParts, readFile}
 use Rattle.note.proofs.BoolLaws.{among-tells, upTo, one-up-to}
 use Rattle.note.proofs.RuleNumbers.{rule-numbers, entry-rule-numbers, event-word-numbers}
-use Rattle.demands.specs.Numbers.{At, From, Refusal, over-limit, within-limit, recordNumbers, ContainerNumbers, itself, inside}
+use Rattle.demands.specs.Refusals.{Refusal, too-long, within-limit}
+use Rattle.demands.specs.Numbers.{At, From, recordNumbers, ContainerNumbers, itself, inside}
 use Rattle.demands.specs.Numbers.{headerNumbers, configurationNumbers, restNumbers}
 use Rattle.demands.specs.Numbers.{FileNumbers, of-header, of-configuration, of-rest, FileRefusal}
 
@@ -208,7 +209,7 @@ limit-gives P n r h = go (leb n fileLimit) refl
   where
     go : (t : Bool) → leb n fileLimit ≡ t → Gives (Refusal n P) (need (unless t 1) 0 r)
     go true e = gives-wider P (Refusal n P) r (λ c p q. within-limit (leb-true n fileLimit e) q) h
-    go false e = over-limit (leb-false n fileLimit e) refl refl
+    go false e = too-long (leb-false n fileLimit e) refl refl
 
 pub file-gives : (bs : List ℕ) → Gives (FileRefusal bs) (readFile bs)
 unfolding readFile
@@ -224,7 +225,7 @@ in-table ns zero z u h = absurd (false≢true (sym z ∙ h))
 in-table ns (suc c) z u h = (omega arith, one-up-to 11 ns (suc c) u (among-tells ns (suc c) .0 h))
 
 file-in-table : (bs : List ℕ) (c p : ℕ) → FileRefusal bs c p → (0 < c) × (c ≤ 11)
-file-in-table bs c p (over-limit l e q) = (omega arith, omega arith)
+file-in-table bs c p (too-long l e q) = (omega arith, omega arith)
 file-in-table bs c p (within-limit l (of-header h)) = in-table headerNumbers c refl refl (h .0)
 file-in-table bs c p (within-limit l (of-configuration h)) = in-table configurationNumbers c refl refl (h .0)
 file-in-table bs c p (within-limit l (of-rest h)) = in-table restNumbers c refl refl (h .0)

@@ -1,13 +1,12 @@
 -- What a refusal of a file says (document 01, 'Numbers given back'): "Place is the first byte of the innermost structure at fault";
 -- "the first fault in file order is given". For each structure that can be at fault: all bytes before its first are as the note says.
-use Prim.Native.Nat.{ℕ, _≤_, _<_}
+use Prim.Native.Nat.{ℕ, _≤_}
 use mathlib.Core.Path.{_≡_}
 use mathlib.Core.List.{List, [], _∷_, _++_}
 use lib.ListN.{length}
 use Rattle.theory.specs.Words.{put, Fits}
 use Rattle.theory.specs.Tests.{Res, bad}
 use Rattle.theory.specs.Structures.{readStructure}
-use Rattle.note.specs.Limits.{fileLimit}
 use Rattle.note.specs.Words.{order}
 use Rattle.note.specs.Records.{Record, Context, entry, event, none, behind, recordsBytes, readRecord}
 use Rattle.note.specs.Events.{eventWordRule, eventHead, eventLate}
@@ -54,8 +53,3 @@ pub data FirstFault (bs : List ℕ) (c p : ℕ) : Type 0 where
       → Valid f → eventWordRule w ≡ 0 → ValidRecords (event none) rs → 1 ≤ length part
       → Cut bs (fileBytes f ++ (front w (length (recordsBytes rs ++ part)) ++ recordsBytes rs)) part beyond p
       → readRecord (past (event none) rs) p part ≡ bad c p → FirstFault bs c p
-
--- Why a file is refused: it is over the limit, which is 1 at 0; or it is within the limit, and that is its first fault.
-pub data Refusal (bs : List ℕ) (c p : ℕ) : Type 0 where
-  too-long : fileLimit < length bs → c ≡ 1 → p ≡ 0 → Refusal bs c p
-  at-fault : length bs ≤ fileLimit → FirstFault bs c p → Refusal bs c p

@@ -5,6 +5,7 @@ pub mod Outputs
 pub mod WriterRefusals
 pub mod Assembly
 pub mod FirstFault
+pub mod Refusals
 pub mod RowRecords
 pub mod Parents
 pub mod RowContents

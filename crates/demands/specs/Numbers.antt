@@ -1,5 +1,5 @@
 -- Document 01, 'Numbers given back': which numbers each call can refuse with, and at which place. No number stands in a list that the call
--- never gives (proofs/NumberExamples.antt).
+-- never gives (proofs/NumberExamples.antt). 1 stands in no list: it is given for a buffer over the limit (Refusals) and nowhere else.
 use Prim.Native.Nat.{ℕ, _+_, _*_, _≤_, _<_}
 use mathlib.Core.Path.{_≡_}
 use mathlib.Core.Bool.{true}
@@ -11,6 +11,7 @@ use Rattle.note.specs.Records.{Context, entry, event, alone}
 use Rattle.note.specs.Files.{File, readFile}
 use Rattle.note.specs.Rows.{rowsOf}
 use Rattle.note.specs.declared.TableAnswer.{TableAnswer}
+use Rattle.demands.specs.Refusals.{Refusal}
 use Rattle.demands.specs.Pieces.{Piece, phonon, charge, administrative, trace, history, gps, trigger, tlb}
 
 -- A refusal c at the place p: one of these numbers, at this place; or from this place on.
@@ -19,11 +20,6 @@ At place ns c p = (among c ns ≡ true) × (p ≡ place)
 
 abbrev pub From : ℕ → List ℕ → ℕ → ℕ → Type 0
 From place ns c p = (among c ns ≡ true) × (place ≤ p)
-
--- Where a lent buffer of n bytes is over the limit, 1 at place 0 and nothing else. 1 stands in no list below, so it is given nowhere else.
-pub data Refusal (n : ℕ) (Other : ℕ → ℕ → Type 0) (c p : ℕ) : Type 0 where
-  over-limit : fileLimit < n → c ≡ 1 → p ≡ 0 → Refusal n Other c p
-  within-limit : n ≤ fileLimit → Other c p → Refusal n Other c p
 
 -- ---- reading
 
