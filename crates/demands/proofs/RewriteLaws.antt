@@ -111,14 +111,14 @@ module _ (bs out : List ℕ) (c p : ℕ) (h : Bytes bs) where
   refused-given (no-room f l r less number place) =
       rw (le-leb (length out) fileLimit l, r, bytes-restored bs f h r, lt-leb (length bs) (length out) less, number, place)
 
-  pub rewrite-refused-exactly : (rewriteWrote bs out ≡ bad c p) ↔ RewriteRefused bs out c p
-  rewrite-refused-exactly = (λ e. rewrite-refused e .0, refused-given)
+  pub rewrite-refused-exact : (rewriteWrote bs out ≡ bad c p) ↔ RewriteRefused bs out c p
+  rewrite-refused-exact = (λ e. rewrite-refused e .0, refused-given)
 
 -- Rewrite answers a next place for an accepted file that has room, and for no other.
 module _ (bs out : List ℕ) (next : ℕ) (h : Bytes bs) where
   -- A refusal is no answer.
   not-refused : rewriteWrote bs out ≡ ok next → (c p : ℕ) → RewriteRefused bs out c p → ⊥
-  not-refused e c p r = ok-bad (sym e ∙ rewrite-refused-exactly bs out c p h .1 r)
+  not-refused e c p r = ok-bad (sym e ∙ rewrite-refused-exact bs out c p h .1 r)
 
   granted-when : length out ≤ fileLimit → rewriteWrote bs out ≡ ok next → (r : Res File) → readFile bs ≡ r → RewriteGranted bs out next
   granted-when l e (bad c p) r = absurd (not-refused e c p (file-refused l r))
@@ -133,8 +133,8 @@ module _ (bs out : List ℕ) (next : ℕ) (h : Bytes bs) where
     | no less ↦ absurd (not-refused e 13 0 (no-room f l r (omega arith) refl refl))
   ]
 
-  pub rewrite-granted-exactly : (rewriteWrote bs out ≡ ok next) ↔ RewriteGranted bs out next
-  rewrite-granted-exactly = (
+  pub rewrite-granted-exact : (rewriteWrote bs out ≡ ok next) ↔ RewriteGranted bs out next
+  rewrite-granted-exact = (
     λ e. elim (decLe (length out) fileLimit) [
       | yes l ↦ granted-when l e (readFile bs) refl
       | no over ↦ absurd (not-refused e 1 0 (output-over (omega arith) refl refl))
