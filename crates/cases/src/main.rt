@@ -7,6 +7,9 @@ use lines::put_table;
 ghost use Prim.Native.Nat.{_*_, _≤_};
 ghost use lib.ListN.{length};
 
+// The most bytes of an answer's text: its first line, and the lines of as many rows as the buffer has.
+const TEXT: usize = 5_631;
+
 // The most cases of a stream.
 const MOST_CASES: u32 = 65_536;
 
@@ -42,7 +45,7 @@ fn answer_case(file: &mut [u8], rows: &mut [u32]) -> bool {
     }
     let capacity = lent(asked, rows);
     let answer = dwejrasq::table(&file[..size], &mut rows[..6 * capacity]);
-    let mut text = [0u8; 5_631];
+    let mut text = [0u8; TEXT];
     let made = put_table(&mut text, answer, rows);
     io::write_all(STDOUT_FILENO, &text[..made]);
     true
