@@ -3,13 +3,14 @@
 -- The idea: one digit more is one division by ten more, so each law has a number below ten, and a number's tenth before the number.
 use Prim.Native.Nat.{ℕ, zero, suc, _+_, _-_, _*_, _/_, _%_, _^_, _≤_, _<_}
 use mathlib.Core.Path.{_≡_, refl, sym, ap, _∙_, subst}
-use mathlib.Core.Bool.{Bool, true, false, cond}
+use mathlib.Core.Bool.{Bool, true, false}
 use mathlib.Core.List.{List, [], _∷_, _++_, append-nil, append-assoc}
 use native.Mathlib.Omega.{arith}
 use native.Mathlib.Nat.{pow-suc, pow-zero}
 use lib.Dec.{leb, eqb, ltb}
 use lib.ListN.{length, length-append}
-use borrow.Author.Tests.{ltb-true, ltb-false, eqb-true, eqb-false, lt-ltb, le-ltb, le-leb, lt-leb}
+use borrow.Author.Tests.{ltb-true, ltb-false, eqb-true, eqb-false, le-leb, lt-leb}
+use Rattle.note.specs.Limits.{listingLimit}
 use Rattle.note.specs.Files.{readFile}
 use Rattle.note.specs.Listing.{linesGiven, listing, digitsOf, decimalText}
 
@@ -196,8 +197,8 @@ decimal-short = by-tenths Short one more
 -- "Up to 16,384 bytes; longer gives 1."
 pub listing-within : (bs : List ℕ) → length bs ≤ 16384 → listing bs ≡ linesGiven bs (readFile bs)
 unfolding listing
-listing-within bs h = rw (le-leb (length bs) 16384 h)
+listing-within bs h = let test : leb (length bs) listingLimit ≡ true = le-leb (length bs) listingLimit (omega arith) in rw test
 
 pub listing-over : (bs : List ℕ) → 16384 < length bs → listing bs ≡ (1 ∷ 0 ∷ 0 ∷ []) ∷ []
 unfolding listing
-listing-over bs h = rw (lt-leb (length bs) 16384 h)
+listing-over bs h = let test : leb (length bs) listingLimit ≡ false = lt-leb (length bs) listingLimit (omega arith) in rw test
