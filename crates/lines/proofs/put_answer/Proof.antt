@@ -1,10 +1,9 @@
 -- `lines::put_answer` meets its contract: three numbers, each stored with the byte behind it.
 use mathlib.Core.Path.{_≡_}
-use Prim.Native.Nat.{_+_, _≤_}
+use Prim.Native.Nat.{_≤_}
 use native.Mathlib.Omega.{arith}
 use denote.Ref.{now}
 use lib.ListN.{length}
-use Rattle.note.specs.Listing.{decimalText}
 use Rattle.lines.proofs.TextLaws.{word-digits, long-digits, number-ends, answer-put}
 use borrow.Author.Needs.{needs}
 use Rattle.lines.proofs.put_answer.Statement.{statement}

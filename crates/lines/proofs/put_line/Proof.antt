@@ -5,7 +5,7 @@ use mathlib.Core.Path.{_≡_, refl}
 use native.Mathlib.Omega.{arith}
 use denote.Ref.{now}
 use lib.ListN.{length, drop, getD}
-use Rattle.note.specs.Listing.{decimalText, lineText}
+use Rattle.note.specs.Listing.{lineText}
 use Rattle.lines.proofs.TextLaws.{Left, word-digits, number-ends, line-turn, line-done}
 use borrow.Author.Needs.{needs}
 use Rattle.lines.proofs.put_line.Statement.{statement}

@@ -4,7 +4,6 @@ use Prim.Native.Nat.{_+_, _≤_}
 use native.Mathlib.Omega.{arith}
 use denote.Ref.{now}
 use lib.ListN.{length}
-use Rattle.note.specs.Listing.{decimalText}
 use Rattle.lines.proofs.TextLaws.{long-digits, number-ends, row-part, row-put}
 use borrow.Author.Needs.{needs}
 use Rattle.lines.proofs.put_row.Statement.{statement}

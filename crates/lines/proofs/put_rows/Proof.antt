@@ -1,6 +1,6 @@
 -- `lines::put_rows` meets its contract: each turn stores the line of one row.
 -- The idea: what is left of the lines, stored from here on, makes all of them.
-use Prim.Native.Nat.{ℕ, _+_, _-_, _*_, _≤_}
+use Prim.Native.Nat.{_+_, _-_, _*_, _≤_}
 use mathlib.Core.Path.{_≡_, refl}
 use native.Mathlib.Omega.{arith}
 use denote.Ref.{now}
