@@ -1,12 +1,12 @@
 -- What the lines make of Table's answer and buffer is the note's listing.
 -- The idea: a file up to the limit has at most 2,048 rows, so Table has room for its rows and the output for their lines.
-use Prim.Native.Nat.{ℕ, zero, suc, _+_, _*_, _≤_, _<_}
+use Prim.Native.Nat.{ℕ, _+_, _*_, _≤_, _<_}
 use mathlib.Core.Path.{_≡_, refl, sym, ap, _∙_, subst}
-use mathlib.Core.Bool.{Bool, true, false, cond, _&&_}
+use mathlib.Core.Bool.{Bool, true, false, cond}
 use mathlib.Core.List.{List, [], _∷_, _++_}
 use native.Mathlib.Omega.{arith}
 use lib.Dec.{leb, eqb}
-use lib.ListN.{length, take, drop, length-append, length-drop}
+use lib.ListN.{length, drop, length-append}
 use borrow.Author.Tests.{le-leb}
 use Rattle.io.specs.Counts.{Counts}
 use Rattle.theory.specs.Words.{Bytes}
@@ -14,11 +14,11 @@ use Rattle.theory.specs.Tests.{Res, ok, bad}
 use Rattle.theory.specs.Layout.{Row}
 use Rattle.note.specs.Files.{File, readFile}
 use Rattle.note.specs.Rows.{rowsOf, rowNumbers, flat, tableGiven, tableAnswer, tableFilled, tableBuffer}
-use Rattle.note.specs.Listing.{rowLines, linesGiven, listing, linesText, listingText}
+use Rattle.note.specs.Listing.{rowLines, linesGiven, linesText, listingText}
 use Rattle.note.specs.declared.TableAnswer.{TableAnswer}
 use Rattle.note.proofs.ListingLaws.{listing-within, listing-over}
 use Rattle.demands.proofs.RowLaws.{few-rows-in-file}
-use Rattle.lines.specs.Texts.{bufferLines, listedRows, tableLines, hasRoom, tableText}
+use Rattle.lines.specs.Texts.{bufferLines, listedRows, hasRoom, tableText}
 
 -- The lines of a buffer that begins with rows are the rows'.
 buffer-lines : (i : ℕ) (rs : List Row) (rest : List ℕ) → bufferLines i (length rs) (flat rs ++ rest) ≡ rowLines i rs
