@@ -13,6 +13,7 @@ use Rattle.theory.specs.Words.{Bytes}
 use Rattle.theory.specs.Tests.{Res, ok, bad}
 use Rattle.theory.specs.Layout.{Row}
 use Rattle.note.specs.Files.{File, readFile}
+use Rattle.note.proofs.FlatLaws.{length-flat}
 use Rattle.note.specs.Rows.{rowsOf, rowNumbers, flat, tableGiven, tableAnswer, tableFilled, tableBuffer}
 use Rattle.note.specs.Listing.{rowLines, linesGiven, linesText, listingText}
 use Rattle.note.specs.declared.TableAnswer.{TableAnswer}
@@ -25,11 +26,6 @@ buffer-lines : (i : ℕ) (rs : List Row) (rest : List ℕ) → bufferLines i (le
 unfolding bufferLines flat rowLines
 buffer-lines i [] rest = refl
 buffer-lines i (r ∷ rs) rest = ap (λ (ls : List (List ℕ)). (i ∷ rowNumbers r) ∷ ls) (buffer-lines (i + 1) rs rest)
-
-length-flat : (rs : List Row) → length (flat rs) ≡ length rs * 6
-unfolding flat
-length-flat [] = refl
-length-flat (r ∷ rs) = omega (arith, length-flat rs)
 
 either-way : (t : Bool) → cond {A = ℕ} t 0 0 ≡ 0
 either-way true = refl
