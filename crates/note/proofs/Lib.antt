@@ -27,3 +27,4 @@ pub mod ListingLaws
 pub mod FieldFaultLaws
 pub mod ValueLaws
 pub mod ChannelTableLaws
+pub mod CallLaws

@@ -23,3 +23,4 @@ pub mod Slips
 pub mod Asked
 pub mod EventKinds
 pub mod ChannelTable
+pub mod CallAnswers

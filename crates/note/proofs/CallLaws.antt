@@ -1,0 +1,98 @@
+-- Which answers Table, Record, Setting and a sample by number give, exactly.
+-- The idea: by cases on what was read, and on each test behind it.
+use Prim.Native.Nat.{ℕ, _+_, _*_, _≤_, _<_}
+use mathlib.Core.Path.{_≡_, refl, sym, ap₂, _∙_}
+use mathlib.Core.Logic.{_↔_, _⊎_, inl, inr, ⊎-elim, _≢_, by-cases}
+use mathlib.Core.Bool.{Bool, true, false, cond, _&&_, and-eq-true-iff}
+use mathlib.Core.List.{List, [], _∷_}
+use native.Mathlib.Omega.{arith}
+use native.Mathlib.Decide.{decLe}
+use lib.Dec.{leb, eqb}
+use lib.ListN.{length, drop}
+use borrow.Author.Tests.{leb-true, leb-false, le-leb, eqb-true, eqb-false, eq-eqb, ne-eqb}
+use Rattle.theory.specs.Tests.{Res, ok, bad, need, unless}
+use Rattle.theory.proofs.TestLaws.{ok-bad, bad-ok}
+use Rattle.note.specs.Limits.{fileLimit}
+use Rattle.note.specs.Words.{word}
+use Rattle.note.specs.Answers.{Value, accepted, refused, counts}
+use Rattle.note.specs.Trace.{traceOf, sampleIn}
+use Rattle.note.specs.Records.{Record, alone, readRecord}
+use Rattle.note.specs.Files.{File, readFile}
+use Rattle.note.specs.Rows.{rowsOf, fits, tableGiven, tableAnswer}
+use Rattle.note.specs.Calls.{recordFound, recordGiven, recordAt, settingGiven, settingAt, isTrace, sampleGiven, sampleAt}
+use Rattle.note.specs.CallAnswers.{TableGives, file-refused, rows-fit, rows-too-many, RecordRefused, file-over, not-read}
+use Rattle.note.specs.CallAnswers.{SettingRefused, no-record, no-entry, SampleRefused, nothing-found, no-trace, no-sample}
+use Rattle.note.specs.declared.TableAnswer.{TableAnswer}
+
+-- ---- Table
+
+module _ (bs : List ℕ) (capacity : ℕ) where
+  by-file : (r : Res File) → readFile bs ≡ r → TableGives bs capacity (tableGiven bs capacity r)
+  by-file (bad c p) e = file-refused c p e refl
+  by-file (ok f) e = go (fits capacity (rowsOf f)) refl
+    where
+      go : (t : Bool) → fits capacity (rowsOf f) ≡ t
+          → TableGives bs capacity (record { number = cond t 0 12; count = length (rowsOf f); place = length bs })
+      go true q = rows-fit f e (leb-true (6 * length (rowsOf f)) capacity q) refl
+      go false q = rows-too-many f e (leb-false (6 * length (rowsOf f)) capacity q) refl
+
+  pub table-gives : TableGives bs capacity (tableAnswer bs capacity)
+  unfolding tableAnswer
+  table-gives = by-file (readFile bs) refl
+
+-- ---- Record
+
+refused-same : {c p d q : ℕ} → refused c p ≡ refused d q → (c ≡ d) × (p ≡ q)
+refused-same e = (cc, cc)
+
+bad-same : {A : Type 0} {c p d q : ℕ} → _≡_ {A = Res A} (bad c p) (bad d q) → (c ≡ d) × (p ≡ q)
+bad-same e = (cc, cc)
+
+not-refused : {vs : List Value} {c p : ℕ} → accepted vs ≡ refused c p → ⊥
+not-refused e = let z : _≡_ {A = ℕ} 0 1 = cc in omega arith
+
+module _ (bs : List ℕ) (place c p : ℕ) where
+  found-bad : (recordFound bs place ≡ bad c p) ↔ RecordRefused bs place c p
+  unfolding recordFound
+  found-bad = go (leb (length bs) fileLimit) refl
+    where
+      go : (t : Bool) → leb (length bs) fileLimit ≡ t
+          → (need (unless t 1) 0 (readRecord alone place (drop place bs)) ≡ bad c p) ↔ RecordRefused bs place c p
+      go true q =
+          let l = leb-true (length bs) fileLimit q in
+          (λ e. not-read l e, λ h. elim h [ file-over m n s ↦ absurd (omega arith) | not-read m e ↦ e ])
+      go false q =
+          let l = leb-false (length bs) fileLimit q in (
+            λ e. let same : (1 ≡ c) × (0 ≡ p) = bad-same e in file-over l (sym (same .0)) (sym (same .1)),
+            λ h. elim h [ file-over m n s ↦ ap₂ (λ (x y : ℕ). bad x y) (sym n) (sym s) | not-read m e ↦ absurd (omega arith) ],
+          )
+
+  pub record-refused-exact : (recordAt bs place ≡ refused c p) ↔ RecordRefused bs place c p
+  unfolding recordAt
+  record-refused-exact = (λ e. found-bad .0 (go (recordFound bs place) e), λ h. rw (found-bad .1 h))
+    where
+      go : (r : Res Record) → recordGiven place r ≡ refused c p → r ≡ bad c p
+      go (bad d q) e = let same = refused-same e in ap₂ (λ (x y : ℕ). bad x y) (same .0) (same .1)
+      go (ok r) e = absurd (not-refused e)
+
+  -- ---- Setting
+
+  pub setting-refused-exact : (settingAt bs place ≡ refused c p) ↔ SettingRefused bs place c p
+  unfolding settingAt
+  setting-refused-exact = (go (recordFound bs place) refl, λ h. elim h [
+    no-record e ↦ rw e
+    | no-entry r e d f n q ↦ rw (e, ne-eqb (r .kind) 0x00010001 d, ne-eqb (r .kind) 0x00010002 f, n, q)
+  ])
+    where
+      tests : (r : Record) → recordFound bs place ≡ ok r → (t u : Bool) → eqb (r .kind) 0x00010001 ≡ t → eqb (r .kind) 0x00010002 ≡ u
+          → (x y : List Value)
+          → cond t (accepted x) (cond u (accepted y) (refused 5 place)) ≡ refused c p → SettingRefused bs place c p
+      tests r f true u a b x y e = absurd (not-refused e)
+      tests r f false true a b x y e = absurd (not-refused e)
+      tests r f false false a b x y e =
+          let same = refused-same e in
+          no-entry r f (eqb-false (r .kind) 0x00010001 a) (eqb-false (r .kind) 0x00010002 b) (sym (same .0)) (sym (same .1))
+
+      go : (r : Res Record) → recordFound bs place ≡ r → settingGiven place r ≡ refused c p → SettingRefused bs place c p
+      go (bad d q) f e = let same = refused-same e in no-record (f ∙ ap₂ (λ (x y : ℕ). bad x y) (same .0) (same .1))
+      go (ok r) f e = tests r f (eqb (r .kind) 0x00010001) (eqb (r .kind) 0x00010002) refl refl _ _ e
