@@ -3,7 +3,7 @@
 use Prim.Native.Nat.{ℕ, _+_, _*_, _≤_, _<_}
 use mathlib.Core.Path.{_≡_, refl, sym, ap₂, _∙_}
 use mathlib.Core.Logic.{_↔_, _⊎_, inl, inr, ⊎-elim, _≢_, by-cases}
-use mathlib.Core.Bool.{Bool, true, false, cond, _&&_, and-eq-true-iff}
+use mathlib.Core.Bool.{Bool, true, false, cond, _&&_, false≢true}
 use mathlib.Core.List.{List, [], _∷_}
 use native.Mathlib.Omega.{arith}
 use native.Mathlib.Decide.{decLe}
@@ -22,7 +22,7 @@ use Rattle.note.specs.Rows.{rowsOf, fits, tableGiven, tableAnswer}
 use Rattle.note.specs.Calls.{recordFound, recordGiven, recordAt, settingGiven, settingAt, isTrace, sampleGiven, sampleAt}
 use Rattle.note.specs.CallAnswers.{TableGives, file-refused, rows-fit, rows-too-many, RecordRefused, file-over, not-read}
 use Rattle.note.specs.CallAnswers.{SettingRefused, no-record, no-entry, SampleRefused, nothing-found, no-trace, no-sample}
-use Rattle.note.specs.declared.TableAnswer.{TableAnswer}
+use Rattle.note.proofs.BoolLaws.{both-tell, le-tells}
 
 -- ---- Table
 
@@ -79,10 +79,13 @@ module _ (bs : List ℕ) (place c p : ℕ) where
 
   pub setting-refused-exact : (settingAt bs place ≡ refused c p) ↔ SettingRefused bs place c p
   unfolding settingAt
-  setting-refused-exact = (go (recordFound bs place) refl, λ h. elim h [
-    no-record e ↦ rw e
-    | no-entry r e d f n q ↦ rw (e, ne-eqb (r .kind) 0x00010001 d, ne-eqb (r .kind) 0x00010002 f, n, q)
-  ])
+  setting-refused-exact = (
+    go (recordFound bs place) refl,
+    λ h. elim h [
+      | no-record e ↦ rw e
+      | no-entry r e d f n q ↦ rw (e, ne-eqb (r .kind) 0x00010001 d, ne-eqb (r .kind) 0x00010002 f, n, q)
+    ],
+  )
     where
       tests : (r : Record) → recordFound bs place ≡ ok r → (t u : Bool) → eqb (r .kind) 0x00010001 ≡ t → eqb (r .kind) 0x00010002 ≡ u
           → (x y : List Value)
@@ -96,3 +99,49 @@ module _ (bs : List ℕ) (place c p : ℕ) where
       go : (r : Res Record) → recordFound bs place ≡ r → settingGiven place r ≡ refused c p → SettingRefused bs place c p
       go (bad d q) f e = let same = refused-same e in no-record (f ∙ ap₂ (λ (x y : ℕ). bad x y) (same .0) (same .1))
       go (ok r) f e = tests r f (eqb (r .kind) 0x00010001) (eqb (r .kind) 0x00010002) refl refl _ _ e
+
+-- ---- a sample by number
+
+module _ (bs : List ℕ) (place k c p : ℕ) where
+  both-hold : (n : ℕ) → leb 1 k && leb k n ≡ true → (1 ≤ k) × (k ≤ n)
+  both-hold n e = both-tell (le-tells 1 k) (le-tells k n) .0 e
+
+  out-of-range : (n : ℕ) → (k ≡ 0) ⊎ (n < k) → leb 1 k && leb k n ≡ false
+  out-of-range n s = go (leb 1 k && leb k n) refl
+    where
+      go : (t : Bool) → leb 1 k && leb k n ≡ t → t ≡ false
+      go false e = refl
+      go true e = let h = both-hold n e in absurd (⊎-elim (λ z. omega arith) (λ z. omega arith) s)
+
+  range : (n : ℕ) → leb 1 k && leb k n ≡ false → (k ≡ 0) ⊎ (n < k)
+  range n e =
+      by-cases (decLe 1 k)
+      (λ l. by-cases (decLe k n)
+      (λ m. absurd (false≢true (sym e ∙ both-tell (le-tells 1 k) (le-tells k n) .1 (l, m)))) (λ m. inr (omega arith)))
+      (λ l. inl (omega arith))
+
+  pub sample-refused-exact : (sampleAt bs place k ≡ refused c p) ↔ SampleRefused bs place k c p
+  unfolding sampleAt traceOf
+  sample-refused-exact = (
+    go (recordFound bs place) refl,
+    λ h. elim h [
+      | nothing-found e ↦ rw e
+      | no-trace r e d n q ↦ rw (e, ne-eqb (r .kind) 0x11 d, n, q)
+      | no-sample r e t s n q ↦ rw (e, eq-eqb (r .kind) 0x11 t, out-of-range (word 44 (r .body)) s, n, q)
+    ],
+  )
+    where
+      tests : (r : Record) → recordFound bs place ≡ ok r → (t u : Bool) → eqb (r .kind) 0x11 ≡ t → leb 1 k && leb k (word 44 (r .body)) ≡ u
+          → (x : List Value)
+          → cond t (cond u (accepted x) (refused 11 place)) (refused 5 place) ≡ refused c p → SampleRefused bs place k c p
+      tests r f true true a b x e = absurd (not-refused e)
+      tests r f true false a b x e =
+          let same = refused-same e in
+          no-sample r f (eqb-true (r .kind) 0x11 a) (range (word 44 (r .body)) b)
+          (sym (same .0)) (sym (same .1))
+      tests r f false u a b x e =
+          let same = refused-same e in no-trace r f (eqb-false (r .kind) 0x11 a) (sym (same .0)) (sym (same .1))
+
+      go : (r : Res Record) → recordFound bs place ≡ r → sampleGiven place k r ≡ refused c p → SampleRefused bs place k c p
+      go (bad d q) f e = let same = refused-same e in nothing-found (f ∙ ap₂ (λ (x y : ℕ). bad x y) (same .0) (same .1))
+      go (ok r) f e = tests r f (eqb (r .kind) 0x11) (leb 1 k && leb k (word 44 (r .body))) refl refl _ e
