@@ -2,8 +2,9 @@
 -- read off the table.
 -- The idea: the search runs down the list of a file's traces, which stand in file order, and which the rows tell of.
 use mathlib.Core.Path.{_≡_, refl, sym, ap, _∙_}
-use mathlib.Core.Bool.{Bool, true, false, cond}
-use mathlib.Core.List.{List, [], _∷_, _++_}
+use mathlib.Core.Logic.{_↔_}
+use mathlib.Core.Bool.{Bool, true, false, cond, false≢true}
+use mathlib.Core.List.{List, [], _∷_, _++_, append-nil}
 use Prim.Native.Nat.{ℕ}
 use native.Mathlib.Omega.{arith}
 use Rattle.theory.specs.Words.{Bytes}
@@ -12,27 +13,39 @@ use Rattle.note.specs.Answers.{accepted, refused, counts}
 use Rattle.note.specs.Files.{File, readFile}
 use Rattle.note.specs.Rows.{rowsOf}
 use Rattle.note.specs.Calls.{TraceAt, matches, tracesOf, firstMatch, findAt}
+use Rattle.note.proofs.BoolLaws.{Tells, both-tell, eq-tells}
 use Rattle.note.proofs.AnswerLaws.{counts-determined}
 use Rattle.demands.specs.RowTraces.{rowTraces}
 use Rattle.demands.proofs.Follows.{file-sound}
 use Rattle.demands.proofs.TraceRows.{traces-are-rows}
 
--- No trace of the list matches.
+-- A trace is the one asked for: its event carries that number, and its code is that code.
+abbrev pub IsAsked : ℕ → ℕ → TraceAt → Type 0
+IsAsked number code t = (t .number ≡ number) × (t .code ≡ code)
+
+-- No trace of the list is.
 abbrev pub NoneMatches : ℕ → ℕ → List TraceAt → Type 0
 NoneMatches number code [] = Unit {0}
-NoneMatches number code (t ∷ ts) = (matches number code t ≡ false) × NoneMatches number code ts
+NoneMatches number code (t ∷ ts) = (IsAsked number code t → ⊥) × NoneMatches number code ts
 
--- The place is that of the first trace that matches.
+-- The place is that of the first trace that is.
 pub record FirstMatch (number code : ℕ) (ts : List TraceAt) (place : ℕ) : Type 0 where
   pub before : List TraceAt
   pub trace : TraceAt
   pub later : List TraceAt
   pub splits : ts ≡ before ++ trace ∷ later
   pub here : trace .place ≡ place
-  pub fits : matches number code trace ≡ true
+  pub fits : IsAsked number code trace
   pub none-before : NoneMatches number code before
 
 module _ (number code : ℕ) where
+  -- The search's test tells this.
+  matches-tell : (t : TraceAt) → Tells (matches number code t) (IsAsked number code t)
+  matches-tell t = both-tell (eq-tells (t .number) number) (eq-tells (t .code) code)
+
+  no-match : (t : TraceAt) → matches number code t ≡ false → IsAsked number code t → ⊥
+  no-match t e h = false≢true (sym e ∙ matches-tell t .1 h)
+
   -- What the search gave, by induction on the list.
   pub found-is-first : (ts : List TraceAt) (place : ℕ) → firstMatch number code ts ≡ place ∷ [] → FirstMatch number code ts place
   unfolding firstMatch
@@ -41,7 +54,8 @@ module _ (number code : ℕ) where
     where
       go : (b : Bool) → matches number code t ≡ b → cond b (t .place ∷ []) (firstMatch number code ts) ≡ place ∷ []
           → (firstMatch number code ts ≡ place ∷ [] → FirstMatch number code ts place) → FirstMatch number code (t ∷ ts) place
-      go true m q rest = record { before = []; trace = t; later = ts; splits = refl; here = cc; fits = m; none-before = tt }
+      go true m q rest =
+          record { before = []; trace = t; later = ts; splits = refl; here = cc; fits = matches-tell t .0 m; none-before = tt }
       go false m q rest =
           let r : FirstMatch number code ts place = rest q in
           record {
@@ -51,7 +65,7 @@ module _ (number code : ℕ) where
             splits = ap (λ (l : List TraceAt). t ∷ l) (r .splits);
             here = r .here;
             fits = r .fits;
-            none-before = (m, r .none-before);
+            none-before = (no-match t m, r .none-before);
           }
 
   pub nothing-matches : (ts : List TraceAt) → firstMatch number code ts ≡ [] → NoneMatches number code ts
@@ -62,7 +76,32 @@ module _ (number code : ℕ) where
       go : (b : Bool) → matches number code t ≡ b → cond b (t .place ∷ []) (firstMatch number code ts) ≡ []
           → (firstMatch number code ts ≡ [] → NoneMatches number code ts) → NoneMatches number code (t ∷ ts)
       go true m q rest = let z : _≡_ {A = ℕ} 0 1 = cc in absurd (omega arith)
-      go false m q rest = (m, rest q)
+      go false m q rest = (no-match t m, rest q)
+
+  -- And back: the search passes over what isn't asked for, and stops at what is.
+  passed-over : (before rest : List TraceAt) → NoneMatches number code before
+      → firstMatch number code (before ++ rest) ≡ firstMatch number code rest
+  unfolding firstMatch
+  passed-over [] rest h = refl
+  passed-over (t ∷ ts) rest h = go (matches number code t) refl (passed-over ts rest (h .1))
+    where
+      go : (b : Bool) → matches number code t ≡ b → firstMatch number code (ts ++ rest) ≡ firstMatch number code rest
+          → cond b (t .place ∷ []) (firstMatch number code (ts ++ rest)) ≡ firstMatch number code rest
+      go true m q = absurd (h .0 (matches-tell t .0 m))
+      go false m q = q
+
+  pub first-is-found : (ts : List TraceAt) (place : ℕ) → FirstMatch number code ts place → firstMatch number code ts ≡ place ∷ []
+  unfolding firstMatch
+  first-is-found ts place f =
+      let stop : firstMatch number code (f .trace ∷ f .later) ≡ f .trace .place ∷ [] = rw (matches-tell (f .trace) .1 (f .fits)) in
+      ap (firstMatch number code) (f .splits)
+      ∙ passed-over (f .before) (f .trace ∷ f .later) (f .none-before)
+      ∙ stop
+      ∙ ap (λ (n : ℕ). n ∷ []) (f .here)
+
+  pub none-is-nothing : (ts : List TraceAt) → NoneMatches number code ts → firstMatch number code ts ≡ []
+  unfolding firstMatch
+  none-is-nothing ts h = ap (firstMatch number code) (sym (append-nil ts)) ∙ passed-over ts [] h
 
 -- ---- Find's answer
 
@@ -82,11 +121,17 @@ module _ (bs : List ℕ) (f : File) (e : readFile bs ≡ ok f) (number code : �
   search-gave ns q = counts-determined (firstMatch number code (tracesOf f)) ns (sym found-in ∙ q)
 
   -- "The place of the first trace in file order whose event carries that number and whose code is that code; or nothing."
-  pub find-is-first : (place : ℕ) → findAt bs number code ≡ accepted (counts (place ∷ [])) → FirstMatch number code (tracesOf f) place
-  find-is-first place q = found-is-first number code (tracesOf f) place (search-gave (place ∷ []) q)
+  pub find-is-first : (place : ℕ) → (findAt bs number code ≡ accepted (counts (place ∷ []))) ↔ FirstMatch number code (tracesOf f) place
+  find-is-first place = (
+    λ q. found-is-first number code (tracesOf f) place (search-gave (place ∷ []) q),
+    λ m. found-in ∙ ap (λ (ns : List ℕ). accepted (counts ns)) (first-is-found number code (tracesOf f) place m),
+  )
 
-  pub find-nothing : findAt bs number code ≡ accepted [] → NoneMatches number code (tracesOf f)
-  find-nothing q = nothing-matches number code (tracesOf f) (search-gave [] q)
+  pub find-nothing : (findAt bs number code ≡ accepted []) ↔ NoneMatches number code (tracesOf f)
+  find-nothing = (
+    λ q. nothing-matches number code (tracesOf f) (search-gave [] q),
+    λ n. found-in ∙ ap (λ (ns : List ℕ). accepted (counts ns)) (none-is-nothing number code (tracesOf f) n),
+  )
 
   -- Find looks at nothing of an accepted file but its rows.
   pub find-by-rows : Bytes bs → findAt bs number code ≡ accepted (counts (firstMatch number code (rowTraces (rowsOf f) (rowsOf f))))
