@@ -1,6 +1,6 @@
 -- Which answers Table, Record, Setting and a sample by number give, exactly.
 -- The idea: by cases on what was read, and on each test behind it.
-use Prim.Native.Nat.{ℕ, _+_, _*_, _≤_, _<_}
+use Prim.Native.Nat.{ℕ, _+_, _-_, _*_, _≤_, _<_}
 use mathlib.Core.Path.{_≡_, refl, sym, ap₂, _∙_}
 use mathlib.Core.Logic.{_↔_, _⊎_, inl, inr, ⊎-elim, _≢_, by-cases}
 use mathlib.Core.Bool.{Bool, true, false, cond, _&&_, false≢true}
@@ -19,7 +19,7 @@ use Rattle.note.specs.Trace.{traceOf, sampleIn}
 use Rattle.note.specs.Records.{Record, alone, readRecord}
 use Rattle.note.specs.Files.{File, readFile}
 use Rattle.note.specs.Rows.{rowsOf, fits, tableGiven, tableAnswer}
-use Rattle.note.specs.Calls.{recordFound, recordGiven, recordAt, settingGiven, settingAt, isTrace, sampleGiven, sampleAt}
+use Rattle.note.specs.Calls.{recordFound, recordGiven, recordAt, settingGiven, settingAt, sampleGiven, sampleAt, samplesPart}
 use Rattle.note.specs.CallAnswers.{TableGives, file-refused, rows-fit, rows-too-many, RecordRefused, file-over, not-read}
 use Rattle.note.specs.CallAnswers.{SettingRefused, no-record, no-entry, SampleRefused, nothing-found, no-trace, no-sample}
 use Rattle.note.proofs.BoolLaws.{both-tell, le-tells}
@@ -145,3 +145,20 @@ module _ (bs : List ℕ) (place k c p : ℕ) where
       go : (r : Res Record) → recordFound bs place ≡ r → sampleGiven place k r ≡ refused c p → SampleRefused bs place k c p
       go (bad d q) f e = let same = refused-same e in nothing-found (f ∙ ap₂ (λ (x y : ℕ). bad x y) (same .0) (same .1))
       go (ok r) f e = tests r f (eqb (r .kind) 0x11) (leb 1 k && leb k (word 44 (r .body))) refl refl _ e
+
+-- ---- Samples
+
+-- A trace's samples are its body behind the first 48 bytes, which stands 8 bytes behind the place; all else has none.
+module _ (bs : List ℕ) (place : ℕ) where
+  pub samples-of-trace : (r : Record) → recordFound bs place ≡ ok r → r .kind ≡ 0x11
+      → samplesPart bs place ≡ (place + 56, length (r .body) - 48)
+  unfolding samplesPart
+  samples-of-trace r f k = rw (f, eq-eqb (r .kind) 0x11 k)
+
+  pub other-has-no-samples : (r : Record) → recordFound bs place ≡ ok r → r .kind ≢ 0x11 → samplesPart bs place ≡ (0, 0)
+  unfolding samplesPart
+  other-has-no-samples r f k = rw (f, ne-eqb (r .kind) 0x11 k)
+
+  pub refused-has-no-samples : (c p : ℕ) → recordFound bs place ≡ bad c p → samplesPart bs place ≡ (0, 0)
+  unfolding samplesPart
+  refused-has-no-samples c p f = rw f
