@@ -1,10 +1,12 @@
--- What Record and Setting give for each kind, by the places of the words: the row kind, then the fields in word order. So two exchanged
+-- What Record, Setting and a row give for each kind, by the places of the words: the row kind, then the fields in word order. So two exchanged
 -- fields, or one read from another place, show.
 use Prim.Native.Nat.{ℕ, _+_, _*_}
 use mathlib.Core.Path.{_≡_, refl, ap}
 use mathlib.Core.List.{List, [], _∷_, map}
 use lib.IntN.{ℤ}
+use lib.ListN.{length}
 use Rattle.theory.specs.Tests.{ok}
+use Rattle.theory.specs.Layout.{Child}
 use Rattle.note.specs.Words.{word, signed}
 use Rattle.note.specs.Answers.{Value, accepted, whole, float, count, counts, wholes}
 use Rattle.note.specs.Phonon.{phononOf}
@@ -16,6 +18,7 @@ use Rattle.note.specs.Gps.{Gps, gpsOf}
 use Rattle.note.specs.Trigger.{triggerOf}
 use Rattle.note.specs.Tlb.{tlbOf}
 use Rattle.note.specs.Records.{Record, kindOf}
+use Rattle.note.specs.Rows.{childOf}
 use Rattle.note.specs.Calls.{recordGiven, hundredth, phononSetting, chargeSetting, settingGiven}
 use Rattle.note.proofs.RuleLaws.{timesIn, widthIn, sectionEnd}
 use Rattle.note.proofs.GpsRuleLaws.{GpsMeans, means-fields}
@@ -98,3 +101,21 @@ module _ (place : ℕ) (b : List ℕ) where
       ≡ accepted (count 4 ∷ plain 0 ∷ plain 4 ∷ unit 8 ∷ plain 12 ∷ plain 16 ∷ plain 20 ∷ plain 24 ∷ plain 28 ∷ [])
   unfolding chargeSetting chargeOf
   charge-setting-values = refl
+
+-- ---- rows
+
+-- What a row says of a record or entry with the body b: its row kind, its whole length, and the words at two places of the body.
+module _ (b : List ℕ) where
+  abbrev rowOf : ℕ → ℕ → ℕ → Child
+  rowOf kind p q = record { kind = kind; size = 8 + length b; one = word p b; two = word q b }
+
+  pub entry-rows : (childOf (structure 0x00010001 b) ≡ rowOf 3 0 4) × (childOf (structure 0x00010002 b) ≡ rowOf 4 0 4)
+  unfolding childOf kindOf
+  entry-rows = (refl, refl)
+
+  -- History: nvt, and ntt, which stands behind the veto section.
+  pub record-rows : (childOf (structure 0x02 b) ≡ rowOf 6 8 12) × (childOf (structure 0x11 b) ≡ rowOf 7 16 44)
+      × (childOf (structure 0x21 b) ≡ rowOf 8 0 (sectionEnd 0 b)) × (childOf (structure 0x60 b) ≡ rowOf 9 0 4)
+      × (childOf (structure 0x80 b) ≡ rowOf 10 4 8) × (childOf (structure 0x81 b) ≡ rowOf 11 0 4)
+  unfolding childOf kindOf after widthAt widthOf
+  record-rows = (refl, refl, refl, refl, refl, refl)
