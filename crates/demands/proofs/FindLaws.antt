@@ -1,18 +1,20 @@
 -- Find gives the first: a trace that matches, and before it in file order none that does; or nothing, and none matches. It can be
 -- read off the table.
 -- The idea: the search runs down the list of a file's traces, which stand in file order, and which the rows tell of.
-use mathlib.Core.Path.{_≡_, refl, sym, ap, _∙_}
+use mathlib.Core.Path.{_≡_, refl, sym, ap, _∙_, subst}
 use mathlib.Core.Logic.{_↔_}
 use mathlib.Core.Bool.{Bool, true, false, cond, false≢true}
 use mathlib.Core.List.{List, [], _∷_, _++_, append-nil}
-use Prim.Native.Nat.{ℕ}
+use Prim.Native.Nat.{ℕ, _+_, _≤_}
 use native.Mathlib.Omega.{arith}
 use Rattle.theory.specs.Words.{Bytes}
 use Rattle.theory.specs.Tests.{ok, bad}
 use Rattle.note.specs.Answers.{accepted, refused, counts}
-use Rattle.note.specs.Files.{File, readFile}
+use Rattle.note.specs.Records.{Record, recordSize}
+use Rattle.note.specs.Events.{Container, containerSize}
+use Rattle.note.specs.Files.{File, configurationOf, eventsOf, readFile}
 use Rattle.note.specs.Rows.{rowsOf}
-use Rattle.note.specs.Calls.{TraceAt, matches, tracesOf, firstMatch, findAt}
+use Rattle.note.specs.Calls.{TraceAt, keptIf, isTrace, tracesIn, eventNumber, tracesFrom, tracesOf, matches, firstMatch, findAt}
 use Rattle.note.proofs.BoolLaws.{Tells, both-tell, eq-tells}
 use Rattle.note.proofs.AnswerLaws.{counts-determined}
 use Rattle.demands.specs.RowTraces.{rowTraces}
@@ -103,6 +105,39 @@ module _ (number code : ℕ) where
   unfolding firstMatch
   none-is-nothing ts h = ap (firstMatch number code) (sym (append-nil ts)) ∙ passed-over ts [] h
 
+-- ---- where traces stand
+
+-- Each stands from byte `low` on.
+abbrev Behind : ℕ → List TraceAt → Type 0
+Behind low [] = Unit {0}
+Behind low (t ∷ ts) = (low ≤ t .place) × Behind low ts
+
+module _ (low : ℕ) where
+  behind-both : (xs ys : List TraceAt) → Behind low xs → Behind low ys → Behind low (xs ++ ys)
+  behind-both [] ys a b = b
+  behind-both (x ∷ xs) ys a b = (a .0, behind-both xs ys (a .1) b)
+
+  behind-last : (xs : List TraceAt) (t : TraceAt) (ys : List TraceAt) → Behind low (xs ++ t ∷ ys) → low ≤ t .place
+  behind-last [] t ys h = h .0
+  behind-last (x ∷ xs) t ys h = behind-last xs t ys (h .1)
+
+  behind-kept : (keep : Bool) (t : TraceAt) (ts : List TraceAt) → low ≤ t .place → Behind low ts → Behind low (keptIf keep t ts)
+  behind-kept true t ts l h = (l, h)
+  behind-kept false t ts l h = h
+
+  behind-records : (number at : ℕ) (rs : List Record) → low ≤ at → Behind low (tracesIn number at rs)
+  unfolding tracesIn
+  behind-records number at [] l = tt
+  behind-records number at (r ∷ rs) l =
+      behind-kept (isTrace r) _ (tracesIn number (at + recordSize r) rs) l (behind-records number (at + recordSize r) rs (omega arith))
+
+  behind-events : (at : ℕ) (es : List Container) → low ≤ at + 8 → Behind low (tracesFrom at es)
+  unfolding tracesFrom
+  behind-events at [] l = tt
+  behind-events at (e ∷ es) l =
+      behind-both (tracesIn (eventNumber (e .body)) (at + 8) (e .body)) (tracesFrom (at + containerSize e) es)
+      (behind-records (eventNumber (e .body)) (at + 8) (e .body) l) (behind-events (at + containerSize e) es (omega arith))
+
 -- ---- Find's answer
 
 -- "A refused file gives its refusal."
@@ -137,3 +172,13 @@ module _ (bs : List ℕ) (f : File) (e : readFile bs ≡ ok f) (number code : �
   pub find-by-rows : Bytes bs → findAt bs number code ≡ accepted (counts (firstMatch number code (rowTraces (rowsOf f) (rowsOf f))))
   find-by-rows h =
       found-in ∙ ap (λ (ts : List TraceAt). accepted (counts (firstMatch number code ts))) (traces-are-rows f (file-sound bs f h e .1))
+
+  -- Header, configuration and the event's own words stand before any trace: a place that is found is never 0, which tells C of nothing.
+  pub found-behind-header : (place : ℕ) → findAt bs number code ≡ accepted (counts (place ∷ [])) → 24 ≤ place
+  unfolding tracesOf
+  found-behind-header place q =
+      let m : FirstMatch number code (tracesOf f) place = find-is-first place .0 q in
+      let all : Behind 24 (tracesOf f) = behind-events 24 (8 + containerSize (configurationOf f)) (eventsOf f) (omega arith) in
+      let there : 24 ≤ m .trace .place =
+      behind-last 24 (m .before) (m .trace) (m .later) (subst (Behind 24) (m .splits) all) in
+      omega (arith, m .here)

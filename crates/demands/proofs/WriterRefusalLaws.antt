@@ -99,15 +99,15 @@ module _ (out : List ℕ) (place fault size : ℕ) where
     λ g. rw (most-passes 1 (g .within), g .faultless, most-passes 13 (g .room), g .ends),
   )
 
-pub record-refused-exact : (out : List ℕ) (place : ℕ) (w : Written) (c p : ℕ)
+pub writer-refused-exact : (out : List ℕ) (place : ℕ) (w : Written) (c p : ℕ)
     → (recordWrote out place w ≡ bad c p) ↔ WriterRefused out place (w .fault) (length (w .bytes)) c p
 unfolding recordWrote
-record-refused-exact out place w c p = writer-refused out place (w .fault) (length (w .bytes)) c p
+writer-refused-exact out place w c p = writer-refused out place (w .fault) (length (w .bytes)) c p
 
-pub record-granted-exact : (out : List ℕ) (place : ℕ) (w : Written) (next : ℕ)
+pub writer-granted-exact : (out : List ℕ) (place : ℕ) (w : Written) (next : ℕ)
     → (recordWrote out place w ≡ ok next) ↔ WriterGranted out place (w .fault) (length (w .bytes)) next
 unfolding recordWrote
-record-granted-exact out place w next = writer-granted out place (w .fault) (length (w .bytes)) next
+writer-granted-exact out place w next = writer-granted out place (w .fault) (length (w .bytes)) next
 
 pub header-refused-exact : (out : List ℕ) (c p : ℕ) → (headerWrote out ≡ bad c p) ↔ WriterRefused out 0 0 8 c p
 unfolding headerWrote
