@@ -8,7 +8,7 @@ use mathlib.Core.List.{List, [], _∷_}
 use native.Mathlib.Omega.{arith}
 use native.Mathlib.Decide.{decLe}
 use lib.Dec.{leb, eqb}
-use lib.ListN.{length, drop}
+use lib.ListN.{length, take, drop}
 use borrow.Author.Tests.{leb-true, leb-false, le-leb, eqb-true, eqb-false, eq-eqb, ne-eqb}
 use Rattle.theory.specs.Tests.{Res, ok, bad, need, unless}
 use Rattle.theory.proofs.TestLaws.{ok-bad, bad-ok}
@@ -19,9 +19,11 @@ use Rattle.note.specs.Trace.{traceOf, sampleIn}
 use Rattle.note.specs.Records.{Record, alone, readRecord}
 use Rattle.note.specs.Files.{File, readFile}
 use Rattle.note.specs.Rows.{rowsOf, fits, tableGiven, tableAnswer}
-use Rattle.note.specs.Calls.{recordFound, recordGiven, recordAt, settingGiven, settingAt, sampleGiven, sampleAt, samplesPart}
+use Rattle.note.specs.Calls.{recordFound, recordGiven, recordAt, settingGiven, settingAt, sampleGiven, sampleAt, samplesPart, samplesAt}
+use Rattle.note.specs.Writers.{writerGiven}
 use Rattle.note.specs.CallAnswers.{TableGives, file-refused, rows-fit, rows-too-many, RecordRefused, file-over, not-read}
 use Rattle.note.specs.CallAnswers.{SettingRefused, no-record, no-entry, SampleRefused, nothing-found, no-trace, no-sample}
+use Rattle.note.proofs.AnswerLaws.{counts-determined}
 use Rattle.note.proofs.BoolLaws.{both-tell, le-tells}
 
 -- ---- Table
@@ -162,3 +164,38 @@ module _ (bs : List ℕ) (place : ℕ) where
   pub refused-has-no-samples : (c p : ℕ) → recordFound bs place ≡ bad c p → samplesPart bs place ≡ (0, 0)
   unfolding samplesPart
   refused-has-no-samples c p f = rw f
+
+  -- The part's bytes.
+  pub samples-stand : samplesAt bs place ≡ take (samplesPart bs place .1) (drop (samplesPart bs place .0) bs)
+  unfolding samplesAt
+  samples-stand = refl
+
+-- ---- Record and Setting answer what is found
+
+module _ (bs : List ℕ) (place : ℕ) (r : Record) (found : recordFound bs place ≡ ok r) where
+  pub record-as-found : recordAt bs place ≡ recordGiven place (ok r)
+  unfolding recordAt
+  record-as-found = rw found
+
+  pub setting-as-found : settingAt bs place ≡ settingGiven place (ok r)
+  unfolding settingAt
+  setting-as-found = rw found
+
+-- ---- a writer's answer
+
+-- A writer, a closing and Rewrite answer the next place where there is one, and otherwise the refusal, its number and its place.
+pub writer-answers : (r : Res ℕ) (next : ℕ) → (writerGiven r ≡ accepted (counts (next ∷ []))) ↔ (r ≡ ok next)
+unfolding writerGiven
+writer-answers r next = (go r, λ e. rw e)
+  where
+    go : (r : Res ℕ) → writerGiven r ≡ accepted (counts (next ∷ [])) → r ≡ ok next
+    go (ok n) e = let same : _≡_ {A = List ℕ} (n ∷ []) (next ∷ []) = counts-determined (n ∷ []) (next ∷ []) e in cc
+    go (bad c p) e = absurd (not-refused (sym e))
+
+pub writer-refuses : (r : Res ℕ) (c p : ℕ) → (writerGiven r ≡ refused c p) ↔ (r ≡ bad c p)
+unfolding writerGiven
+writer-refuses r c p = (go r, λ e. rw e)
+  where
+    go : (r : Res ℕ) → writerGiven r ≡ refused c p → r ≡ bad c p
+    go (ok n) e = absurd (not-refused e)
+    go (bad d q) e = cc

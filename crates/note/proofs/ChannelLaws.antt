@@ -15,7 +15,7 @@ use Rattle.theory.specs.Tests.{among}
 use Rattle.note.specs.Answers.{accepted, refused, counts}
 use Rattle.note.specs.Channels.{ascii, Channel, channelsOf, pick, same, numbered, called, beginsWith, isSome}
 use Rattle.note.specs.Channels.{typeOf, detectorOf, channelNumber, codeFrom, channelOf, named, phononNamed, chargeNamed}
-use Rattle.note.specs.Channels.{codeGiven, codeAnswer}
+use Rattle.note.specs.Channels.{nameOf, channelGiven, channelAnswer, codeGiven, codeAnswer}
 use Rattle.note.proofs.BoolLaws.{Tells, both-tell, either-tells, le-tells, OneOf, among-tells, upTo, one-up-to}
 use Rattle.note.proofs.Sweep.{all, all-at, allPairs, all-pairs-at}
 use Rattle.note.proofs.Computing.{computing}
@@ -182,6 +182,28 @@ name-leads-back kind detector name w e =
     (y, rw (k, m) g, n, k, r)
 
 -- ---- a channel code, said without names
+
+-- The two calls, one after the other: what Code answers for a name is a code for which Channel answers that name; what Channel answers for a code
+-- leads Code back to it.
+pub code-named-back : (kind detector : ℕ) (name : List ℕ) (w : ℕ) → codeAnswer kind detector name ≡ accepted (counts (w ∷ []))
+    → (cold : List ℕ)
+    × (channelAnswer w ≡ record { number = 0; place = 0; kind = kind; detector = detector; analysis = nameOf name; cold = nameOf cold })
+unfolding channelAnswer
+code-named-back kind detector name w e =
+    let (x, f, n, k, d) = name-leads-back kind detector name w e in
+    (x .cold, rw f (λ i. record { number = 0; place = 0; kind = k i; detector = d i; analysis = nameOf (n i); cold = nameOf (x .cold) }))
+
+pub channel-coded-back : (w : ℕ) → channelAnswer w .number ≡ 0
+    → (name : List ℕ) × (channelAnswer w .analysis ≡ nameOf name)
+    × (codeAnswer (channelAnswer w .kind) (channelAnswer w .detector) name ≡ accepted (counts (w ∷ [])))
+unfolding channelAnswer
+channel-coded-back w e = go (channelOf w) refl e
+  where
+    go : (o : Option Channel) → channelOf w ≡ o → channelGiven w o .number ≡ 0
+        → (name : List ℕ) × (channelGiven w o .analysis ≡ nameOf name)
+        × (codeAnswer (channelGiven w o .kind) (channelGiven w o .detector) name ≡ accepted (counts (w ∷ [])))
+    go none f z = absurd (omega arith)
+    go (some x) f z = (x .analysis, refl, code-leads-back w x f)
 
 -- A line of document 01: these detector types have the channels from `low` to `high`.
 pub record Line : Type 0 where

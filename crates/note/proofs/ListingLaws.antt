@@ -6,13 +6,16 @@ use mathlib.Core.Path.{_≡_, refl, sym, ap, _∙_, subst}
 use mathlib.Core.Bool.{Bool, true, false}
 use mathlib.Core.List.{List, [], _∷_, _++_, append-nil, append-assoc}
 use native.Mathlib.Omega.{arith}
-use native.Mathlib.Nat.{pow-suc, pow-zero}
+use native.Mathlib.Nat.{pow-suc, pow-zero, le-of-suc-le-suc, not-suc-le-zero}
 use lib.Dec.{leb, eqb, ltb}
-use lib.ListN.{length, length-append}
+use lib.ListN.{length, getD, length-append}
 use borrow.Author.Tests.{ltb-true, ltb-false, eqb-true, eqb-false, le-leb, lt-leb}
 use Rattle.note.specs.Limits.{listingLimit}
-use Rattle.note.specs.Files.{readFile}
-use Rattle.note.specs.Listing.{linesGiven, listing, digitsOf, decimalText}
+use Rattle.theory.specs.Tests.{ok, bad}
+use Rattle.theory.specs.Layout.{Row, row}
+use Rattle.note.specs.Files.{File, readFile}
+use Rattle.note.specs.Rows.{rowsOf, rowNumbers}
+use Rattle.note.specs.Listing.{rowLines, linesGiven, listing, digitsOf, decimalText}
 
 -- ---- the two ways to have digits
 
@@ -202,3 +205,41 @@ listing-within bs h = let test : leb (length bs) listingLimit ≡ true = le-leb 
 pub listing-over : (bs : List ℕ) → 16384 < length bs → listing bs ≡ (1 ∷ 0 ∷ 0 ∷ []) ∷ []
 unfolding listing
 listing-over bs h = let test : leb (length bs) listingLimit ≡ false = lt-leb (length bs) listingLimit (omega arith) in rw test
+
+-- ---- the lines of a file up to the limit
+
+row-line : (i : ℕ) (rs : List Row) (j : ℕ) → j < length rs → getD (rowLines i rs) j [] ≡ (i + j) ∷ rowNumbers (row rs j)
+unfolding rowLines
+row-line i [] j h = absurd (not-suc-le-zero h)
+row-line i (r ∷ rs) zero h = let e : i ≡ i + 0 = omega arith in ap (λ (n : ℕ). n ∷ rowNumbers r) e
+row-line i (r ∷ rs) (suc j) h =
+    let e : i + 1 + j ≡ i + suc j = omega arith in
+    row-line (i + 1) rs j (le-of-suc-le-suc h) ∙ ap (λ (n : ℕ). n ∷ rowNumbers (row rs j)) e
+
+length-lines : (i : ℕ) (rs : List Row) → length (rowLines i rs) ≡ length rs
+unfolding rowLines
+length-lines i [] = refl
+length-lines i (r ∷ rs) = ap suc (length-lines (i + 1) rs)
+
+module _ (bs : List ℕ) (within : length bs ≤ 16384) where
+  -- Refused: the refusal alone.
+  pub listing-refused : (c p : ℕ) → readFile bs ≡ bad c p → listing bs ≡ (c ∷ 0 ∷ p ∷ []) ∷ []
+  listing-refused c p e = listing-within bs within ∙ ap (linesGiven bs) e
+
+  -- Accepted: the first line, then a line for each row, with its number from 1 and its six numbers, and no line more.
+  module _ (f : File) (e : readFile bs ≡ ok f) where
+    given : listing bs ≡ (0 ∷ length (rowsOf f) ∷ length bs ∷ []) ∷ rowLines 1 (rowsOf f)
+    given = listing-within bs within ∙ ap (linesGiven bs) e
+
+    pub listing-first : getD (listing bs) 0 [] ≡ 0 ∷ length (rowsOf f) ∷ length bs ∷ []
+    listing-first = ap (λ (ls : List (List ℕ)). getD ls 0 []) given
+
+    pub listing-line : (j : ℕ) → j < length (rowsOf f) → getD (listing bs) (suc j) [] ≡ suc j ∷ rowNumbers (row (rowsOf f) j)
+    listing-line j h =
+        let number : 1 + j ≡ suc j = omega arith in
+        ap (λ (ls : List (List ℕ)). getD ls (suc j) []) given
+        ∙ row-line 1 (rowsOf f) j h
+        ∙ ap (λ (n : ℕ). n ∷ rowNumbers (row (rowsOf f) j)) number
+
+    pub listing-length : length (listing bs) ≡ suc (length (rowsOf f))
+    listing-length = ap length given ∙ ap suc (length-lines 1 (rowsOf f))

@@ -2,13 +2,20 @@
 -- Of single words from the toolchain's laws of two's complement; then of lists, word by word.
 use mathlib.Core.Path.{_≡_, refl, ap₂}
 use mathlib.Core.List.{List, [], _∷_, map}
-use Prim.Native.Nat.{ℕ}
-use lib.IntN.{ℤ}
+use Prim.Native.Nat.{ℕ, suc, _-_, _^_, _<_}
+use lib.IntN.{ℤ, pos, negsuc}
 use mir.Val.{SFits}
 use mir.Syntax.{w32}
-use mir.Facts.{toZ-ofZ, ofZ-toZ, fits-ofZ}
+use mir.Facts.{toZ-pos, toZ-neg, toZ-ofZ, ofZ-toZ, fits-ofZ}
 use Rattle.theory.specs.Words.{Fits, AllFit}
 use Rattle.note.specs.Words.{signed, unsigned, AllSigned}
+
+-- What a word means as signed: below 2^31 itself; k + 1 below 2^32 it is minus k + 1.
+pub signed-low : (w : ℕ) → w < 2 ^ 31 → signed w ≡ pos w
+signed-low w h = toZ-pos w32 h
+
+pub signed-high : (k : ℕ) → k < 2 ^ 31 → signed (2 ^ 32 - suc k) ≡ negsuc k
+signed-high k h = toZ-neg w32 k h
 
 pub signed-again : (w : ℕ) → Fits 4 w → unsigned (signed w) ≡ w
 signed-again w h = ofZ-toZ {w = w32} (record { fits = h })
