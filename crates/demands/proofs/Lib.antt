@@ -6,6 +6,7 @@ pub mod FaultLaws
 pub mod EventLaws
 pub mod RecordLaws
 pub mod PartLaws
+pub mod SampleLaws
 pub mod WalkerLaws
 pub mod FindLaws
 pub mod SpotLaws
