@@ -1,2 +1,3 @@
 pub mod TablePromises
+pub mod VisitPromises
 pub mod EditPromises

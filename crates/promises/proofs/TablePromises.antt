@@ -36,7 +36,7 @@ number-of : (buffer : List ℕ) (j c : ℕ) → c < rowWidth → numberAt buffer
 number-of buffer j c h = rw (getD-take rowWidth (drop (rowWidth * j) buffer) c 0 h, getD-drop)
 
 -- row j of the rows' numbers is row j
-flat-row : (rs : List Row) (rest : List ℕ) (j : ℕ) → j < length rs → rowAt (flat rs ++ rest) j ≡ row rs j
+pub flat-row : (rs : List Row) (rest : List ℕ) (j : ℕ) → j < length rs → rowAt (flat rs ++ rest) j ≡ row rs j
 flat-row rs rest j h = λ i. record {
   kind = at 0 refl i;
   start = at 1 refl i;

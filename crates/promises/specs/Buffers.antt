@@ -1,10 +1,10 @@
--- Document 01, 'Rows and calls': rows read back from a buffer that Table has filled.
+-- Document 01, 'Rows and calls': rows read back from a buffer that Table, or a visitor, has filled.
 use Prim.Native.Nat.{ℕ, zero, suc, _+_, _*_}
 use mathlib.Core.List.{List, [], _∷_}
 use lib.ListN.{length, getD}
 use Rattle.theory.specs.Layout.{Row}
 use Rattle.note.specs.Limits.{rowWidth}
-use Rattle.note.specs.Rows.{tableAnswer, tableBuffer}
+use Rattle.note.specs.Rows.{tableAnswer, tableBuffer, visitAnswer}
 
 -- "A row is six 32-bit numbers": number c of row j, both from 0.
 abbrev pub numberAt : List ℕ → ℕ → ℕ → ℕ
@@ -36,3 +36,7 @@ tableRows bs old = rowsFrom (tableBuffer bs old) 0 (tableCount bs old)
 
 abbrev pub tableRow : List ℕ → List ℕ → ℕ → Row
 tableRow bs old j = rowAt (tableBuffer bs old) j
+
+-- A visitor, which is no call of that document: the count that it answers for the bytes bs, from row k on, from 0, and the buffer old.
+abbrev pub visitCount : List ℕ → ℕ → List ℕ → ℕ
+visitCount bs k old = visitAnswer bs k (length old) .count
