@@ -28,3 +28,4 @@ pub mod FieldFaultLaws
 pub mod ValueLaws
 pub mod ChannelTableLaws
 pub mod CallLaws
+pub mod NamedLaws

@@ -1,0 +1,110 @@
+-- Fields by their names: in which order a writer lays them down, and which value of an answer each field of an enum's case is; a name's bytes.
+-- Two fields exchanged wherever they stand together would leave every other law true.
+-- The idea: each computes, with the names written out.
+use mathlib.Core.Path.{_≡_, refl}
+use mathlib.Core.List.{List, [], _∷_, map}
+use Rattle.theory.specs.Layout.{Row}
+use Rattle.note.specs.Words.{words, unsigned}
+use Rattle.note.specs.Answers.{whole, count, counts, wholes, accepted, givenRecord, givenSetting, givenYield}
+use Rattle.note.specs.Channels.{ascii, nameOf}
+use Rattle.note.specs.Phonon.{Phonon, phononWords, phononBytes}
+use Rattle.note.specs.Charge.{Charge, chargeWords, chargeBytes}
+use Rattle.note.specs.Administrative.{Administrative, administrativeWords, administrativeBytes}
+use Rattle.note.specs.Trace.{Trace}
+use Rattle.note.specs.Gps.{Gps, gpsNumbers}
+use Rattle.note.specs.Trigger.{Trigger, triggerMasks, triggerBytes}
+use Rattle.note.specs.Tlb.{Tlb, tlbWords, tlbBytes}
+use Rattle.note.specs.Rows.{rowNumbers}
+use Rattle.note.specs.Calls.{hundredth, phononSetting, chargeSetting}
+use Rattle.note.specs.declared.RecordAnswer.the-variants as Record
+use Rattle.note.specs.declared.SettingAnswer.the-variants as Setting
+use Rattle.note.specs.declared.WalkerYield.the-variants as Yield
+
+-- ---- an entry
+
+module _ (f : Phonon) where
+  pub phonon-words : phononBytes f ≡ words (map unsigned (f .code ∷ f .tower ∷ f .gain ∷ f .qetBias ∷ f .squidBias ∷ f .lockpoint
+      ∷ f .rtfOffset ∷ f .variableGain ∷ f .deltaT ∷ f .t0 ∷ f .traceLength ∷ []))
+  unfolding phononBytes
+  phonon-words = refl
+
+  pub phonon-answer : givenRecord (Record.Phonon (f .code) (f .tower) (f .gain) (f .qetBias) (f .squidBias) (f .lockpoint)
+      (f .rtfOffset) (f .variableGain) (f .deltaT) (f .t0) (f .traceLength)) ≡ accepted (count 3 ∷ wholes (phononWords f))
+  unfolding givenRecord
+  phonon-answer = refl
+
+  pub phonon-setting-answer : givenSetting (Setting.Phonon (f .code) (f .tower) (hundredth (f .gain)) (hundredth (f .qetBias))
+      (hundredth (f .squidBias)) (hundredth (f .lockpoint)) (f .rtfOffset) (f .variableGain) (f .deltaT) (f .t0) (f .traceLength))
+      ≡ accepted (count 3 ∷ phononSetting f)
+  unfolding givenSetting phononSetting
+  phonon-setting-answer = refl
+
+module _ (f : Charge) where
+  pub charge-words : chargeBytes f
+      ≡ words (map unsigned (f .code ∷ f .tower ∷ f .gain ∷ f .bias ∷ f .rtfOffset ∷ f .deltaT ∷ f .t0 ∷ f .traceLength ∷ []))
+  unfolding chargeBytes
+  charge-words = refl
+
+  pub charge-answer : givenRecord (Record.Charge (f .code) (f .tower) (f .gain) (f .bias) (f .rtfOffset) (f .deltaT) (f .t0)
+      (f .traceLength)) ≡ accepted (count 4 ∷ wholes (chargeWords f))
+  unfolding givenRecord
+  charge-answer = refl
+
+  pub charge-setting-answer : givenSetting (Setting.Charge (f .code) (f .tower) (hundredth (f .gain)) (f .bias) (f .rtfOffset)
+      (f .deltaT) (f .t0) (f .traceLength)) ≡ accepted (count 4 ∷ chargeSetting f)
+  unfolding givenSetting chargeSetting
+  charge-setting-answer = refl
+
+-- ---- a record
+
+module _ (f : Administrative) where
+  pub administrative-words : administrativeBytes f ≡ words (f .date ∷ f .clock ∷ f .number ∷ f .time ∷ f .since ∷ f .live ∷ [])
+  unfolding administrativeBytes
+  administrative-words = refl
+
+  pub administrative-answer : givenRecord (Record.Administrative (f .date) (f .clock) (f .number) (f .time) (f .since) (f .live))
+      ≡ accepted (count 6 ∷ counts (administrativeWords f))
+  unfolding givenRecord
+  administrative-answer = refl
+
+pub trace-answer : (f : Trace) → givenRecord (Record.Trace (f .address) (f .channel) (f .code) (f .t0) (f .delta) (f .n))
+    ≡ accepted (count 7 ∷ count (f .address) ∷ count (f .channel) ∷ count (f .code) ∷ whole (f .t0) ∷ count (f .delta) ∷ count (f .n) ∷ [])
+unfolding givenRecord
+trace-answer f = refl
+
+pub gps-answer : (f : Gps) → givenRecord (Record.Gps (f .year) (f .day) (f .status) (f .hour) (f .minute) (f .second) (f .tenths))
+    ≡ accepted (count 9 ∷ counts (gpsNumbers f))
+unfolding givenRecord
+gps-answer f = refl
+
+module _ (f : Trigger) where
+  pub trigger-words : triggerBytes f ≡ words (0 ∷ f .mask1 ∷ f .mask2 ∷ f .mask3 ∷ f .mask4 ∷ f .mask5 ∷ f .mask6 ∷ [])
+  unfolding triggerBytes
+  trigger-words = refl
+
+  pub trigger-answer : givenRecord (Record.Trigger (f .mask1) (f .mask2) (f .mask3) (f .mask4) (f .mask5) (f .mask6))
+      ≡ accepted (count 10 ∷ counts (triggerMasks f))
+  unfolding givenRecord
+  trigger-answer = refl
+
+module _ (f : Tlb) where
+  pub tlb-words : tlbBytes f ≡ words (f .tower1 ∷ f .tower2 ∷ f .tower3 ∷ f .tower4 ∷ f .tower5 ∷ f .tower6 ∷ [])
+  unfolding tlbBytes
+  tlb-words = refl
+
+  pub tlb-answer : givenRecord (Record.Tlb (f .tower1) (f .tower2) (f .tower3) (f .tower4) (f .tower5) (f .tower6))
+      ≡ accepted (count 11 ∷ counts (tlbWords f))
+  unfolding givenRecord
+  tlb-answer = refl
+
+-- ---- a row, and a name
+
+pub row-yield : (r : Row) → givenYield (Yield.Row (r .kind) (r .start) (r .whole) (r .parent) (r .one) (r .two)) ≡ accepted (counts (rowNumbers r))
+unfolding givenYield
+row-yield r = refl
+
+-- A name's bytes stand at the front of four, zeros behind them, with its length.
+pub name-bytes : (nameOf (ascii "Q") ≡ record { bytes = 0x51 ∷ 0 ∷ 0 ∷ 0 ∷ []; length = 1 })
+    × (nameOf (ascii "PS1") ≡ record { bytes = 0x50 ∷ 0x53 ∷ 0x31 ∷ 0 ∷ []; length = 3 })
+    × (nameOf (ascii "QIS1") ≡ record { bytes = 0x51 ∷ 0x49 ∷ 0x53 ∷ 0x31 ∷ []; length = 4 })
+name-bytes = (refl, refl, refl)
