@@ -1,5 +1,5 @@
--- Document 01, 'Numbers given back', of writers: "1, then fields in word order .., then 13; a container 1, 13, its own word, its contents". Which
--- refusal a writer or a closing gives, as cases of which only one can be; as Outputs has Rewrite's.
+-- Document 01, 'Numbers given back', of writers and closings: which refusal each gives, as cases in their order, of which only one can be; as
+-- Outputs has Rewrite's.
 use Prim.Native.Nat.{ℕ, _+_, _-_, _≤_, _<_}
 use mathlib.Core.Path.{_≡_}
 use mathlib.Core.Logic.{_⊎_, _≢_}

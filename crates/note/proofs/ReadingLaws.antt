@@ -148,8 +148,8 @@ module _ (c : Context) (Allowed Placed : ℕ → Type 0) (kinds : (k : ℕ) → 
       gate _ at _ _ (gate _ at _ _ (gate _ at _ _ (gate _ at _ _
       (body-need (recordRule (word 0 bs) (bodyOf bs)) at (word 0 bs) (bodyOf bs))))))
 
--- As an entry of a configuration, in an event after records of these kinds, and alone: "with the whole lent bytes as its parent and no
--- event rules".
+-- As an entry of a configuration, in an event after records of these kinds, and alone, as Record reads it: up to the end of the bytes, and
+-- nothing asked of what came before.
 pub entry-answers : (at : ℕ) (bs : List ℕ) → Answers (readRecord entry at bs) at (RecordAsked IsEntryKind (λ k. Unit {0}) bs) (recordRead bs)
 unfolding isAllowed
 entry-answers = record-answers entry IsEntryKind (λ k. Unit {0}) entry-kinds-exact (λ k a. (λ e. tt, λ u. refl)) (λ k a. inl a)

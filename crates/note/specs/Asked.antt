@@ -1,4 +1,4 @@
--- Document 01, 'Numbers given back': "the first fault in file order is given. Within a structure: ..". What is asked of a structure, as
+-- Document 01, 'Numbers given back', on which refusal a structure has where several things are wrong. What is asked of a structure, as
 -- statements one after the other, each with the number that is given where it is the first that isn't so. Said beside the tests of the
 -- definitions, and without them: a law for each rule says that both are one.
 use Prim.Native.Nat.{ℕ, _*_}
