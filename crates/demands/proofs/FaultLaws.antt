@@ -45,7 +45,7 @@ record-fault-here c at bs k p e = elim (refused order recordHead recordLate (rec
     inner (suc f) b q = cc
 
 -- The context behind records that were read is the definition's.
-steps-past : (c : Context) (rs : List Record) → steps recordItem c rs ≡ past c rs
+pub steps-past : (c : Context) (rs : List Record) → steps recordItem c rs ≡ past c rs
 steps-past c [] = refl
 steps-past c (r ∷ rs) = steps-past (recordStep c r) rs
 

@@ -3,6 +3,7 @@ pub mod Follows
 pub mod RowLaws
 pub mod ParentLaws
 pub mod FaultLaws
+pub mod ContentsLaws
 pub mod EventLaws
 pub mod RecordLaws
 pub mod PartLaws

@@ -6,6 +6,7 @@ pub mod WriterRefusals
 pub mod Assembly
 pub mod FirstFault
 pub mod Refusals
+pub mod Contents
 pub mod RowRecords
 pub mod Parents
 pub mod RowContents

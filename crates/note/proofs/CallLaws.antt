@@ -54,9 +54,9 @@ not-refused : {vs : List Value} {c p : ℕ} → accepted vs ≡ refused c p → 
 not-refused e = let z : _≡_ {A = ℕ} 0 1 = cc in omega arith
 
 module _ (bs : List ℕ) (place c p : ℕ) where
-  found-bad : (recordFound bs place ≡ bad c p) ↔ RecordRefused bs place c p
+  pub found-refused-exact : (recordFound bs place ≡ bad c p) ↔ RecordRefused bs place c p
   unfolding recordFound
-  found-bad = go (leb (length bs) fileLimit) refl
+  found-refused-exact = go (leb (length bs) fileLimit) refl
     where
       go : (t : Bool) → leb (length bs) fileLimit ≡ t
           → (need (unless t 1) 0 (readRecord alone place (drop place bs)) ≡ bad c p) ↔ RecordRefused bs place c p
@@ -71,7 +71,7 @@ module _ (bs : List ℕ) (place c p : ℕ) where
 
   pub record-refused-exact : (recordAt bs place ≡ refused c p) ↔ RecordRefused bs place c p
   unfolding recordAt
-  record-refused-exact = (λ e. found-bad .0 (go (recordFound bs place) e), λ h. rw (found-bad .1 h))
+  record-refused-exact = (λ e. found-refused-exact .0 (go (recordFound bs place) e), λ h. rw (found-refused-exact .1 h))
     where
       go : (r : Res Record) → recordGiven place r ≡ refused c p → r ≡ bad c p
       go (bad d q) e = let same = refused-same e in ap₂ (λ (x y : ℕ). bad x y) (same .0) (same .1)
@@ -171,6 +171,19 @@ module _ (bs : List ℕ) (place : ℕ) where
   samples-stand = refl
 
 -- ---- Record and Setting answer what is found
+
+-- A record is found where it is read alone, up to the end of bytes within the limit.
+pub found-exact : (bs : List ℕ) (place : ℕ) (r : Record)
+    → (recordFound bs place ≡ ok r) ↔ ((length bs ≤ 16777216) × (readRecord alone place (drop place bs) ≡ ok r))
+unfolding recordFound
+found-exact bs place r = go (leb (length bs) fileLimit) refl
+  where
+    read : Res Record
+    read = readRecord alone place (drop place bs)
+
+    go : (t : Bool) → leb (length bs) fileLimit ≡ t → (need (unless t 1) 0 read ≡ ok r) ↔ ((length bs ≤ 16777216) × (read ≡ ok r))
+    go true q = (λ e. (leb-true (length bs) fileLimit q, e), λ h. h .1)
+    go false q = (λ e. absurd (bad-ok e), λ h. absurd (omega (arith, leb-false (length bs) fileLimit q, h .0)))
 
 module _ (bs : List ℕ) (place : ℕ) (r : Record) (found : recordFound bs place ≡ ok r) where
   pub record-as-found : recordAt bs place ≡ recordGiven place (ok r)

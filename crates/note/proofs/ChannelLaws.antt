@@ -193,6 +193,21 @@ code-named-back kind detector name w e =
     let (x, f, n, k, d) = name-leads-back kind detector name w e in
     (x .cold, rw f (λ i. record { number = 0; place = 0; kind = k i; detector = d i; analysis = nameOf (n i); cold = nameOf (x .cold) }))
 
+-- Code answers a code, or 10 at 0.
+pub code-given : (kind detector : ℕ) (name : List ℕ)
+    → ((w : ℕ) × (codeAnswer kind detector name ≡ accepted (counts (w ∷ [])))) ⊎ (codeAnswer kind detector name ≡ refused 10 0)
+unfolding codeAnswer
+code-given kind detector name = go (called kind name)
+  where
+    limited : (t : Bool) (w : ℕ) → ((v : ℕ) × (cond t (accepted (counts (w ∷ []))) (refused 10 0) ≡ accepted (counts (v ∷ []))))
+        ⊎ (cond t (accepted (counts (w ∷ []))) (refused 10 0) ≡ refused 10 0)
+    limited true w = inl (w, refl)
+    limited false w = inr refl
+
+    go : (o : Option Channel) → ((w : ℕ) × (codeGiven kind detector o ≡ accepted (counts (w ∷ [])))) ⊎ (codeGiven kind detector o ≡ refused 10 0)
+    go none = inr refl
+    go (some c) = limited (leb detector 999) (codeFrom kind detector (c .channel))
+
 pub channel-coded-back : (w : ℕ) → channelAnswer w .number ≡ 0
     → (name : List ℕ) × (channelAnswer w .analysis ≡ nameOf name)
     × (codeAnswer (channelAnswer w .kind) (channelAnswer w .detector) name ≡ accepted (counts (w ∷ [])))

@@ -29,3 +29,4 @@ pub mod ValueLaws
 pub mod ChannelTableLaws
 pub mod CallLaws
 pub mod NamedLaws
+pub mod ByteLaws

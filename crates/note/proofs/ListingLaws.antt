@@ -15,7 +15,7 @@ use Rattle.theory.specs.Tests.{ok, bad}
 use Rattle.theory.specs.Layout.{Row, row}
 use Rattle.note.specs.Files.{File, readFile}
 use Rattle.note.specs.Rows.{rowsOf, rowNumbers}
-use Rattle.note.specs.Listing.{rowLines, linesGiven, listing, digitsOf, decimalText}
+use Rattle.note.specs.Listing.{rowLines, linesGiven, listing, digitsOf, decimalText, lineText, linesText, listingText}
 
 -- ---- the two ways to have digits
 
@@ -243,3 +243,19 @@ module _ (bs : List ℕ) (within : length bs ≤ 16384) where
 
     pub listing-length : length (listing bs) ≡ suc (length (rowsOf f))
     listing-length = ap length given ∙ ap suc (length-lines 1 (rowsOf f))
+
+-- ---- the text of lines
+
+-- One blank between two numbers, the line's end behind the last; lines one after the other; nothing else.
+pub line-text : (n m : ℕ) (ns : List ℕ)
+    → (lineText (n ∷ []) ≡ decimalText n ++ (10 ∷ [])) × (lineText (n ∷ m ∷ ns) ≡ decimalText n ++ (32 ∷ lineText (m ∷ ns)))
+unfolding lineText
+line-text n m ns = (refl, refl)
+
+pub lines-text : (l : List ℕ) (ls : List (List ℕ)) → (linesText [] ≡ []) × (linesText (l ∷ ls) ≡ lineText l ++ linesText ls)
+unfolding linesText
+lines-text l ls = (refl, refl)
+
+pub listing-text : (bs : List ℕ) → listingText bs ≡ linesText (listing bs)
+unfolding listingText
+listing-text bs = refl

@@ -1,24 +1,31 @@
 -- Fields by their names: in which order a writer lays them down, and which value of an answer each field of an enum's case is; a name's bytes.
 -- Two fields exchanged wherever they stand together would leave every other law true.
 -- The idea: each computes, with the names written out.
+use Prim.Native.Nat.{ℕ, _+_, _*_, _^_}
 use mathlib.Core.Path.{_≡_, refl}
-use mathlib.Core.List.{List, [], _∷_, map}
+use mathlib.Core.List.{List, [], _∷_, _++_, map}
+use lib.ListN.{length, take}
 use Rattle.theory.specs.Layout.{Row}
 use Rattle.note.specs.Words.{words, unsigned}
-use Rattle.note.specs.Answers.{whole, count, counts, wholes, accepted, givenRecord, givenSetting, givenYield}
-use Rattle.note.specs.Channels.{ascii, nameOf}
+use Rattle.note.specs.Answers.{whole, count, counts, wholes, accepted, refused, givenRecord, givenSetting}
+use Rattle.note.specs.Answers.{givenCode, givenSample, givenFind, givenYield, givenWriter}
+use Rattle.note.specs.Channels.{nameOf}
 use Rattle.note.specs.Phonon.{Phonon, phononWords, phononBytes}
 use Rattle.note.specs.Charge.{Charge, chargeWords, chargeBytes}
 use Rattle.note.specs.Administrative.{Administrative, administrativeWords, administrativeBytes}
-use Rattle.note.specs.Trace.{Trace}
-use Rattle.note.specs.Gps.{Gps, gpsNumbers}
+use Rattle.note.specs.Trace.{Trace, traceBytes}
+use Rattle.note.specs.Gps.{Gps, bcd, gpsBytes}
 use Rattle.note.specs.Trigger.{Trigger, triggerMasks, triggerBytes}
 use Rattle.note.specs.Tlb.{Tlb, tlbWords, tlbBytes}
 use Rattle.note.specs.Rows.{rowNumbers}
 use Rattle.note.specs.Calls.{hundredth, phononSetting, chargeSetting}
 use Rattle.note.specs.declared.RecordAnswer.the-variants as Record
 use Rattle.note.specs.declared.SettingAnswer.the-variants as Setting
+use Rattle.note.specs.declared.CodeAnswer.the-variants as Code
+use Rattle.note.specs.declared.SampleAnswer.the-variants as Sample
+use Rattle.note.specs.declared.FindAnswer.the-variants as Find
 use Rattle.note.specs.declared.WalkerYield.the-variants as Yield
+use Rattle.note.specs.declared.WriterAnswer.the-variants as Writer
 
 -- ---- an entry
 
@@ -73,9 +80,20 @@ unfolding givenRecord
 trace-answer f = refl
 
 pub gps-answer : (f : Gps) → givenRecord (Record.Gps (f .year) (f .day) (f .status) (f .hour) (f .minute) (f .second) (f .tenths))
-    ≡ accepted (count 9 ∷ counts (gpsNumbers f))
+    ≡ accepted (count 9 ∷ counts (f .year ∷ f .day ∷ f .status ∷ f .hour ∷ f .minute ∷ f .second ∷ f .tenths ∷ []))
 unfolding givenRecord
 gps-answer f = refl
+
+pub gps-words : (f : Gps) → gpsBytes f ≡ words (
+    (bcd 4 (f .year) * 2 ^ 16 + bcd 4 (f .day)) ∷
+    (f .status * 2 ^ 28 + bcd 2 (f .hour) * 2 ^ 16 + bcd 2 (f .minute) * 2 ^ 8 + bcd 2 (f .second)) ∷ bcd 8 (f .tenths) ∷ [])
+unfolding gpsBytes
+gps-words f = refl
+
+pub trace-words : (f : Trace) → traceBytes f ≡ words (0x11 ∷ 12 ∷ f .address ∷ f .channel ∷ f .code ∷ 0x12 ∷ 12 ∷ unsigned (f .t0) ∷ f .delta
+    ∷ f .n ∷ 0x13 ∷ f .n ∷ []) ++ f .samples
+unfolding traceBytes
+trace-words f = refl
 
 module _ (f : Trigger) where
   pub trigger-words : triggerBytes f ≡ words (0 ∷ f .mask1 ∷ f .mask2 ∷ f .mask3 ∷ f .mask4 ∷ f .mask5 ∷ f .mask6 ∷ [])
@@ -104,7 +122,30 @@ unfolding givenYield
 row-yield r = refl
 
 -- A name's bytes stand at the front of four, zeros behind them, with its length.
-pub name-bytes : (nameOf (ascii "Q") ≡ record { bytes = 0x51 ∷ 0 ∷ 0 ∷ 0 ∷ []; length = 1 })
-    × (nameOf (ascii "PS1") ≡ record { bytes = 0x50 ∷ 0x53 ∷ 0x31 ∷ 0 ∷ []; length = 3 })
-    × (nameOf (ascii "QIS1") ≡ record { bytes = 0x51 ∷ 0x49 ∷ 0x53 ∷ 0x31 ∷ []; length = 4 })
-name-bytes = (refl, refl, refl)
+pub name-bytes : (name : List ℕ) → nameOf name ≡ record { bytes = take 4 (name ++ (0 ∷ 0 ∷ 0 ∷ 0 ∷ [])); length = length name }
+name-bytes [] = refl
+name-bytes (a ∷ []) = refl
+name-bytes (a ∷ b ∷ []) = refl
+name-bytes (a ∷ b ∷ c ∷ []) = refl
+name-bytes (a ∷ b ∷ c ∷ d ∷ rest) = refl
+
+-- ---- the other cases of the enums
+
+pub history-answer : (vetoTimes vetoTimesAt vetoWidth vetoMasksAt triggerTimes triggerTimesAt triggerWidth triggerMasksAt : ℕ)
+    → givenRecord (Record.History vetoTimes vetoTimesAt vetoWidth vetoMasksAt triggerTimes triggerTimesAt triggerWidth triggerMasksAt)
+    ≡ accepted (counts (8 ∷ vetoTimes ∷ vetoTimesAt ∷ vetoWidth ∷ vetoMasksAt ∷ triggerTimes ∷ triggerTimesAt ∷ triggerWidth ∷ triggerMasksAt ∷ []))
+unfolding givenRecord
+history-answer a b c d e f g h = refl
+
+pub refusals-told : (n p : ℕ) → (givenRecord (Record.Refused n p) ≡ refused n p) × (givenSetting (Setting.Refused n p) ≡ refused n p)
+    × (givenCode (Code.Refused n p) ≡ refused n p) × (givenSample (Sample.Refused n p) ≡ refused n p)
+    × (givenFind (Find.Refused n p) ≡ refused n p) × (givenYield (Yield.Refused n p) ≡ refused n p)
+    × (givenWriter (Writer.Refused n p) ≡ refused n p)
+unfolding givenRecord givenSetting givenCode givenSample givenFind givenYield givenWriter
+refusals-told n p = (refl, refl, refl, refl, refl, refl, refl)
+
+pub values-told : (n : ℕ) → (givenCode (Code.Code n) ≡ accepted (counts (n ∷ []))) × (givenSample (Sample.Sample n) ≡ accepted (counts (n ∷ [])))
+    × (givenFind (Find.Found n) ≡ accepted (counts (n ∷ []))) × (givenFind Find.Nothing ≡ accepted [])
+    × (givenYield Yield.End ≡ accepted []) × (givenWriter (Writer.Next n) ≡ accepted (counts (n ∷ [])))
+unfolding givenCode givenSample givenFind givenYield givenWriter
+values-told n = (refl, refl, refl, refl, refl, refl)
