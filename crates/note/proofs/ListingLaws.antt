@@ -234,7 +234,9 @@ module _ (bs : List ℕ) (within : length bs ≤ 16384) where
     pub listing-first : getD (listing bs) 0 [] ≡ 0 ∷ length (rowsOf f) ∷ length bs ∷ []
     listing-first = ap (λ (ls : List (List ℕ)). getD ls 0 []) given
 
-    pub listing-line : (j : ℕ) → j < length (rowsOf f) → getD (listing bs) (suc j) [] ≡ suc j ∷ rowNumbers (row (rowsOf f) j)
+    pub listing-line : (j : ℕ) → j < length (rowsOf f)
+        → let r : Row = row (rowsOf f) j in
+        getD (listing bs) (suc j) [] ≡ suc j ∷ r .kind ∷ r .start ∷ r .whole ∷ r .parent ∷ r .one ∷ r .two ∷ []
     listing-line j h =
         let number : 1 + j ≡ suc j = omega arith in
         ap (λ (ls : List (List ℕ)). getD ls (suc j) []) given

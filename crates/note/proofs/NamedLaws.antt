@@ -7,7 +7,7 @@ use mathlib.Core.List.{List, [], _∷_, _++_, map}
 use lib.ListN.{length, take}
 use Rattle.theory.specs.Layout.{Row}
 use Rattle.note.specs.Words.{words, unsigned}
-use Rattle.note.specs.Answers.{whole, count, counts, wholes, accepted, refused, givenRecord, givenSetting}
+use Rattle.note.specs.Answers.{whole, float, count, counts, wholes, accepted, refused, givenRecord, givenSetting}
 use Rattle.note.specs.Answers.{givenCode, givenSample, givenFind, givenYield, givenWriter}
 use Rattle.note.specs.Channels.{nameOf}
 use Rattle.note.specs.Phonon.{Phonon, phononWords, phononBytes}
@@ -17,8 +17,7 @@ use Rattle.note.specs.Trace.{Trace, traceBytes}
 use Rattle.note.specs.Gps.{Gps, bcd, gpsBytes}
 use Rattle.note.specs.Trigger.{Trigger, triggerMasks, triggerBytes}
 use Rattle.note.specs.Tlb.{Tlb, tlbWords, tlbBytes}
-use Rattle.note.specs.Rows.{rowNumbers}
-use Rattle.note.specs.Calls.{hundredth, phononSetting, chargeSetting}
+use Rattle.note.specs.Calls.{hundredth}
 use Rattle.note.specs.declared.RecordAnswer.the-variants as Record
 use Rattle.note.specs.declared.SettingAnswer.the-variants as Setting
 use Rattle.note.specs.declared.CodeAnswer.the-variants as Code
@@ -42,8 +41,10 @@ module _ (f : Phonon) where
 
   pub phonon-setting-answer : givenSetting (Setting.Phonon (f .code) (f .tower) (hundredth (f .gain)) (hundredth (f .qetBias))
       (hundredth (f .squidBias)) (hundredth (f .lockpoint)) (f .rtfOffset) (f .variableGain) (f .deltaT) (f .t0) (f .traceLength))
-      ≡ accepted (count 3 ∷ phononSetting f)
-  unfolding givenSetting phononSetting
+      ≡ accepted (count 3 ∷ whole (f .code) ∷ whole (f .tower) ∷ float (hundredth (f .gain)) ∷ float (hundredth (f .qetBias))
+      ∷ float (hundredth (f .squidBias)) ∷ float (hundredth (f .lockpoint))
+      ∷ wholes (f .rtfOffset ∷ f .variableGain ∷ f .deltaT ∷ f .t0 ∷ f .traceLength ∷ []))
+  unfolding givenSetting
   phonon-setting-answer = refl
 
 module _ (f : Charge) where
@@ -58,8 +59,10 @@ module _ (f : Charge) where
   charge-answer = refl
 
   pub charge-setting-answer : givenSetting (Setting.Charge (f .code) (f .tower) (hundredth (f .gain)) (f .bias) (f .rtfOffset)
-      (f .deltaT) (f .t0) (f .traceLength)) ≡ accepted (count 4 ∷ chargeSetting f)
-  unfolding givenSetting chargeSetting
+      (f .deltaT) (f .t0) (f .traceLength))
+      ≡ accepted (count 4 ∷ whole (f .code) ∷ whole (f .tower) ∷ float (hundredth (f .gain))
+      ∷ wholes (f .bias ∷ f .rtfOffset ∷ f .deltaT ∷ f .t0 ∷ f .traceLength ∷ []))
+  unfolding givenSetting
   charge-setting-answer = refl
 
 -- ---- a record
@@ -117,7 +120,8 @@ module _ (f : Tlb) where
 
 -- ---- a row, and a name
 
-pub row-yield : (r : Row) → givenYield (Yield.Row (r .kind) (r .start) (r .whole) (r .parent) (r .one) (r .two)) ≡ accepted (counts (rowNumbers r))
+pub row-yield : (r : Row) → givenYield (Yield.Row (r .kind) (r .start) (r .whole) (r .parent) (r .one) (r .two))
+    ≡ accepted (counts (r .kind ∷ r .start ∷ r .whole ∷ r .parent ∷ r .one ∷ r .two ∷ []))
 unfolding givenYield
 row-yield r = refl
 
