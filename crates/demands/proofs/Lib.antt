@@ -30,3 +30,4 @@ pub mod ReadBackLaws
 pub mod AssemblyExample
 pub mod EventRecordLaws
 pub mod WriterRefusalLaws
+pub mod FitLaws

@@ -19,7 +19,7 @@ use Rattle.note.specs.Kinds.{Kind}
 use Rattle.note.specs.Phonon.{Phonon, phononKind, phononBytes}
 use Rattle.note.specs.Charge.{Charge, chargeKind, chargeBytes}
 use Rattle.note.specs.Administrative.{Administrative, administrativeKind, administrativeBytes}
-use Rattle.note.specs.Trace.{Trace, TraceFits, traceKind, traceWords, traceBytes, traceOf}
+use Rattle.note.specs.Trace.{Trace, traceKind, traceWords, traceBytes, traceOf}
 use Rattle.note.specs.History.{Section, History, historyKind, widthAt, widthOf, after, triggerAt, sectionOf, historyOf}
 use Rattle.note.specs.History.{sectionBytes, historyBytes, historyFault, sectionValues}
 use Rattle.note.specs.Gps.{Gps, gpsKind, gpsBytes}
@@ -234,17 +234,17 @@ module _ (out : List ℕ) (place next : ℕ) where
       ∙ fields-are place p h (record-granted out place next (writtenOf p) e .fine)
 
   -- A trace's samples, which Samples finds.
-  pub samples-read : (f : Trace) → TraceFits f → Bytes (f .samples) → recordWrote out place (traceWritten f) ≡ ok next
+  pub samples-read : (f : Trace) → PieceFits (trace f) → recordWrote out place (traceWritten f) ≡ ok next
       → samplesAt (recordOutput out place (traceWritten f)) place ≡ f .samples
   unfolding writtenOf recordOf PieceFits traceWritten traceOf samplesAt samplesPart
-  samples-read f h b e =
+  samples-read f h e =
       let w : Written = traceWritten f in
       let new : List ℕ = recordOutput out place w in
       let body : List ℕ = traceBytes f in
       let rest : List ℕ = drop next out in
       let r : Record = ofKind traceKind body in
-      let made : Writes w r = piece-writes (trace f) (h, b) in
-      let (rule, fields) = trace-read-back f h (record-granted out place next w e .fine) in
+      let made : Writes w r = piece-writes (trace f) h in
+      let (rule, fields) = trace-read-back f (h .0) (record-granted out place next w e .fine) in
       let same : drop 48 body ≡ f .samples = ap (λ (g : Trace). g .samples) fields in
       let long : 48 ≤ length body = omega (arith, trace-length body rule .0) in
       let size : length (f .samples) ≡ length body - 48 = sym (ap length same) ∙ length-drop 48 body in
@@ -291,18 +291,18 @@ module _ (bs b rest : List ℕ) (from p : ℕ) (s : Section) (stands : drop from
       }
 
 -- A history's lists stand where Record's answer says.
-pub lists-stand : (out : List ℕ) (place next : ℕ) (f : History) → SectionFits (f .veto) → SectionFits (f .trigger)
+pub lists-stand : (out : List ℕ) (place next : ℕ) (f : History) → PieceFits (history f)
     → recordWrote out place (historyWritten f) ≡ ok next
     → SectionStands (recordOutput out place (historyWritten f)) (vetoFrom place f) (f .veto)
     × SectionStands (recordOutput out place (historyWritten f)) (triggerFrom place f) (f .trigger)
 unfolding writtenOf recordOf PieceFits historyWritten
-lists-stand out place next f v t e =
+lists-stand out place next f h e =
     let w : Written = historyWritten f in
     let b : List ℕ = historyBytes f in
     let rest : List ℕ = drop next out in
     let new : List ℕ = recordOutput out place w in
     let fine : historyFault f ≡ 0 = record-granted out place next w e .fine in
-    let from : drop (place + 8) new ≡ b ++ rest = body-from out place next w (ofKind historyKind b) (piece-writes (history f) (v, t)) e in (
+    let from : drop (place + 8) new ≡ b ++ rest = body-from out place next w (ofKind historyKind b) (piece-writes (history f) h) e in (
       subst (λ (n : ℕ). SectionStands new n (f .veto)) (veto-place place f fine)
           (section-stands new b rest (place + 8) 0 (f .veto) from (veto-is place f fine)),
       subst (λ (n : ℕ). SectionStands new n (f .trigger)) (trigger-place place f fine)

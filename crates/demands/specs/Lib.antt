@@ -14,3 +14,4 @@ pub mod Edited
 pub mod RowTraces
 pub mod Numbers
 pub mod Named
+pub mod OfTypes

@@ -1,6 +1,9 @@
 -- The channel lists are the table: every code's answer, names in the cold wiring included, and nothing else is listed.
 -- The idea: type and channel of what is listed are at most 11, and there antt computes both look-ups.
 use Prim.Native.Nat.{ℕ, _+_, _*_, _/_, _%_, _≤_}
+use Prim.Native.Char.{Char, code}
+use Prim.Native.String as Str
+use Prim.Native.String.{String}
 use mathlib.Core.Path.{_≡_, refl, sym, ap, _∙_, subst}
 use mathlib.Core.Logic.{_⊎_, inl, inr, _≢_, by-cases}
 use mathlib.Core.Bool.{Bool, true, false, cond, _&&_, false≢true, and-eq-true-iff}
@@ -16,7 +19,10 @@ use Rattle.note.proofs.Sweep.{allPairs, all-pairs-at}
 use Rattle.note.proofs.ChannelLaws.{number-small, same-equal}
 use Rattle.note.proofs.Computing.{computing}
 
--- The names' letters are these bytes.
+-- A name's bytes are its letters', in their order; and the letters are these bytes.
+pub letter-by-letter : (c : Char) (s : String) → (ascii Str.[] ≡ []) × (ascii (Str._∷_ c s) ≡ code c ∷ ascii s)
+letter-by-letter c s = (refl, refl)
+
 pub letters-are-bytes : ascii "ABCDIOPQSVeto12"
     ≡ 0x41 ∷ 0x42 ∷ 0x43 ∷ 0x44 ∷ 0x49 ∷ 0x4F ∷ 0x50 ∷ 0x51 ∷ 0x53 ∷ 0x56 ∷ 0x65 ∷ 0x74 ∷ 0x6F ∷ 0x31 ∷ 0x32 ∷ []
 letters-are-bytes = refl

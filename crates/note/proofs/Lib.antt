@@ -30,3 +30,4 @@ pub mod ChannelTableLaws
 pub mod CallLaws
 pub mod NamedLaws
 pub mod ByteLaws
+pub mod SizeLaws

@@ -4,6 +4,7 @@
 use Prim.Native.Nat.{ℕ, _+_, _*_, _^_}
 use mathlib.Core.Path.{_≡_, refl}
 use mathlib.Core.List.{List, [], _∷_, _++_, map}
+use lib.IntN.{ℤ, pos}
 use lib.ListN.{length, take}
 use Rattle.theory.specs.Layout.{Row}
 use Rattle.note.specs.Words.{words, unsigned}
@@ -124,6 +125,11 @@ pub row-yield : (r : Row) → givenYield (Yield.Row (r .kind) (r .start) (r .who
     ≡ accepted (counts (r .kind ∷ r .start ∷ r .whole ∷ r .parent ∷ r .one ∷ r .two ∷ []))
 unfolding givenYield
 row-yield r = refl
+
+-- The values of an answer stand in the order of its numbers, one for each.
+pub values-in-order : (n : ℕ) (ns : List ℕ) (z : ℤ) (zs : List ℤ)
+    → (counts [] ≡ []) × (counts (n ∷ ns) ≡ whole (pos n) ∷ counts ns) × (wholes [] ≡ []) × (wholes (z ∷ zs) ≡ whole z ∷ wholes zs)
+values-in-order n ns z zs = (refl, refl, refl, refl)
 
 -- A name's bytes stand at the front of four, zeros behind them, with its length.
 pub name-bytes : (name : List ℕ) → nameOf name ≡ record { bytes = take 4 (name ++ (0 ∷ 0 ∷ 0 ∷ 0 ∷ [])); length = length name }

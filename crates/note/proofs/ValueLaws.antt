@@ -9,16 +9,17 @@ use Rattle.theory.specs.Tests.{ok}
 use Rattle.theory.specs.Layout.{Child}
 use Rattle.note.specs.Words.{word, signed}
 use Rattle.note.specs.Answers.{Value, accepted, whole, float, count, counts, wholes}
-use Rattle.note.specs.Phonon.{phononOf}
-use Rattle.note.specs.Charge.{chargeOf}
-use Rattle.note.specs.Administrative.{administrativeOf}
-use Rattle.note.specs.Trace.{traceOf}
-use Rattle.note.specs.History.{widthAt, widthOf, after, sectionValues}
-use Rattle.note.specs.Gps.{Gps, gpsOf}
-use Rattle.note.specs.Trigger.{triggerOf}
-use Rattle.note.specs.Tlb.{tlbOf}
+use Rattle.note.specs.Phonon.{phononOf, phononBytes}
+use Rattle.note.specs.Charge.{chargeOf, chargeBytes}
+use Rattle.note.specs.Administrative.{administrativeOf, administrativeBytes}
+use Rattle.note.specs.Trace.{traceOf, traceBytes}
+use Rattle.note.specs.History.{widthAt, widthOf, after, sectionValues, historyOf, historyBytes}
+use Rattle.note.specs.Gps.{Gps, gpsOf, gpsBytes}
+use Rattle.note.specs.Trigger.{triggerOf, triggerBytes}
+use Rattle.note.specs.Tlb.{tlbOf, tlbBytes}
 use Rattle.note.specs.Records.{Record, kindOf}
 use Rattle.note.specs.Rows.{childOf}
+use Rattle.note.specs.Writers.{recordAgain}
 use Rattle.note.specs.Calls.{recordGiven, hundredth, phononSetting, chargeSetting, settingGiven}
 use Rattle.note.proofs.RuleLaws.{timesIn, widthIn, sectionEnd}
 use Rattle.note.proofs.GpsRuleLaws.{GpsMeans, means-fields}
@@ -119,3 +120,15 @@ module _ (b : List ℕ) where
       × (childOf (structure 0x80 b) ≡ rowOf 10 4 8) × (childOf (structure 0x81 b) ≡ rowOf 11 0 4)
   unfolding childOf kindOf after widthAt widthOf
   record-rows = (refl, refl, refl, refl, refl, refl)
+
+  -- Rewrite makes each record again from its fields: the body that its kind's writer makes of them.
+  pub rewritten-fields : (recordAgain (structure 0x00010001 b) ≡ structure 0x00010001 (phononBytes (phononOf b)))
+      × (recordAgain (structure 0x00010002 b) ≡ structure 0x00010002 (chargeBytes (chargeOf b)))
+      × (recordAgain (structure 0x02 b) ≡ structure 0x02 (administrativeBytes (administrativeOf b)))
+      × (recordAgain (structure 0x11 b) ≡ structure 0x11 (traceBytes (traceOf b)))
+      × (recordAgain (structure 0x21 b) ≡ structure 0x21 (historyBytes (historyOf b)))
+      × (recordAgain (structure 0x60 b) ≡ structure 0x60 (gpsBytes (gpsOf b)))
+      × (recordAgain (structure 0x80 b) ≡ structure 0x80 (triggerBytes (triggerOf b)))
+      × (recordAgain (structure 0x81 b) ≡ structure 0x81 (tlbBytes (tlbOf b)))
+  unfolding recordAgain kindOf
+  rewritten-fields = (refl, refl, refl, refl, refl, refl, refl, refl)

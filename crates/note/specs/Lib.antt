@@ -24,3 +24,4 @@ pub mod Asked
 pub mod EventKinds
 pub mod ChannelTable
 pub mod CallAnswers
+pub mod Sizes
