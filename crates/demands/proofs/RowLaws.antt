@@ -2,7 +2,8 @@
 -- stands before it, and there are no more rows than an eighth of the length.
 -- The idea: a file's nodes have the sizes of its structures; the theory's laws of rows do the rest.
 use mathlib.Core.Path.{_≡_, refl, sym, subst}
-use mathlib.Core.Bool.{false}
+use mathlib.Core.Bool.{true, false}
+use mathlib.Core.Logic.{_↔_, _⊎_}
 use mathlib.Core.List.{List, [], _∷_, _++_, map}
 use Prim.Native.Nat.{ℕ, _+_, _*_, _%_, _≤_, _<_}
 use native.Mathlib.Omega.{arith}
@@ -17,9 +18,14 @@ use Rattle.note.specs.Records.{Record, recordBytes, recordSize, recordsBytes, k
 use Rattle.note.specs.Events.{Container, containerBytes, containerSize, eventsBytes}
 use Rattle.note.specs.Files.{File, configurationOf, eventsOf, versionOf, headerBytes, fileBytes, readFile}
 use Rattle.note.specs.Rows.{childOf, childrenOf, eventNode, nodesOf, rowsOf, isBox}
+use Rattle.note.proofs.BoolLaws.{either-tells, eq-tells}
 use Rattle.note.proofs.KindCases.{kind-cases}
 use Rattle.demands.proofs.Bundles.{headerItem}
 use Rattle.demands.proofs.Follows.{file-sound}
+
+-- A container's row is the configuration's or an event's: it owns its first eight bytes, any other row all of its own.
+pub boxes-exact : (k : ℕ) → (isBox k ≡ true) ↔ ((k ≡ 2) ⊎ (k ≡ 5))
+boxes-exact k = either-tells (eq-tells k 2) (eq-tells k 5)
 
 -- ---- sizes
 

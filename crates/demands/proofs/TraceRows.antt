@@ -127,8 +127,8 @@ module _ (f : File) (v : Valid f) where
       ∙ sym (no-entries (rowsOf f) 2 16 (c .body) (rowsBehind f) (v .entries-valid))
 
   -- Behind the parent's row of a trace's row stands an administrative row.
-  pub number-row-administrative : (j : ℕ) → j < length (rowsOf f) → row (rowsOf f) j .kind ≡ traceKind .row
-      → row (rowsOf f) (row (rowsOf f) j .parent) .kind ≡ administrativeKind .row
+  pub number-row-administrative : (j : ℕ) → j < length (rowsOf f) → row (rowsOf f) j .kind ≡ 7
+      → row (rowsOf f) (row (rowsOf f) j .parent) .kind ≡ 6
   unfolding rowsOf nodesOf rows
   number-row-administrative j l =
       let entries = headed-entries (rowsOf f) 2 16 (c .body) (v .entries-valid) in

@@ -31,3 +31,4 @@ pub mod CallLaws
 pub mod NamedLaws
 pub mod ByteLaws
 pub mod SizeLaws
+pub mod FileBytes

@@ -126,10 +126,11 @@ pub row-yield : (r : Row) → givenYield (Yield.Row (r .kind) (r .start) (r .who
 unfolding givenYield
 row-yield r = refl
 
--- The values of an answer stand in the order of its numbers, one for each.
+-- The values of an answer stand in the order of its numbers, one for each, and are those numbers.
 pub values-in-order : (n : ℕ) (ns : List ℕ) (z : ℤ) (zs : List ℤ)
-    → (counts [] ≡ []) × (counts (n ∷ ns) ≡ whole (pos n) ∷ counts ns) × (wholes [] ≡ []) × (wholes (z ∷ zs) ≡ whole z ∷ wholes zs)
-values-in-order n ns z zs = (refl, refl, refl, refl)
+    → (count n ≡ whole (pos n)) × (counts [] ≡ []) × (counts (n ∷ ns) ≡ whole (pos n) ∷ counts ns)
+    × (wholes [] ≡ []) × (wholes (z ∷ zs) ≡ whole z ∷ wholes zs)
+values-in-order n ns z zs = (refl, refl, refl, refl, refl)
 
 -- A name's bytes stand at the front of four, zeros behind them, with its length.
 pub name-bytes : (name : List ℕ) → nameOf name ≡ record { bytes = take 4 (name ++ (0 ∷ 0 ∷ 0 ∷ 0 ∷ [])); length = length name }
