@@ -11,6 +11,7 @@ use native.Mathlib.Omega.{arith}
 use lib.ListN.{length, getD, length-append, length-map}
 use Rattle.theory.specs.Words.{Bytes, Fits, put}
 use Rattle.theory.specs.Tests.{Res, ok, bad}
+use Rattle.theory.specs.Structures.{Structure, structureBytes}
 use Rattle.theory.specs.Layout.{Row, Node, total, childRow, childRows, rows, rowCount, row, childCount}
 use Rattle.theory.proofs.WordLaws.{word-after-put, word-past}
 use Rattle.theory.proofs.StructureLaws.{second-word}
@@ -37,14 +38,14 @@ use Rattle.demands.proofs.PieceLaws.{shown}
 
 -- ---- one row
 
--- The two words of a container that stands behind `before`.
-container-words : (bs before rest : List ℕ) (c : Container) → Fits 4 (c .kind) → Fits 4 (length (recordsBytes (c .body)))
-    → bs ≡ before ++ (containerBytes c ++ rest)
-    → (word (length before) bs ≡ c .kind) × (word (length before + 4) bs ≡ length (recordsBytes (c .body)))
-container-words bs before rest c kind-fits length-fits e =
-    let later : List ℕ = recordsBytes (c .body) ++ rest in
-    let n : List ℕ = put order 4 (length (recordsBytes (c .body))) in
-    let apart : bs ≡ before ++ (put order 4 (c .kind) ++ (n ++ later)) = e ∙ ap (λ (x : List ℕ). before ++ x) (structure-apart recordsBytes c rest) in
+-- The two words of a structure that stands behind `before`.
+structure-words : {B : Type 0} (bodyBytes : B → List ℕ) (bs before rest : List ℕ) (c : Structure B)
+    → Fits 4 (c .kind) → Fits 4 (length (bodyBytes (c .body))) → bs ≡ before ++ (structureBytes order bodyBytes c ++ rest)
+    → (word (length before) bs ≡ c .kind) × (word (length before + 4) bs ≡ length (bodyBytes (c .body)))
+structure-words bodyBytes bs before rest c kind-fits length-fits e =
+    let later : List ℕ = bodyBytes (c .body) ++ rest in
+    let n : List ℕ = put order 4 (length (bodyBytes (c .body))) in
+    let apart : bs ≡ before ++ (put order 4 (c .kind) ++ (n ++ later)) = e ∙ ap (λ (x : List ℕ). before ++ x) (structure-apart bodyBytes c rest) in
     let start : length before ≡ length before + 0 = omega arith in (
       ap (λ (p : ℕ). word p bs) start ∙ ap (word (length before + 0)) apart
           ∙ word-past order 4 0 before (put order 4 (c .kind) ++ (n ++ later)) ∙ word-after-put order 4 (c .kind) (n ++ later) kind-fits,
@@ -54,16 +55,17 @@ container-words bs before rest c kind-fits length-fits e =
 
 -- The row of a valid record that Record finds at the place `at`.
 record-row : (c : Context) (bs : List ℕ) (p at : ℕ) (r : Record) → ValidRecord c r → recordFound bs at ≡ ok r
-    → PieceRow bs (childRow p at (childOf r))
+    → word (at + 4) bs ≡ length (r .body) → PieceRow bs (childRow p at (childOf r))
 unfolding childOf recordAt
-record-row c bs p at r v e =
+record-row c bs p at r v e long =
     let s = shown at (r .body) (v .body-bytes) (r .kind) (v .body-rule) in
     record {
       fields = s .fields;
       found = e ∙ ap (λ (x : Record). ok x) (sym (s .made));
       answer = ap (recordGiven at) e ∙ s .answer;
       kind = s .kind;
-      whole = ap recordSize (sym (s .made));
+      whole = ap (λ (n : ℕ). 8 + n) (sym long);
+      size = ap recordSize (sym (s .made));
       one = s .one;
       two = s .two;
     }
@@ -108,13 +110,16 @@ module _ (bs : List ℕ) (limit : length bs ≤ fileLimit) (all : List Row) wher
       let size : at + recordSize r ≡ length (before ++ recordBytes r) = omega (arith, length-append before (recordBytes r), record-size r) in
       let found : recordFound bs at ≡ ok r =
       subst (λ (m : ℕ). recordFound bs m ≡ ok r) (sym ea)
-      (found-from bs before (recordBytes r ++ later) (ok r) limit shape (reads-record c r (length before) later (v .0))) in (
+      (found-from bs before (recordBytes r ++ later) (ok r) limit shape (reads-record c r (length before) later (v .0))) in
+      let long : word (at + 4) bs ≡ length (r .body) =
+      ap (λ (m : ℕ). word (m + 4) bs) ea
+      ∙ structure-words (λ (b : List ℕ). b) bs before later r (v .0 .kind-fits) (v .0 .length-fits) shape .1 in (
         found,
         record {
           header = λ z. absurd (omega arith);
           configuration = λ z. absurd (omega arith);
           event = λ z k. absurd (false≢true (sym (child-kind (r .kind)) ∙ ap isBox k));
-          piece = λ z d. record-row c bs p at r (v .0) found;
+          piece = λ z d. record-row c bs p at r (v .0) found long;
         },
         reads-children (behind c (r .kind)) (suc n) p (at + recordSize r) rs (before ++ recordBytes r) rest (omega arith) (v .1)
             (shape ∙ sym (append-assoc before (recordBytes r) later)) size,
@@ -147,7 +152,7 @@ module _ (bs : List ℕ) (limit : length bs ≤ fileLimit) (all : List Row) wher
       let kids : List Row = recordRows i (at + 8) (x .body) in
       let mark = event-mark (x .kind) (v .0 .word-rule) in
       let size : 8 + total (childrenOf (x .body)) ≡ length (containerBytes x) = omega (arith, children-total (x .body), container-size x) in
-      let (first, second) = container-words bs before (eventsBytes es) x (v .0 .word-fits) (v .0 .length-fits) e in
+      let (first, second) = structure-words recordsBytes bs before (eventsBytes es) x (v .0 .word-fits) (v .0 .length-fits) e in
       let first-at : word at bs ≡ x .kind = ap (λ (p : ℕ). word p bs) ea ∙ first in
       let second-at : word (at + 4) bs ≡ length (recordsBytes (x .body)) = ap (λ (p : ℕ). word (p + 4) bs) ea ∙ second in
       let counted : childCount (suc n) all ≡ length (x .body) =
@@ -197,7 +202,7 @@ module _ (bs : List ℕ) (f : File) (h : Bytes bs) (e : readFile bs ≡ ok f) wh
       let apart : bs ≡ put order 4 fileMark ++ (version ++ later) = eb ∙ append-assoc (put order 4 fileMark) version later in
       let mark : word 0 bs ≡ fileMark = ap (word 0) apart ∙ word-after-put order 4 fileMark (version ++ later) (omega arith) in
       let room : 8 ≤ length bs = rw eb (omega (arith, length-append top later)) in
-      let (first, second) = container-words bs top (eventsBytes es) c fitting (v .configuration-fits) eb in
+      let (first, second) = structure-words recordsBytes bs top (eventsBytes es) c fitting (v .configuration-fits) eb in
       let kids : List Row = recordRows 2 16 (c .body) in
       let own : RowRead bs (rowsOf f) 1 (configurationRow c) = record {
         header = λ z. absurd (omega arith);

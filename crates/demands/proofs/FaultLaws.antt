@@ -11,14 +11,14 @@ use lib.ListN.{length, take, drop, length-append, length-drop, take-append-drop}
 use lib.Seq.{length-take-le}
 use lib.Dec.{leb}
 use borrow.Author.Tests.{lt-leb, leb-true, leb-false}
-use Rattle.theory.specs.Words.{Bytes, wordAt, put, Fits}
+use Rattle.theory.specs.Words.{Bytes, wordAt, put, puts, bytes, Fits}
 use Rattle.theory.specs.Tests.{Res, ok, bad, need, bind, unless}
 use Rattle.theory.proofs.WordLaws.{Bytes-part, Bytes-right, length-put, word-fits}
 use Rattle.theory.proofs.TestLaws.{ok-bad, bad-inj, need-pass, equal-passed, most-passes, first-at}
 use Rattle.theory.proofs.Items.{steps, seq-refused, seq-refuses}
 use Rattle.theory.proofs.StructureLaws.{BodyFault, refused, structure-past, restore-two, inside, pair, pair-refused, pair-refuses, words-refused}
 use Rattle.note.specs.Limits.{fileLimit}
-use Rattle.note.specs.Words.{order}
+use Rattle.note.specs.Words.{order, words}
 use Rattle.note.specs.Records.{Record, Context, entry, event, none, recordHead, recordLate, recordRule, recordStep, recordsBytes, readRecord}
 use Rattle.note.specs.Events.{Container, containerBytes, eventsBytes, eventMark, eventWordRule, eventHead, eventLate}
 use Rattle.note.specs.Files.{File, configurationWord, configurationHead, configurationLate, headerBytes, fileMark, versionRule}
@@ -52,6 +52,10 @@ steps-past c (r ∷ rs) = steps-past (recordStep c r) rs
 -- The two words in front of a container's contents are eight bytes.
 pub length-front : (w n : ℕ) → length (front w n) ≡ 8
 length-front w n = omega (arith, length-append (put order 4 w) (put order 4 n), length-put order 4 w, length-put order 4 n)
+
+pub front-bytes : (w n : ℕ) → front w n ≡ words (w ∷ n ∷ [])
+unfolding puts put bytes
+front-bytes w n = refl
 
 -- A container of records that is refused: itself, or at one of its records, those before it being valid.
 module _ (head : Unit {0} → ℕ → ℕ) (late : Unit {0} → ℕ → ℕ → ℕ) (start : Context) where

@@ -59,13 +59,14 @@ rowValues (trigger f) = (f .mask1, f .mask2)
 rowValues (tlb f) = (f .tower1, f .tower2)
 
 -- The row of a record or an entry: the fields that Record answers at its start, of the record that it finds there; that record's kind and
--- size; two of those fields.
+-- size, which is its length word's; two of those fields.
 pub record PieceRow (bs : List ℕ) (r : Row) : Type 0 where
   pub fields : Piece
   pub found : recordFound bs (r .start) ≡ ok (recordOf fields)
   pub answer : recordAt bs (r .start) ≡ answerOf (r .start) fields
   pub kind : r .kind ≡ rowKind fields
-  pub whole : r .whole ≡ recordSize (recordOf fields)
+  pub whole : r .whole ≡ 8 + word (r .start + 4) bs
+  pub size : r .whole ≡ recordSize (recordOf fields)
   pub one : r .one ≡ rowValues fields .0
   pub two : r .two ≡ rowValues fields .1
 
