@@ -11,13 +11,13 @@ use Rattle.note.specs.Words.{words, unsigned}
 use Rattle.note.specs.Answers.{whole, float, count, counts, wholes, accepted, refused, givenRecord, givenSetting}
 use Rattle.note.specs.Answers.{givenCode, givenSample, givenFind, givenYield, givenWriter}
 use Rattle.note.specs.Channels.{nameOf}
-use Rattle.note.specs.Phonon.{Phonon, phononWords, phononBytes}
-use Rattle.note.specs.Charge.{Charge, chargeWords, chargeBytes}
-use Rattle.note.specs.Administrative.{Administrative, administrativeWords, administrativeBytes}
+use Rattle.note.specs.Phonon.{Phonon, phononBytes}
+use Rattle.note.specs.Charge.{Charge, chargeBytes}
+use Rattle.note.specs.Administrative.{Administrative, administrativeBytes}
 use Rattle.note.specs.Trace.{Trace, traceBytes}
 use Rattle.note.specs.Gps.{Gps, bcd, gpsBytes}
-use Rattle.note.specs.Trigger.{Trigger, triggerMasks, triggerBytes}
-use Rattle.note.specs.Tlb.{Tlb, tlbWords, tlbBytes}
+use Rattle.note.specs.Trigger.{Trigger, triggerBytes}
+use Rattle.note.specs.Tlb.{Tlb, tlbBytes}
 use Rattle.note.specs.Calls.{hundredth}
 use Rattle.note.specs.declared.RecordAnswer.the-variants as Record
 use Rattle.note.specs.declared.SettingAnswer.the-variants as Setting
@@ -36,7 +36,9 @@ module _ (f : Phonon) where
   phonon-words = refl
 
   pub phonon-answer : givenRecord (Record.Phonon (f .code) (f .tower) (f .gain) (f .qetBias) (f .squidBias) (f .lockpoint)
-      (f .rtfOffset) (f .variableGain) (f .deltaT) (f .t0) (f .traceLength)) ≡ accepted (count 3 ∷ wholes (phononWords f))
+      (f .rtfOffset) (f .variableGain) (f .deltaT) (f .t0) (f .traceLength))
+      ≡ accepted (count 3 ∷ wholes (f .code ∷ f .tower ∷ f .gain ∷ f .qetBias ∷ f .squidBias ∷ f .lockpoint
+      ∷ f .rtfOffset ∷ f .variableGain ∷ f .deltaT ∷ f .t0 ∷ f .traceLength ∷ []))
   unfolding givenRecord
   phonon-answer = refl
 
@@ -55,7 +57,8 @@ module _ (f : Charge) where
   charge-words = refl
 
   pub charge-answer : givenRecord (Record.Charge (f .code) (f .tower) (f .gain) (f .bias) (f .rtfOffset) (f .deltaT) (f .t0)
-      (f .traceLength)) ≡ accepted (count 4 ∷ wholes (chargeWords f))
+      (f .traceLength))
+      ≡ accepted (count 4 ∷ wholes (f .code ∷ f .tower ∷ f .gain ∷ f .bias ∷ f .rtfOffset ∷ f .deltaT ∷ f .t0 ∷ f .traceLength ∷ []))
   unfolding givenRecord
   charge-answer = refl
 
@@ -74,7 +77,7 @@ module _ (f : Administrative) where
   administrative-words = refl
 
   pub administrative-answer : givenRecord (Record.Administrative (f .date) (f .clock) (f .number) (f .time) (f .since) (f .live))
-      ≡ accepted (count 6 ∷ counts (administrativeWords f))
+      ≡ accepted (count 6 ∷ counts (f .date ∷ f .clock ∷ f .number ∷ f .time ∷ f .since ∷ f .live ∷ []))
   unfolding givenRecord
   administrative-answer = refl
 
@@ -105,7 +108,7 @@ module _ (f : Trigger) where
   trigger-words = refl
 
   pub trigger-answer : givenRecord (Record.Trigger (f .mask1) (f .mask2) (f .mask3) (f .mask4) (f .mask5) (f .mask6))
-      ≡ accepted (count 10 ∷ counts (triggerMasks f))
+      ≡ accepted (count 10 ∷ counts (f .mask1 ∷ f .mask2 ∷ f .mask3 ∷ f .mask4 ∷ f .mask5 ∷ f .mask6 ∷ []))
   unfolding givenRecord
   trigger-answer = refl
 
@@ -115,7 +118,7 @@ module _ (f : Tlb) where
   tlb-words = refl
 
   pub tlb-answer : givenRecord (Record.Tlb (f .tower1) (f .tower2) (f .tower3) (f .tower4) (f .tower5) (f .tower6))
-      ≡ accepted (count 11 ∷ counts (tlbWords f))
+      ≡ accepted (count 11 ∷ counts (f .tower1 ∷ f .tower2 ∷ f .tower3 ∷ f .tower4 ∷ f .tower5 ∷ f .tower6 ∷ []))
   unfolding givenRecord
   tlb-answer = refl
 
