@@ -68,6 +68,7 @@ record-row c bs p at r v e long =
       size = ap recordSize (sym (s .made));
       one = s .one;
       two = s .two;
+      by-words = ap (λ (x : Record). childRow p at (childOf x)) (sym (s .made));
     }
 
 -- ---- along the rows

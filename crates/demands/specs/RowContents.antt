@@ -5,10 +5,11 @@ use mathlib.Core.Path.{_≡_}
 use mathlib.Core.Logic.{_≢_}
 use mathlib.Core.List.{List}
 use Rattle.theory.specs.Tests.{ok}
-use Rattle.theory.specs.Layout.{Row, childCount}
+use Rattle.theory.specs.Layout.{Row, childRow, childCount}
 use Rattle.note.specs.Words.{word, unsigned}
 use Rattle.note.specs.Gps.{gpsBytes}
 use Rattle.note.specs.Records.{recordSize}
+use Rattle.note.specs.Rows.{childOf}
 use Rattle.note.specs.Calls.{recordFound, recordAt}
 use Rattle.demands.specs.Pieces.{Piece, phonon, charge, administrative, trace, history, gps, trigger, tlb, recordOf, answerOf}
 
@@ -59,7 +60,7 @@ rowValues (trigger f) = (f .mask1, f .mask2)
 rowValues (tlb f) = (f .tower1, f .tower2)
 
 -- The row of a record or an entry: the fields that Record answers at its start, of the record that it finds there; that record's kind and
--- size, which is its length word's; two of those fields.
+-- size, which is its length word's; two of those fields. It is the row that the definition of rows makes of that record, in words of its body.
 pub record PieceRow (bs : List ℕ) (r : Row) : Type 0 where
   pub fields : Piece
   pub found : recordFound bs (r .start) ≡ ok (recordOf fields)
@@ -69,6 +70,7 @@ pub record PieceRow (bs : List ℕ) (r : Row) : Type 0 where
   pub size : r .whole ≡ recordSize (recordOf fields)
   pub one : r .one ≡ rowValues fields .0
   pub two : r .two ≡ rowValues fields .1
+  pub by-words : r ≡ childRow (r .parent) (r .start) (childOf (recordOf fields))
 
 -- Row j of the rows all, from 0: the first is the header's, the second the configuration's; behind them a row of kind 5 is an event's, any
 -- other that of an entry or a record.
