@@ -1,4 +1,4 @@
--- What the words of this format are in bytes, with the bytes written out; which lists are bytes, and which numbers fit a word.
+-- What the words of this format are in bytes, with the bytes written out; which lists are bytes, and which numbers fit a word; the limits.
 -- The idea: each computes, but for the bytes of a list, which are gone through one by one.
 use Prim.Native.Nat.{ℕ, zero, suc, _+_, _*_, _/_, _%_, _<_, suc-le-suc}
 use mathlib.Core.Path.{_≡_, refl}
@@ -8,6 +8,7 @@ use native.Mathlib.Nat.{le-of-suc-le-suc, not-suc-le-zero}
 use native.Mathlib.Omega.{arith}
 use lib.ListN.{length, drop, getD}
 use Rattle.theory.specs.Words.{Bytes, Fits, wordAt, put, puts, bytes}
+use Rattle.note.specs.Limits.{fileLimit, fewestSamples, mostSamples, rowWidth, listingLimit}
 use Rattle.note.specs.Words.{word, words}
 
 -- The lowest byte stands first, in reading and in writing.
@@ -39,3 +40,7 @@ bytes-exact bs = (there bs, back bs)
 
 pub fits-exact : (n : ℕ) → Fits 4 n ↔ (n < 4294967296)
 fits-exact n = (λ h. omega (arith, h), λ h. omega (arith, h))
+
+-- The limits, as numbers.
+pub limits-in-numbers : (fileLimit ≡ 16777216) × (fewestSamples ≡ 2) × (mostSamples ≡ 32768) × (rowWidth ≡ 6) × (listingLimit ≡ 16384)
+limits-in-numbers = (refl, refl, refl, refl, refl)

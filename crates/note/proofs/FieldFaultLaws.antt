@@ -32,6 +32,14 @@ use Rattle.note.proofs.TlbLaws.{tower-word}
 
 -- ---- what a writer asks of its fields
 
+-- A field's fault, of which the round trips speak, is the writer's.
+module _ (f : Phonon) (g : Charge) (a : Administrative) (t : Trace) (h : History) (c : Gps) (m : Tlb) where
+  pub faults-of-writers : (phononWritten f .fault ≡ phononFault (unsigned (f .code))) × (chargeWritten g .fault ≡ chargeFault (unsigned (g .code)))
+      × (administrativeWritten a .fault ≡ administrativeFault (a .date) (a .clock)) × (traceWritten t .fault ≡ traceFault t)
+      × (historyWritten h .fault ≡ historyFault h) × (gpsWritten c .fault ≡ gpsFault c) × (tlbWritten m .fault ≡ tlbFault m)
+  unfolding phononWritten chargeWritten administrativeWritten traceWritten historyWritten gpsWritten tlbWritten
+  faults-of-writers = (refl, refl, refl, refl, refl, refl, refl)
+
 pub phonon-fault-exact : (f : Phonon) (c : ℕ) → (phononWritten f .fault ≡ c) ↔ asks (CodeOf phononLines (unsigned (f .code))) 10 fine c
 unfolding phononWritten phononFault
 phonon-fault-exact f = alone-gives (asked (phonon-code-is-listed (unsigned (f .code))) no-more)

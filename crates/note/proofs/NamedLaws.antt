@@ -15,6 +15,7 @@ use Rattle.note.specs.Phonon.{Phonon, phononBytes}
 use Rattle.note.specs.Charge.{Charge, chargeBytes}
 use Rattle.note.specs.Administrative.{Administrative, administrativeBytes}
 use Rattle.note.specs.Trace.{Trace, traceBytes}
+use Rattle.note.specs.History.{Section, History, sectionBytes, historyBytes}
 use Rattle.note.specs.Gps.{Gps, bcd, gpsBytes}
 use Rattle.note.specs.Trigger.{Trigger, triggerBytes}
 use Rattle.note.specs.Tlb.{Tlb, tlbBytes}
@@ -144,6 +145,14 @@ name-bytes (a ∷ b ∷ c ∷ []) = refl
 name-bytes (a ∷ b ∷ c ∷ d ∷ rest) = refl
 
 -- ---- the other cases of the enums
+
+-- A section of a history: its count, its times, its width, its masks. The veto section stands first.
+abbrev pub sectionParts : Section → List ℕ
+sectionParts s = words (s .count ∷ []) ++ (s .times ++ (words (s .width ∷ []) ++ s .masks))
+
+pub history-words : (f : History) → historyBytes f ≡ sectionParts (f .veto) ++ sectionParts (f .trigger)
+unfolding historyBytes sectionBytes
+history-words f = refl
 
 pub history-answer : (vetoTimes vetoTimesAt vetoWidth vetoMasksAt triggerTimes triggerTimesAt triggerWidth triggerMasksAt : ℕ)
     → givenRecord (Record.History vetoTimes vetoTimesAt vetoWidth vetoMasksAt triggerTimes triggerTimesAt triggerWidth triggerMasksAt)
