@@ -82,6 +82,14 @@ module _ (f : Administrative) where
   unfolding givenRecord
   administrative-answer = refl
 
+-- A section of a history: its count, its times, its width, its masks. The veto section stands first.
+abbrev pub sectionParts : Section → List ℕ
+sectionParts s = words (s .count ∷ []) ++ (s .times ++ (words (s .width ∷ []) ++ s .masks))
+
+pub history-words : (f : History) → historyBytes f ≡ sectionParts (f .veto) ++ sectionParts (f .trigger)
+unfolding historyBytes sectionBytes
+history-words f = refl
+
 pub trace-answer : (f : Trace) → givenRecord (Record.Trace (f .address) (f .channel) (f .code) (f .t0) (f .delta) (f .n))
     ≡ accepted (count 7 ∷ count (f .address) ∷ count (f .channel) ∷ count (f .code) ∷ whole (f .t0) ∷ count (f .delta) ∷ count (f .n) ∷ [])
 unfolding givenRecord
@@ -145,14 +153,6 @@ name-bytes (a ∷ b ∷ c ∷ []) = refl
 name-bytes (a ∷ b ∷ c ∷ d ∷ rest) = refl
 
 -- ---- the other cases of the enums
-
--- A section of a history: its count, its times, its width, its masks. The veto section stands first.
-abbrev pub sectionParts : Section → List ℕ
-sectionParts s = words (s .count ∷ []) ++ (s .times ++ (words (s .width ∷ []) ++ s .masks))
-
-pub history-words : (f : History) → historyBytes f ≡ sectionParts (f .veto) ++ sectionParts (f .trigger)
-unfolding historyBytes sectionBytes
-history-words f = refl
 
 pub history-answer : (vetoTimes vetoTimesAt vetoWidth vetoMasksAt triggerTimes triggerTimesAt triggerWidth triggerMasksAt : ℕ)
     → givenRecord (Record.History vetoTimes vetoTimesAt vetoWidth vetoMasksAt triggerTimes triggerTimesAt triggerWidth triggerMasksAt)
