@@ -12,6 +12,8 @@ const CHANNELS: u32 = 12;
 const AROUND_TRACES: usize = 40;
 const AROUND_SAMPLES: usize = 56;
 const BEFORE_EVENTS: usize = 16;
+/// The samples of a mixed event's traces.
+const MIXED_SAMPLES: [u32; 4] = [2, 32, 128, 512];
 /// Where an event has its number: in the administrative record, which comes first.
 const NUMBER_AT: usize = 24;
 
@@ -52,18 +54,47 @@ pub fn smallest_events() -> Vec<u8> {
     full_of_events()
 }
 
-/// 2,048 bytes: two entries, and two events with every kind of record.
-pub fn small_file() -> Vec<u8> {
+// The first structure of a row kind in a file that has every kind.
+fn part(kind: u32) -> Vec<u8> {
     let full = full();
     let rows = table(&full).rows;
-    let part = |kind: u32| {
-        let found = rows.iter().find(|row| row[0] == kind).expect("every kind");
-        full[found[1] as usize..(found[1] + found[2]) as usize].to_vec()
-    };
+    let found = rows.iter().find(|row| row[0] == kind).expect("every kind");
+    full[found[1] as usize..(found[1] + found[2]) as usize].to_vec()
+}
+
+/// 2,048 bytes: two entries, and two events with every kind of record.
+pub fn small_file() -> Vec<u8> {
     let mut bytes = [header(), configuration(&[part(3), part(4)])].concat();
     for (number, n) in [(1, 362), (2, 364)] {
         let records = [part(6), trace(6, n), part(8), part(9), part(10), part(11)];
         let mut one = structure(EVENT, &records.concat());
+        set_word(&mut one, NUMBER_AT, number);
+        bytes.extend(one);
+    }
+    bytes
+}
+
+/// Two entries, then events to the limit, each with every kind of record: among the others four traces,
+/// of as many lengths, which change places from one event to the next.
+pub fn mixed_records() -> Vec<u8> {
+    let mut bytes = [header(), configuration(&[part(3), part(4)])].concat();
+    for number in 1.. {
+        let traced = |channel: u32| trace(channel, MIXED_SAMPLES[(number + channel) as usize % 4]);
+        let records = [
+            part(6),
+            part(10),
+            part(11),
+            traced(0),
+            traced(1),
+            part(9),
+            traced(2),
+            part(8),
+            traced(3),
+        ];
+        let mut one = event(EVENT, &records);
+        if bytes.len() + one.len() > MOST_BYTES {
+            break;
+        }
         set_word(&mut one, NUMBER_AT, number);
         bytes.extend(one);
     }

@@ -19,6 +19,12 @@
 //! Rewrite: into an output made once, whose pages have been touched; against the outside
 //! implementation, which makes vectors of rows and of each record's words, and against memcpy.
 //!
+//! Table beside a C reader (peer.c): a plain reader of the whole of document 01 in C, as each compiler at
+//! hand builds it, on files of five shapes; it reads a file once, and may leave rows behind under a
+//! refusal. All sides fill one row buffer. The check alone is the same call without room for a row. The
+//! goal is asked against the faster of this machine's own compilers; the clang that built the exports
+//! stands beside them. Before the first timing its answers are held against the outside implementation's.
+//!
 //! No buffer is cleared between calls.
 
 #[allow(dead_code)]
@@ -37,6 +43,7 @@ mod interface;
 #[allow(dead_code)]
 #[path = "../calls/large.rs"]
 mod large;
+mod peer;
 #[allow(dead_code)]
 #[path = "../outside/random.rs"]
 mod random;
@@ -56,7 +63,8 @@ mod writing;
 use std::arch::asm;
 use std::time::Instant;
 
-use inputs::{events_with_traces, most_events, small_file, smallest_events};
+use inputs::{events_with_traces, mixed_records, most_events, small_file, smallest_events};
+use peer::{Peer, TableCall, PEERS};
 use trees::Call;
 use writing::Lent;
 
@@ -76,6 +84,11 @@ const VISIT_GOAL: f64 = 1.5;
 /// events.
 const COPY_GOAL: f64 = 1.4;
 const REWRITE_GOAL: f64 = 2.0;
+/// Table against the C reader: for long traces and mixed records, and for small structures.
+const PEER_GOAL: f64 = 1.3;
+const SMALL_PEER_GOAL: f64 = 1.6;
+/// The sides of that comparison: the exports, then the peers.
+const SIDES: usize = 1 + PEERS.len();
 /// A code that names no channel.
 const NO_CODE: u32 = 0;
 /// The row kinds of entries and records.
@@ -146,6 +159,44 @@ fn time_table(file: &[u8]) -> [f64; 3] {
             opaque(unsafe { floor_table(file.as_ptr(), file.len()) });
         },
     ])
+}
+
+// Table of a file with room for so many rows, through the exports and by the peers, which are first seen
+// to agree with the outside implementation.
+fn time_peers(file: &[u8], rows_lent: usize) -> [f64; SIDES] {
+    let expected = reader::table(file);
+    let fits = expected.rows.len() <= rows_lent;
+    let number = if fits { 0 } else { 12 };
+    let mut rows = vec![0; 6 * rows_lent];
+    let mut calls: [TableCall; SIDES] = [peer::dwj_table; SIDES];
+    for (call, peer) in calls[1..].iter_mut().zip(PEERS) {
+        *call = peer.call;
+    }
+    for call in calls {
+        rows.fill(u32::MAX);
+        let answer = peer::answer(call, file, &mut rows);
+        assert_eq!(answer, (number, expected.count.into(), expected.place));
+        let rows_agree = rows.chunks_exact(6).eq(expected.rows.iter());
+        assert!(rows_agree || !fits, "the rows agree");
+    }
+    let (lent, room) = (rows.as_mut_ptr(), rows.len());
+    let mut sides = calls.map(|call| {
+        move || {
+            let file = opaque(file);
+            let (mut count, mut place) = (0, 0);
+            opaque(unsafe {
+                call(
+                    file.as_ptr(),
+                    file.len(),
+                    lent,
+                    room,
+                    &mut count,
+                    &mut place,
+                )
+            });
+        }
+    });
+    middle(sides.each_mut().map(|side| side as &mut dyn FnMut()))
 }
 
 // Record at the place of every entry and record of a file.
@@ -325,8 +376,8 @@ fn print_rewrite(name: &str, times: [f64; 3], to_copy: Option<f64>, to_outside: 
     );
 }
 
-// A file's size and shape, then Table and Record on it.
-fn print_case(name: &str, file: &[u8], goal: Option<f64>) -> [[f64; 3]; 2] {
+// A file's size and shape.
+fn print_shape(name: &str, file: &[u8]) {
     let rows = reader::table(file).rows;
     let of_kind = |kind: u32| rows.iter().filter(|row| row[0] == kind).count();
     println!(
@@ -336,6 +387,11 @@ fn print_case(name: &str, file: &[u8], goal: Option<f64>) -> [[f64; 3]; 2] {
         of_kind(7),
         rows.len()
     );
+}
+
+// A file's size and shape, then Table and Record on it.
+fn print_case(name: &str, file: &[u8], goal: Option<f64>) -> [[f64; 3]; 2] {
+    print_shape(name, file);
     println!(
         "  {:<10}{:>14}{:>14}{:>14}{:>14}{:>14}",
         "ns/file", "exports", "Rust", "C floor", "exports/Rust", "exports/C"
@@ -371,7 +427,47 @@ fn print_further(file: &[u8], to_copy: Option<f64>, to_outside: Option<f64>) {
     print_rewrite(" at best", best, to_copy, to_outside);
 }
 
+// A line of times beside the peers: against the faster of this machine's compilers, and against the
+// clang that built the exports, where it is at hand.
+fn print_peer_times(call: &str, times: [f64; SIDES], goal: Option<f64>) {
+    let by_peer = || PEERS.iter().zip(&times[1..]);
+    let of_machine = by_peer().filter(|(peer, _)| peer.of_machine);
+    let fastest = of_machine.min_by(|one, other| one.1.total_cmp(other.1));
+    let (Peer { compiler, .. }, time) = fastest.expect("the machine has a compiler");
+    let ratio = times[0] / time;
+    print!("  {call:<12}");
+    times.iter().for_each(|time| print!("{time:>14.0}"));
+    print!("   {call} / C reader ({compiler}): {ratio:.2}");
+    for (peer, time) in by_peer().filter(|(peer, _)| !peer.of_machine) {
+        print!(", {}: {:.2}", peer.compiler, times[0] / time);
+    }
+    println!("{}", judged(ratio, goal, "C reader"));
+}
+
+// A file's shape, then Table and its check alone, beside the peers.
+fn print_peers(name: &str, file: &[u8], goal: f64) {
+    print_shape(name, file);
+    print!("  {:<12}{:>14}", "ns/file", "exports");
+    PEERS
+        .iter()
+        .for_each(|peer| print!("{:>14}", peer.compiler));
+    println!();
+    let rows = reader::table(file).rows.len();
+    print_peer_times("Table", time_peers(file, rows), Some(goal));
+    print_peer_times("check alone", time_peers(file, 0), None);
+}
+
 fn main() {
+    let started = Instant::now();
+    match peer::hold_to_outside() {
+        Ok(numbers) => println!(
+            "bench: the C reader agrees with Rust on {} files, {} of them refused ({:.1} s)",
+            numbers.iter().sum::<usize>(),
+            numbers[1..].iter().sum::<usize>(),
+            started.elapsed().as_secs_f64()
+        ),
+        Err(found) => panic!("the C reader and Rust differ: {found}"),
+    }
     println!("bench: the middle of {ROUNDS} rounds (of Rewrite also the best), the sides in turn, on the same bytes");
     let file = events_with_traces(most_events(2_048), 2_048);
     print_case("(a) traces of 2,048 samples to 16 MiB", &file, Some(1.3));
@@ -399,4 +495,14 @@ fn main() {
     let file = small_file();
     print_case("(c) a small file", &file, None);
     print_further(&file, None, None);
+
+    println!("Table beside a C reader of the whole of document 01 (peer.c, -O3)");
+    let file = events_with_traces(most_events(2_048), 2_048);
+    print_peers("(1) traces of 2,048 samples to 16 MiB", &file, PEER_GOAL);
+    print_peers("(2) mixed records to 16 MiB", &mixed_records(), PEER_GOAL);
+    let file = events_with_traces(most_events(2), 2);
+    print_peers("(3) traces of 2 samples to 16 MiB", &file, SMALL_PEER_GOAL);
+    let file = smallest_events();
+    print_peers("(4) smallest events to 16 MiB", &file, SMALL_PEER_GOAL);
+    print_peers("(5) a 2 KB file", &small_file(), SMALL_PEER_GOAL);
 }
