@@ -1,7 +1,7 @@
 //! bench: Table, Record, Find, the visitor, the walker and Rewrite through the exports, against the
 //! outside implementation, a loop in C that only follows the length words, memcpy, and each other. All
 //! sides in one run, on the same bytes, round by round; of each side the middle time counts: at its best
-//! a side may have found the memory idle for once. For Rewrite the best is given too.
+//! a side may have found the memory idle for once. For Rewrite and beside the C reader the best is given too.
 //!
 //! Table: the exports fill a row buffer that is made once, before the clock starts, and whose pages
 //! have been touched. The outside implementation has no such call: its `table` is timed as it is,
@@ -162,8 +162,8 @@ fn time_table(file: &[u8]) -> [f64; 3] {
 }
 
 // Table of a file with room for so many rows, through the exports and by the peers, which are first seen
-// to agree with the outside implementation.
-fn time_peers(file: &[u8], rows_lent: usize) -> [f64; SIDES] {
+// to agree with the outside implementation. The middle times and the best ones.
+fn time_peers(file: &[u8], rows_lent: usize) -> [[f64; SIDES]; 2] {
     let expected = reader::table(file);
     let fits = expected.rows.len() <= rows_lent;
     let number = if fits { 0 } else { 12 };
@@ -196,7 +196,8 @@ fn time_peers(file: &[u8], rows_lent: usize) -> [f64; SIDES] {
             });
         }
     });
-    middle(sides.each_mut().map(|side| side as &mut dyn FnMut()))
+    let times = rounds(sides.each_mut().map(|side| side as &mut dyn FnMut()));
+    [ROUNDS / 2, 0].map(|round| times.map(|times| times[round]))
 }
 
 // Record at the place of every entry and record of a file.
@@ -429,17 +430,17 @@ fn print_further(file: &[u8], to_copy: Option<f64>, to_outside: Option<f64>) {
 
 // A line of times beside the peers: against the faster of this machine's compilers, and against the
 // clang that built the exports, where it is at hand.
-fn print_peer_times(call: &str, times: [f64; SIDES], goal: Option<f64>) {
+fn print_peer_times(name: &str, call: &str, times: [f64; SIDES], goal: Option<f64>) {
     let by_peer = || PEERS.iter().zip(&times[1..]);
     let of_machine = by_peer().filter(|(peer, _)| peer.of_machine);
     let fastest = of_machine.min_by(|one, other| one.1.total_cmp(other.1));
     let (Peer { compiler, .. }, time) = fastest.expect("the machine has a compiler");
     let ratio = times[0] / time;
-    print!("  {call:<12}");
-    times.iter().for_each(|time| print!("{time:>14.0}"));
-    print!("   {call} / C reader ({compiler}): {ratio:.2}");
+    print!("  {name:<12}");
+    times.iter().for_each(|time| print!("{time:>12.0}"));
+    print!("   {call} / C reader {ratio:.2} ({compiler})");
     for (peer, time) in by_peer().filter(|(peer, _)| !peer.of_machine) {
-        print!(", {}: {:.2}", peer.compiler, times[0] / time);
+        print!(", {:.2} ({})", times[0] / time, peer.compiler);
     }
     println!("{}", judged(ratio, goal, "C reader"));
 }
@@ -447,14 +448,18 @@ fn print_peer_times(call: &str, times: [f64; SIDES], goal: Option<f64>) {
 // A file's shape, then Table and its check alone, beside the peers.
 fn print_peers(name: &str, file: &[u8], goal: f64) {
     print_shape(name, file);
-    print!("  {:<12}{:>14}", "ns/file", "exports");
+    print!("  {:<12}{:>12}", "ns/file", "exports");
     PEERS
         .iter()
-        .for_each(|peer| print!("{:>14}", peer.compiler));
+        .for_each(|peer| print!("{:>12}", peer.compiler));
     println!();
     let rows = reader::table(file).rows.len();
-    print_peer_times("Table", time_peers(file, rows), Some(goal));
-    print_peer_times("check alone", time_peers(file, 0), None);
+    let [middle, best] = time_peers(file, rows);
+    print_peer_times("Table", "Table", middle, Some(goal));
+    print_peer_times(" at best", "Table", best, Some(goal));
+    let [middle, best] = time_peers(file, 0);
+    print_peer_times("check alone", "check", middle, None);
+    print_peer_times(" at best", "check", best, None);
 }
 
 fn main() {
@@ -496,7 +501,7 @@ fn main() {
     print_case("(c) a small file", &file, None);
     print_further(&file, None, None);
 
-    println!("Table beside a C reader of the whole of document 01 (peer.c, -O3)");
+    println!("Table beside a C reader of the whole of document 01 (peer.c, -O3): the middle of the rounds and the best");
     let file = events_with_traces(most_events(2_048), 2_048);
     print_peers("(1) traces of 2,048 samples to 16 MiB", &file, PEER_GOAL);
     print_peers("(2) mixed records to 16 MiB", &mixed_records(), PEER_GOAL);
