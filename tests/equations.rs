@@ -14,6 +14,7 @@ use mathlib.Core.Path.{_≡_, refl}
 use mathlib.Core.List.{List, [], _∷_, _++_}
 use lib.IntN.{pos, negsuc}
 use lib.Ieee.{binary64, div, ofInt, ofBits}
+use Rattle.theory.specs.declared.Order.the-variants.{Little}
 use Rattle.note.specs.Words.{words}
 use Rattle.note.specs.Answers.{Given, whole, float, accepted, refused}
 use Rattle.note.specs.Channels.{ascii, nameOf, channelAnswer, codeAnswer}
@@ -52,7 +53,7 @@ fn file_text(bytes: &[u8]) -> String {
         .map(|w| u32::from_le_bytes([w[0], w[1], w[2], w[3]]).to_string())
         .collect();
     let left: Vec<String> = bytes.chunks_exact(4).remainder().iter().map(|b| b.to_string()).collect();
-    format!("words ({}) ++ ({})", naturals(&words), naturals(&left))
+    format!("words Little ({}) ++ ({})", naturals(&words), naturals(&left))
 }
 
 /// A whole number as a value; a signed one where it begins with a minus.
@@ -106,17 +107,17 @@ fn equation(line: &[String], name: &str) -> String {
         }
     };
     match line[0].as_str() {
-        "record" => format!("(recordAt {} {} ≡ {})", name, line[1], given(2)),
-        "sample" => format!("(sampleAt {} {} {} ≡ {})", name, line[1], line[2], given(3)),
+        "record" => format!("(recordAt Little {} {} ≡ {})", name, line[1], given(2)),
+        "sample" => format!("(sampleAt Little {} {} {} ≡ {})", name, line[1], line[2], given(3)),
         "setting" if line[2] == "0" => {
             let fields: Vec<String> = line[3..]
                 .iter()
                 .enumerate()
                 .map(|(i, f)| if is_float(&line[3], i) { format!("float (ofBits binary64 {})", f) } else { value(f) })
                 .collect();
-            format!("(settingAt {} {} ≡ {})", name, line[1], accepted(&fields))
+            format!("(settingAt Little {} {} ≡ {})", name, line[1], accepted(&fields))
         }
-        "setting" => format!("(settingAt {} {} ≡ {})", name, line[1], given(2)),
+        "setting" => format!("(settingAt Little {} {} ≡ {})", name, line[1], given(2)),
         "find" if line[3] == "0" => {
             let found = if line[4] == "1" { vec![value(&line[5])] } else { vec![] };
             format!("(findAt {} {} {} ≡ {})", name, line[1], line[2], accepted(&found))

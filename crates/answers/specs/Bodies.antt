@@ -3,6 +3,7 @@
 use Prim.Native.Nat.{ℕ, _+_}
 use mathlib.Core.List.{List, [], _∷_}
 use lib.ListN.{take, drop}
+use Rattle.theory.specs.declared.Order.{Order}
 use Rattle.note.specs.Words.{word}
 use Rattle.note.specs.Answers.{Given, accepted, count}
 use Rattle.note.specs.Kinds.{Kind}
@@ -14,15 +15,15 @@ abbrev pub bodyAt : List ℕ → ℕ → ℕ → List ℕ
 bodyAt bs place n = take n (drop (place + 8) bs)
 
 -- Record's answer for a body of a kind: the kind's row, then its values.
-abbrev pub kindGiven : Kind → ℕ → List ℕ → Given
-kindGiven x place b = accepted (count (x .row) ∷ x .values place b)
+abbrev pub kindGiven : Order → Kind → ℕ → List ℕ → Given
+kindGiven o x place b = accepted (count (x .row) ∷ x .values o place b)
 
 -- Six words as a list, as the code carries them and as they stand from place p on.
 abbrev pub sixNumbers : Six → List ℕ
 sixNumbers w = w .first ∷ w .second ∷ w .third ∷ w .fourth ∷ w .fifth ∷ w .sixth ∷ []
 
-abbrev pub sixFrom : ℕ → List ℕ → List ℕ
-sixFrom p b = word p b ∷ word (p + 4) b ∷ word (p + 8) b ∷ word (p + 12) b ∷ word (p + 16) b ∷ word (p + 20) b ∷ []
+abbrev pub sixFrom : Order → ℕ → List ℕ → List ℕ
+sixFrom o p b = word o p b ∷ word o (p + 4) b ∷ word o (p + 8) b ∷ word o (p + 12) b ∷ word o (p + 16) b ∷ word o (p + 20) b ∷ []
 
 -- A section's numbers in the answer's order.
 abbrev pub sectionNumbers : Section → List ℕ

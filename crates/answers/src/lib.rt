@@ -8,6 +8,7 @@ use record::Context;
 use record::Step;
 use record::record_in;
 use rules::section_end;
+use theory::Order;
 use words::word_at;
 ghost use mathlib.Core.Path.{_≡_};
 ghost use mathlib.Core.List.{_∷_};
@@ -33,11 +34,11 @@ ghost use Rattle.answers.specs.Bodies.{bodyAt, kindGiven, sixNumbers, si
 // ---- fields of a body: no value of these kinds but a history's is a place, so their answers are those at place 0
 
 /// The signed word at a place of the bytes.
-pub fn signed_at(s: &[u8], at: usize) -> i32
+pub fn signed_at(s: &[u8], at: usize, order: Order) -> i32
     requires { ⌜ at + 4 ≤ length (now s) ⌝ }
-    ensures { λ r. ⌜ r ≡ signed (word at (now (s .entry))) ⌝ }
+    ensures { λ r. ⌜ r ≡ signed (word order at (now (s .entry))) ⌝ }
 {
-    to_signed(word_at(s, at))
+    to_signed(word_at(s, at, order))
 }
 
 /// Six words back to back, in order.
@@ -51,63 +52,63 @@ pub struct Six {
 }
 
 /// The six words from a place of the bytes on.
-pub fn six_at(s: &[u8], at: usize) -> Six
+pub fn six_at(s: &[u8], at: usize, order: Order) -> Six
     requires { ⌜ at + 24 ≤ length (now s) ⌝ }
-    ensures { λ r. ⌜ sixNumbers r ≡ sixFrom at (now (s .entry)) ⌝ }
+    ensures { λ r. ⌜ sixNumbers r ≡ sixFrom order at (now (s .entry)) ⌝ }
 {
     Six {
-        first: word_at(s, at),
-        second: word_at(s, at + 4),
-        third: word_at(s, at + 8),
-        fourth: word_at(s, at + 12),
-        fifth: word_at(s, at + 16),
-        sixth: word_at(s, at + 20),
+        first: word_at(s, at, order),
+        second: word_at(s, at + 4, order),
+        third: word_at(s, at + 8, order),
+        fourth: word_at(s, at + 12, order),
+        fifth: word_at(s, at + 16, order),
+        sixth: word_at(s, at + 20, order),
     }
 }
 
 // A phonon entry's words.
-fn phonon_of(b: &[u8]) -> RecordAnswer
+fn phonon_of(b: &[u8], order: Order) -> RecordAnswer
     requires { ⌜ 44 ≤ length (now b) ⌝ }
-    ensures { λ r. ⌜ givenRecord r ≡ kindGiven phononKind 0 (now (b .entry)) ⌝ }
+    ensures { λ r. ⌜ givenRecord r ≡ kindGiven order phononKind 0 (now (b .entry)) ⌝ }
 {
     RecordAnswer::Phonon {
-        code: signed_at(b, 0),
-        tower: signed_at(b, 4),
-        gain: signed_at(b, 8),
-        qet_bias: signed_at(b, 12),
-        squid_bias: signed_at(b, 16),
-        lockpoint: signed_at(b, 20),
-        rtf_offset: signed_at(b, 24),
-        variable_gain: signed_at(b, 28),
-        delta_t: signed_at(b, 32),
-        t0: signed_at(b, 36),
-        trace_length: signed_at(b, 40),
+        code: signed_at(b, 0, order),
+        tower: signed_at(b, 4, order),
+        gain: signed_at(b, 8, order),
+        qet_bias: signed_at(b, 12, order),
+        squid_bias: signed_at(b, 16, order),
+        lockpoint: signed_at(b, 20, order),
+        rtf_offset: signed_at(b, 24, order),
+        variable_gain: signed_at(b, 28, order),
+        delta_t: signed_at(b, 32, order),
+        t0: signed_at(b, 36, order),
+        trace_length: signed_at(b, 40, order),
     }
 }
 
 // A charge entry's words.
-fn charge_of(b: &[u8]) -> RecordAnswer
+fn charge_of(b: &[u8], order: Order) -> RecordAnswer
     requires { ⌜ 32 ≤ length (now b) ⌝ }
-    ensures { λ r. ⌜ givenRecord r ≡ kindGiven chargeKind 0 (now (b .entry)) ⌝ }
+    ensures { λ r. ⌜ givenRecord r ≡ kindGiven order chargeKind 0 (now (b .entry)) ⌝ }
 {
     RecordAnswer::Charge {
-        code: signed_at(b, 0),
-        tower: signed_at(b, 4),
-        gain: signed_at(b, 8),
-        bias: signed_at(b, 12),
-        rtf_offset: signed_at(b, 16),
-        delta_t: signed_at(b, 20),
-        t0: signed_at(b, 24),
-        trace_length: signed_at(b, 28),
+        code: signed_at(b, 0, order),
+        tower: signed_at(b, 4, order),
+        gain: signed_at(b, 8, order),
+        bias: signed_at(b, 12, order),
+        rtf_offset: signed_at(b, 16, order),
+        delta_t: signed_at(b, 20, order),
+        t0: signed_at(b, 24, order),
+        trace_length: signed_at(b, 28, order),
     }
 }
 
 // An administrative record's words.
-fn administrative_of(b: &[u8]) -> RecordAnswer
+fn administrative_of(b: &[u8], order: Order) -> RecordAnswer
     requires { ⌜ 24 ≤ length (now b) ⌝ }
-    ensures { λ r. ⌜ givenRecord r ≡ kindGiven administrativeKind 0 (now (b .entry)) ⌝ }
+    ensures { λ r. ⌜ givenRecord r ≡ kindGiven order administrativeKind 0 (now (b .entry)) ⌝ }
 {
-    let w = six_at(b, 0);
+    let w = six_at(b, 0, order);
     RecordAnswer::Administrative {
         date: w.first,
         clock: w.second,
@@ -119,28 +120,28 @@ fn administrative_of(b: &[u8]) -> RecordAnswer
 }
 
 // A trace's fields without its samples; n is its second count.
-fn trace_of(b: &[u8]) -> RecordAnswer
+fn trace_of(b: &[u8], order: Order) -> RecordAnswer
     requires { ⌜ 48 ≤ length (now b) ⌝ }
-    ensures { λ r. ⌜ givenRecord r ≡ kindGiven traceKind 0 (now (b .entry)) ⌝ }
+    ensures { λ r. ⌜ givenRecord r ≡ kindGiven order traceKind 0 (now (b .entry)) ⌝ }
 {
     RecordAnswer::Trace {
-        address: word_at(b, 8),
-        channel: word_at(b, 12),
-        code: word_at(b, 16),
-        t0: signed_at(b, 28),
-        delta_t: word_at(b, 32),
-        samples: word_at(b, 44),
+        address: word_at(b, 8, order),
+        channel: word_at(b, 12, order),
+        code: word_at(b, 16, order),
+        t0: signed_at(b, 28, order),
+        delta_t: word_at(b, 32, order),
+        samples: word_at(b, 44, order),
     }
 }
 
 // A GPS record's numbers. By shifts and nibbles (document 01).
-fn gps_of(b: &[u8]) -> RecordAnswer
+fn gps_of(b: &[u8], order: Order) -> RecordAnswer
     requires { ⌜ 12 ≤ length (now b) ⌝ }
-    ensures { λ r. ⌜ givenRecord r ≡ kindGiven gpsKind 0 (now (b .entry)) ⌝ }
+    ensures { λ r. ⌜ givenRecord r ≡ kindGiven order gpsKind 0 (now (b .entry)) ⌝ }
 {
-    let date = word_at(b, 0);
-    let clock = word_at(b, 4);
-    let tenths = word_at(b, 8);
+    let date = word_at(b, 0, order);
+    let clock = word_at(b, 4, order);
+    let tenths = word_at(b, 8, order);
     RecordAnswer::Gps {
         year: decimal(4, date >> 16),
         day: decimal(4, date),
@@ -153,11 +154,11 @@ fn gps_of(b: &[u8]) -> RecordAnswer
 }
 
 // A trigger record's masks.
-fn trigger_of(b: &[u8]) -> RecordAnswer
+fn trigger_of(b: &[u8], order: Order) -> RecordAnswer
     requires { ⌜ 28 ≤ length (now b) ⌝ }
-    ensures { λ r. ⌜ givenRecord r ≡ kindGiven triggerKind 0 (now (b .entry)) ⌝ }
+    ensures { λ r. ⌜ givenRecord r ≡ kindGiven order triggerKind 0 (now (b .entry)) ⌝ }
 {
-    let w = six_at(b, 4);
+    let w = six_at(b, 4, order);
     RecordAnswer::Trigger {
         mask1: w.first,
         mask2: w.second,
@@ -169,11 +170,11 @@ fn trigger_of(b: &[u8]) -> RecordAnswer
 }
 
 // A TLB mask's words.
-fn tlb_of(b: &[u8]) -> RecordAnswer
+fn tlb_of(b: &[u8], order: Order) -> RecordAnswer
     requires { ⌜ 24 ≤ length (now b) ⌝ }
-    ensures { λ r. ⌜ givenRecord r ≡ kindGiven tlbKind 0 (now (b .entry)) ⌝ }
+    ensures { λ r. ⌜ givenRecord r ≡ kindGiven order tlbKind 0 (now (b .entry)) ⌝ }
 {
-    let w = six_at(b, 0);
+    let w = six_at(b, 0, order);
     RecordAnswer::Tlb {
         tower1: w.first,
         tower2: w.second,
@@ -193,28 +194,28 @@ struct Section {
 }
 
 // The section whose count stands at place p of a body that stands at `from`.
-fn section_of(from: usize, p: usize, b: &[u8]) -> Section
-    requires { ⌜ (widthAt p (now b) + 4 ≤ length (now b)) × (from + length (now b) ≤ fileLimit) ⌝ }
-    ensures { λ r. ⌜ sectionNumbers r ≡ sectionValues from p (now (b .entry)) ⌝ }
+fn section_of(from: usize, p: usize, b: &[u8], order: Order) -> Section
+    requires { ⌜ (widthAt order p (now b) + 4 ≤ length (now b)) × (from + length (now b) ≤ fileLimit) ⌝ }
+    ensures { λ r. ⌜ sectionNumbers r ≡ sectionValues order from p (now (b .entry)) ⌝ }
 {
-    let count = word_at(b, p);
+    let count = word_at(b, p, order);
     let width_at = p + 4 + 4 * count as usize;
     Section {
         count,
         times: (from + (p + 4)) as u32,
-        width: word_at(b, width_at),
+        width: word_at(b, width_at, order),
         masks: (from + (width_at + 4)) as u32,
     }
 }
 
 // A history's sections, as places of the file that has the record at `place`.
-fn history_of(place: usize, b: &[u8]) -> RecordAnswer
-    requires { ⌜ (historyRule (now b) ≡ 0) × (place + 8 + length (now b) ≤ fileLimit) ⌝ }
-    ensures { λ r. ⌜ givenRecord r ≡ kindGiven historyKind place (now (b .entry)) ⌝ }
+fn history_of(place: usize, b: &[u8], order: Order) -> RecordAnswer
+    requires { ⌜ (historyRule order (now b) ≡ 0) × (place + 8 + length (now b) ≤ fileLimit) ⌝ }
+    ensures { λ r. ⌜ givenRecord r ≡ kindGiven order historyKind place (now (b .entry)) ⌝ }
 {
     let from = place + 8;
-    let veto = section_of(from, 0, b);
-    let trigger = section_of(from, section_end(0, b), b);
+    let veto = section_of(from, 0, b, order);
+    let trigger = section_of(from, section_end(0, b, order), b, order);
     RecordAnswer::History {
         veto_times: veto.count,
         veto_times_at: veto.times,
@@ -228,19 +229,19 @@ fn history_of(place: usize, b: &[u8]) -> RecordAnswer
 }
 
 // The fields of a body that follows its kind's rule, of a record at `place`. The default isn't reached.
-fn fields_of(kind: u32, place: usize, b: &[u8]) -> RecordAnswer
-    requires { ⌜ (recordRule kind (now b) ≡ 0) × (place + 8 + length (now b) ≤ fileLimit) ⌝ }
-    ensures { λ r. ⌜ givenRecord r ≡ kindGiven (kindOf kind) place (now (b .entry)) ⌝ }
+fn fields_of(kind: u32, place: usize, b: &[u8], order: Order) -> RecordAnswer
+    requires { ⌜ (recordRule order kind (now b) ≡ 0) × (place + 8 + length (now b) ≤ fileLimit) ⌝ }
+    ensures { λ r. ⌜ givenRecord r ≡ kindGiven order (kindOf kind) place (now (b .entry)) ⌝ }
 {
     match kind {
-        rules::PHONON => phonon_of(b),
-        rules::CHARGE => charge_of(b),
-        rules::ADMINISTRATIVE => administrative_of(b),
-        rules::TRACE => trace_of(b),
-        rules::HISTORY => history_of(place, b),
-        rules::GPS => gps_of(b),
-        rules::TRIGGER => trigger_of(b),
-        rules::TLB => tlb_of(b),
+        rules::PHONON => phonon_of(b, order),
+        rules::CHARGE => charge_of(b, order),
+        rules::ADMINISTRATIVE => administrative_of(b, order),
+        rules::TRACE => trace_of(b, order),
+        rules::HISTORY => history_of(place, b, order),
+        rules::GPS => gps_of(b, order),
+        rules::TRIGGER => trigger_of(b, order),
+        rules::TLB => tlb_of(b, order),
         _ => RecordAnswer::Refused { number: 5, place },
     }
 }
@@ -248,8 +249,8 @@ fn fields_of(kind: u32, place: usize, b: &[u8]) -> RecordAnswer
 // ---- the calls
 
 /// What Record finds at a place: the kind word and the body's length, or Record's refusal. Every call by place begins with it.
-pub fn record_found(file: &[u8], place: usize) -> Step
-    ensures { λ r. ⌜ r ≡ stepOf (recordFound (now (file .entry)) place) ⌝ }
+pub fn record_found(file: &[u8], place: usize, order: Order) -> Step
+    ensures { λ r. ⌜ r ≡ stepOf (recordFound order (now (file .entry)) place) ⌝ }
 {
     if file.len() > record::FILE_LIMIT {
         return Step::Bad {
@@ -260,7 +261,7 @@ pub fn record_found(file: &[u8], place: usize) -> Step
     if place > file.len() {
         return Step::Bad { number: 2, place };
     }
-    record_in(&file[place..], place, Context::Alone)
+    record_in(&file[place..], place, Context::Alone, order)
 }
 
 // The n bytes behind the two words of a record at a place.
@@ -273,79 +274,79 @@ fn body_at(file: &[u8], place: usize, n: usize) -> &[u8]
 
 /// Record: the record or entry at a place with its fields, the whole file its parent and no event's rules; or a refusal.
 /// A case for each kind (document 01).
-pub fn record(file: &[u8], place: usize) -> RecordAnswer
-    ensures { λ r. ⌜ givenRecord r ≡ recordAt (now (file .entry)) place ⌝ }
+pub fn record(file: &[u8], place: usize, order: Order) -> RecordAnswer
+    ensures { λ r. ⌜ givenRecord r ≡ recordAt order (now (file .entry)) place ⌝ }
 {
-    match record_found(file, place) {
-        Step::Good { kind, length } => fields_of(kind, place, body_at(file, place, length)),
+    match record_found(file, place, order) {
+        Step::Good { kind, length } => fields_of(kind, place, body_at(file, place, length), order),
         Step::Bad { number, place: at } => RecordAnswer::Refused { number, place: at },
     }
 }
 
 // A x100 word in working units. A float (document 01).
-fn hundredth_at(s: &[u8], at: usize) -> f64
+fn hundredth_at(s: &[u8], at: usize, order: Order) -> f64
     requires { ⌜ at + 4 ≤ length (now s) ⌝ }
-    ensures { λ r. ⌜ r ≡ hundredth (signed (word at (now (s .entry)))) ⌝ }
+    ensures { λ r. ⌜ r ≡ hundredth (signed (word order at (now (s .entry)))) ⌝ }
 {
-    hundredth(signed_at(s, at))
+    hundredth(signed_at(s, at, order))
 }
 
 // A phonon entry's words in working units.
-fn phonon_setting(b: &[u8]) -> SettingAnswer
+fn phonon_setting(b: &[u8], order: Order) -> SettingAnswer
     requires { ⌜ 44 ≤ length (now b) ⌝ }
-    ensures { λ r. ⌜ givenSetting r ≡ accepted (count (phononKind .row) ∷ phononSetting (phononOf (now (b .entry)))) ⌝ }
+    ensures { λ r. ⌜ givenSetting r ≡ accepted (count (phononKind .row) ∷ phononSetting (phononOf order (now (b .entry)))) ⌝ }
 {
     SettingAnswer::Phonon {
-        code: signed_at(b, 0),
-        tower: signed_at(b, 4),
-        gain: hundredth_at(b, 8),
-        qet_bias: hundredth_at(b, 12),
-        squid_bias: hundredth_at(b, 16),
-        lockpoint: hundredth_at(b, 20),
-        rtf_offset: signed_at(b, 24),
-        variable_gain: signed_at(b, 28),
-        delta_t: signed_at(b, 32),
-        t0: signed_at(b, 36),
-        trace_length: signed_at(b, 40),
+        code: signed_at(b, 0, order),
+        tower: signed_at(b, 4, order),
+        gain: hundredth_at(b, 8, order),
+        qet_bias: hundredth_at(b, 12, order),
+        squid_bias: hundredth_at(b, 16, order),
+        lockpoint: hundredth_at(b, 20, order),
+        rtf_offset: signed_at(b, 24, order),
+        variable_gain: signed_at(b, 28, order),
+        delta_t: signed_at(b, 32, order),
+        t0: signed_at(b, 36, order),
+        trace_length: signed_at(b, 40, order),
     }
 }
 
 // A charge entry's words in working units; its bias stays a whole number.
-fn charge_setting(b: &[u8]) -> SettingAnswer
+fn charge_setting(b: &[u8], order: Order) -> SettingAnswer
     requires { ⌜ 32 ≤ length (now b) ⌝ }
-    ensures { λ r. ⌜ givenSetting r ≡ accepted (count (chargeKind .row) ∷ chargeSetting (chargeOf (now (b .entry)))) ⌝ }
+    ensures { λ r. ⌜ givenSetting r ≡ accepted (count (chargeKind .row) ∷ chargeSetting (chargeOf order (now (b .entry)))) ⌝ }
 {
     SettingAnswer::Charge {
-        code: signed_at(b, 0),
-        tower: signed_at(b, 4),
-        gain: hundredth_at(b, 8),
-        bias: signed_at(b, 12),
-        rtf_offset: signed_at(b, 16),
-        delta_t: signed_at(b, 20),
-        t0: signed_at(b, 24),
-        trace_length: signed_at(b, 28),
+        code: signed_at(b, 0, order),
+        tower: signed_at(b, 4, order),
+        gain: hundredth_at(b, 8, order),
+        bias: signed_at(b, 12, order),
+        rtf_offset: signed_at(b, 16, order),
+        delta_t: signed_at(b, 20, order),
+        t0: signed_at(b, 24, order),
+        trace_length: signed_at(b, 28, order),
     }
 }
 
 // The setting of a body that follows its kind's rule; 5 at the place for another kind.
-fn setting_of(kind: u32, place: usize, b: &[u8]) -> SettingAnswer
-    requires { ⌜ recordRule kind (now b) ≡ 0 ⌝ }
-    ensures { λ r. ⌜ givenSetting r ≡ settingGiven place (ok (record { kind = kind; body = now (b .entry) })) ⌝ }
+fn setting_of(kind: u32, place: usize, b: &[u8], order: Order) -> SettingAnswer
+    requires { ⌜ recordRule order kind (now b) ≡ 0 ⌝ }
+    ensures { λ r. ⌜ givenSetting r ≡ settingGiven order place (ok (record { kind = kind; body = now (b .entry) })) ⌝ }
 {
     match kind {
-        rules::PHONON => phonon_setting(b),
-        rules::CHARGE => charge_setting(b),
+        rules::PHONON => phonon_setting(b, order),
+        rules::CHARGE => charge_setting(b, order),
         _ => SettingAnswer::Refused { number: 5, place },
     }
 }
 
 /// Setting: the entry at a place in working units; Record's refusals, then 5 there for another kind.
 /// An enum with floats (document 01).
-pub fn setting(file: &[u8], place: usize) -> SettingAnswer
-    ensures { λ r. ⌜ givenSetting r ≡ settingAt (now (file .entry)) place ⌝ }
+pub fn setting(file: &[u8], place: usize, order: Order) -> SettingAnswer
+    ensures { λ r. ⌜ givenSetting r ≡ settingAt order (now (file .entry)) place ⌝ }
 {
-    match record_found(file, place) {
-        Step::Good { kind, length } => setting_of(kind, place, body_at(file, place, length)),
+    match record_found(file, place, order) {
+        Step::Good { kind, length } => setting_of(kind, place, body_at(file, place, length), order),
         Step::Bad { number, place: at } => SettingAnswer::Refused { number, place: at },
     }
 }

@@ -7,10 +7,10 @@ use mathlib.Core.List.{List, [], _∷_}
 use native.Mathlib.Omega.{arith}
 use lib.ListN.{length}
 use lib.Seq.{sets}
+use Rattle.theory.specs.declared.Order.{Order}
 use Rattle.theory.specs.Tests.{Res, ok, need, bind, unless}
 use Rattle.theory.proofs.WordLaws.{length-puts}
 use Rattle.theory.proofs.TestLaws.{bind-ok}
-use Rattle.note.specs.Words.{order}
 use Rattle.note.specs.Answers.{Given, givenWriter}
 use Rattle.note.specs.Records.{Record, Context, entry, event, none, readRecords}
 use Rattle.note.specs.Events.{eventWord, eventFault}
@@ -40,19 +40,19 @@ pub record Call : Type 0 where
   pub word : ℕ
   pub context : Context
 
-module _ (k : Call) where
+module _ (o : Order) (k : Call) where
   -- The closing's result; what is answered before the contents are asked; what the contents are read as; the two words.
   abbrev result : Res ℕ
-  result = closed (k .out) (k .place) (k .end) (k .fault) (k .least) (k .context)
+  result = closed o (k .out) (k .place) (k .end) (k .fault) (k .least) (k .context)
 
   abbrev first : Res ℕ
   first = bounded (length (k .out)) (k .place) (k .end) (k .fault) (k .least)
 
   abbrev contents : Res (List Record)
-  contents = readRecords (k .context) (k .place + 8) (contentsOf (k .out) (k .place) (k .end))
+  contents = readRecords o (k .context) (k .place + 8) (contentsOf (k .out) (k .place) (k .end))
 
   abbrev head : List ℕ
-  head = closingBytes (k .word) (k .place) (k .end)
+  head = closingBytes o (k .word) (k .place) (k .end)
 
   -- The answer and the output afterwards.
   abbrev pub Ends : Given → List ℕ → Type 0
@@ -85,7 +85,7 @@ module _ (k : Call) where
     unfolding closed writerGiven givenWriter
     shuts {next} {m} n e good-is shut =
         let own : givenWriter (Next next) ≡ writerGiven result = rw (next-told first n said, count-good length (sym good-is ∙ e) .1) in
-        let size : length head ≡ 8 = length-puts order 4 (k .word ∷ (k .end - (k .place + 8)) ∷ []) in
+        let size : length head ≡ 8 = length-puts o 4 (k .word ∷ (k .end - (k .place + 8)) ∷ []) in
         let fits : k .place + length head ≤ length (k .out) = omega (arith, size, told n .room) in
         (own, shut ∙ stored (k .out) (k .place) result head {r = Next next} refl own fits)
 
@@ -101,57 +101,57 @@ once true p r = refl
 once false p r = refl
 
 -- Each container's closing is a case of any container's, as its definition has it.
-configuration-is : (out : List ℕ) (place end : ℕ) → closed out place end 0 0 entry ≡ configurationClosed out place end
+configuration-is : (o : Order) (out : List ℕ) (place end : ℕ) → closed o out place end 0 0 entry ≡ configurationClosed o out place end
 unfolding closed bounded configurationClosed
-configuration-is out place end = simp (need-bind, once)
+configuration-is o out place end = simp (need-bind, once)
 
-pub configuration-ends : (out : List ℕ) (place end : ℕ) {given : Given} {after : List ℕ}
-    → Ends (record { out = out; place = place; end = end; fault = 0; least = 0; word = configurationWord; context = entry }) given after
-    → (given ≡ writerGiven (configurationClosed out place end)) × (after ≡ configurationOutput out place end)
+pub configuration-ends : (o : Order) (out : List ℕ) (place end : ℕ) {given : Given} {after : List ℕ}
+    → Ends o (record { out = out; place = place; end = end; fault = 0; least = 0; word = configurationWord; context = entry }) given after
+    → (given ≡ writerGiven (configurationClosed o out place end)) × (after ≡ configurationOutput o out place end)
 unfolding configurationOutput
-configuration-ends out place end {given} {after} s =
-    let head : List ℕ = closingBytes configurationWord place end in
-    subst (λ (r : Res ℕ). (given ≡ writerGiven r) × (after ≡ written r out place head)) (configuration-is out place end) s
+configuration-ends o out place end {given} {after} s =
+    let head : List ℕ = closingBytes o configurationWord place end in
+    subst (λ (r : Res ℕ). (given ≡ writerGiven r) × (after ≡ written r out place head)) (configuration-is o out place end) s
 
-event-is : (out : List ℕ) (place end class category type : ℕ)
-    → closed out place end (eventFault class category type) 1 (event none) ≡ eventClosed out place end class category type
+event-is : (o : Order) (out : List ℕ) (place end class category type : ℕ)
+    → closed o out place end (eventFault class category type) 1 (event none) ≡ eventClosed o out place end class category type
 unfolding closed bounded eventClosed
-event-is out place end class category type = simp need-bind
+event-is o out place end class category type = simp need-bind
 
 -- The first word of an admitted class, category and type has room for them.
 pub word-whole : (class category type : ℕ) → eventFault class category type ≡ 0
     → eventWord (class % 16) (category % 16) (type % 256) ≡ eventWord class category type
 word-whole class category type e = let (a, b, c) = admitted class category type e in omega arith
 
-module _ (out : List ℕ) (place end class category type : ℕ) where
+module _ (o : Order) (out : List ℕ) (place end class category type : ℕ) where
   -- The fault of the event's own word, and its two words.
   abbrev own-fault : ℕ
   own-fault = eventFault class category type
 
   abbrev own-head : List ℕ
-  own-head = closingBytes (eventWord class category type) place end
+  own-head = closingBytes o (eventWord class category type) place end
 
   -- Where the closing is granted, the word that was made is the event's.
   head-is : (word : ℕ) → word ≡ eventWord (class % 16) (category % 16) (type % 256) → (next : ℕ)
-      → closed out place end own-fault 1 (event none) ≡ ok next → closingBytes word place end ≡ own-head
+      → closed o out place end own-fault 1 (event none) ≡ ok next → closingBytes o word place end ≡ own-head
   unfolding closed
   head-is word word-is next e =
-      let contents : Res (List Record) = readRecords (event none) (place + 8) (contentsOf out place end) in
+      let contents : Res (List Record) = readRecords o (event none) (place + 8) (contentsOf out place end) in
       let (n, bounded-ok, rest) = bind-ok (bounded (length out) place end own-fault 1) (λ m. ended m contents) e in
       let clean : own-fault ≡ 0 = bounds (length out) place end own-fault 1 n bounded-ok .clean in
-      ap (λ (w : ℕ). closingBytes w place end) (word-is ∙ word-whole class category type clean)
+      ap (λ (w : ℕ). closingBytes o w place end) (word-is ∙ word-whole class category type clean)
 
   pub event-ends : {fault word : ℕ} {c : Context} {given : Given} {after : List ℕ} → fault ≡ own-fault
       → word ≡ eventWord (class % 16) (category % 16) (type % 256) → c ≡ event none
-      → Ends (record { out = out; place = place; end = end; fault = fault; least = 1; word = word; context = c }) given after
-      → (given ≡ writerGiven (eventClosed out place end class category type)) × (after ≡ eventOutput out place end class category type)
+      → Ends o (record { out = out; place = place; end = end; fault = fault; least = 1; word = word; context = c }) given after
+      → (given ≡ writerGiven (eventClosed o out place end class category type)) × (after ≡ eventOutput o out place end class category type)
   unfolding eventOutput
   event-ends {fault} {word} {c} fault-is word-is context-is (answer, output) =
-      let r : Res ℕ = closed out place end own-fault 1 (event none) in
-      let same : closed out place end fault 1 c ≡ r = λ i. closed out place end (fault-is i) 1 (context-is i) in
-      let is : r ≡ eventClosed out place end class category type = event-is out place end class category type in (
+      let r : Res ℕ = closed o out place end own-fault 1 (event none) in
+      let same : closed o out place end fault 1 c ≡ r = λ i. closed o out place end (fault-is i) 1 (context-is i) in
+      let is : r ≡ eventClosed o out place end class category type = event-is o out place end class category type in (
         answer ∙ ap writerGiven (same ∙ is),
-        output ∙ ap (λ (x : Res ℕ). written x out place (closingBytes word place end)) same
+        output ∙ ap (λ (x : Res ℕ). written x out place (closingBytes o word place end)) same
             ∙ written-unasked r out place _ _ (head-is word word-is)
             ∙ ap (λ (x : Res ℕ). written x out place own-head) is,
       )

@@ -4,6 +4,7 @@ use Prim.Native.Nat.{ℕ, _+_}
 use mathlib.Core.List.{List}
 use lib.Dec.{leb}
 use lib.ListN.{length}
+use Rattle.theory.specs.declared.Order.{Order}
 use Rattle.theory.specs.Tests.{Res, ok, need, bind, unless}
 use Rattle.note.specs.Records.{Context, readRecords}
 use Rattle.note.specs.Writers.{within, contentsOf, ended}
@@ -17,7 +18,7 @@ bounded n place end fault least =
     ok end)))
 
 -- Then "its contents".
-unfoldable pub closed : List ℕ → ℕ → ℕ → ℕ → ℕ → Context → Res ℕ
-closed out place end fault least c =
+unfoldable pub closed : Order → List ℕ → ℕ → ℕ → ℕ → ℕ → Context → Res ℕ
+closed o out place end fault least c =
     bind (bounded (length out) place end fault least) (λ next.
-    ended next (readRecords c (place + 8) (contentsOf out place end)))
+    ended next (readRecords o c (place + 8) (contentsOf out place end)))

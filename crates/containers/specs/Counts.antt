@@ -2,10 +2,11 @@
 use Prim.Native.Nat.{ℕ, _+_}
 use mathlib.Core.List.{List, [], _∷_}
 use lib.ListN.{length}
+use Rattle.theory.specs.declared.Order.{Order}
 use Rattle.theory.specs.Tests.{Res, ok, bad}
 use Rattle.note.specs.Records.{Record, recordsBytes}
 use Rattle.note.specs.Events.{Container}
-use Rattle.note.specs.Files.{File, configurationOf, eventsOf}
+use Rattle.note.specs.Files.{Parts, File}
 use Rattle.containers.specs.declared.Count.{Count}
 use Rattle.containers.specs.declared.Count.the-variants as Count
 use Rattle.containers.specs.declared.Holding.{Holding}
@@ -19,9 +20,9 @@ countOf size (bad c p) = Count.Bad c p
 abbrev pub recordCount : Res (List Record) → Count
 recordCount = countOf length
 
-unfoldable pub containerStep : Res Container → Holding
-containerStep (ok c) = Holding.Good (c .kind) (length (recordsBytes (c .body))) (length (c .body))
-containerStep (bad c p) = Holding.Bad c p
+unfoldable pub containerStep : Order → Res Container → Holding
+containerStep o (ok c) = Holding.Good (c .kind) (length (recordsBytes o (c .body))) (length (c .body))
+containerStep o (bad c p) = Holding.Bad c p
 
 -- The rows of events: each its own and one for each record.
 abbrev pub rowsOfEvents : List Container → ℕ
@@ -32,8 +33,14 @@ abbrev pub eventRows : Res (List Container) → Count
 eventRows = countOf rowsOfEvents
 
 -- The rows of a file: the header's, the configuration's and its entries', the events'.
+abbrev pub rowsOfParts : Parts → ℕ
+rowsOfParts p = 2 + length (p .1 .0 .body) + rowsOfEvents (p .1 .1)
+
+abbrev pub partRows : Res Parts → Count
+partRows = countOf rowsOfParts
+
 abbrev pub rowsOfFile : File → ℕ
-rowsOfFile f = 2 + length (configurationOf f .body) + rowsOfEvents (eventsOf f)
+rowsOfFile f = rowsOfParts (f .1)
 
 abbrev pub fileRows : Res File → Count
 fileRows = countOf rowsOfFile

@@ -5,6 +5,8 @@ use record::Step;
 use record::fresh;
 use record::next_context;
 use record::record_in;
+use theory::Order;
+use words::order_of;
 use words::word_at;
 ghost use mathlib.Core.Path.{_≡_};
 ghost use mathlib.Core.Bool.{true};
@@ -13,9 +15,9 @@ ghost use lib.ListN.{length};
 ghost use Rattle.note.specs.Words.{word};
 ghost use Rattle.note.specs.Records.{readRecords};
 ghost use Rattle.note.specs.Events.{readEvent, readEvents};
-ghost use Rattle.note.specs.Files.{readConfiguration, readFile};
+ghost use Rattle.note.specs.Files.{readConfiguration, readParts, readFile};
 ghost use Rattle.record.specs.Steps.{contextOf};
-ghost use Rattle.containers.specs.Counts.{recordCount, containerStep, eventRows, fileRows};
+ghost use Rattle.containers.specs.Counts.{recordCount, containerStep, eventRows, partRows, fileRows};
 
 /// The header's first word, and the lower half of its second: format 2.0.
 pub const FILE_MARK: u32 = 0x0102_0304;
@@ -47,40 +49,40 @@ pub enum Holding {
 // ---- the records of a part
 
 // The length word at the front of a part; 0 where there is none.
-fn length_at(part: &[u8]) -> usize
-    ensures { λ r. ⌜ (8 ≤ length (now (part .entry)) → r ≡ word 4 (now (part .entry))) ⌝ }
+fn length_at(part: &[u8], order: Order) -> usize
+    ensures { λ r. ⌜ (8 ≤ length (now (part .entry)) → r ≡ word order 4 (now (part .entry))) ⌝ }
 {
     if part.len() < 8 {
         return 0;
     }
-    word_at(part, 4) as usize
+    word_at(part, 4, order) as usize
 }
 
 // Whether a part goes on with a structure of this length word: where it says yes, it does.
-fn is_alike(part: &[u8], known: usize) -> bool
-    ensures { λ r. ⌜ (r ≡ true → (8 ≤ length (now (part .entry))) × (known ≡ word 4 (now (part .entry)))) ⌝ }
+fn is_alike(part: &[u8], known: usize, order: Order) -> bool
+    ensures { λ r. ⌜ (r ≡ true → (8 ≤ length (now (part .entry))) × (known ≡ word order 4 (now (part .entry)))) ⌝ }
 {
     if part.len() < 8 {
         return false;
     }
-    word_at(part, 4) as usize == known
+    word_at(part, 4, order) as usize == known
 }
 
 /// How many records fill a part whose first byte stands at `from`. Over a run of records of one length the step to the next is known, and a
 /// record's own length word is only compared with it: memory is asked for many records at a time.
-pub fn records_in(part: &[u8], from: usize, context: Context) -> Count
+pub fn records_in(part: &[u8], from: usize, context: Context, order: Order) -> Count
     requires { ⌜ from + length (now part) ≤ 0x1000000 ⌝ }
-    ensures { λ r. ⌜ r ≡ recordCount (readRecords (contextOf context) from (now (part .entry))) ⌝ }
+    ensures { λ r. ⌜ r ≡ recordCount (readRecords order (contextOf context) from (now (part .entry))) ⌝ }
 {
     let mut rest = part;
     let mut at = from;
     let mut count = 0;
     let mut state = context;
     while 0 < rest.len() {
-        let known = length_at(rest);
+        let known = length_at(rest, order);
         let mut more = true;
         while more {
-            match record_in(rest, at, state) {
+            match record_in(rest, at, state, order) {
                 Step::Bad { number, place } => return Count::Bad { number, place },
                 Step::Good { kind, length: _ } => {
                     let size = 8 + known;
@@ -88,7 +90,7 @@ pub fn records_in(part: &[u8], from: usize, context: Context) -> Count
                     rest = &rest[size..];
                     at = at + size;
                     count = count + 1;
-                    more = is_alike(rest, known);
+                    more = is_alike(rest, known, order);
                 }
             }
         }
@@ -99,9 +101,9 @@ pub fn records_in(part: &[u8], from: usize, context: Context) -> Count
 // ---- containers
 
 /// The configuration at the front of a part whose first byte stands at `at`.
-pub fn configuration_in(part: &[u8], at: usize) -> Holding
+pub fn configuration_in(part: &[u8], at: usize, order: Order) -> Holding
     requires { ⌜ at + length (now part) ≤ 0x1000000 ⌝ }
-    ensures { λ r. ⌜ r ≡ containerStep (readConfiguration tt at (now (part .entry))) ⌝ }
+    ensures { λ r. ⌜ r ≡ containerStep order (readConfiguration order tt at (now (part .entry))) ⌝ }
 {
     let room = part.len();
     if room < 8 {
@@ -110,21 +112,21 @@ pub fn configuration_in(part: &[u8], at: usize) -> Holding
             place: at,
         };
     }
-    let word = word_at(part, 0);
+    let word = word_at(part, 0, order);
     if word != CONFIGURATION {
         return Holding::Bad {
             number: 5,
             place: at,
         };
     }
-    let length = word_at(part, 4) as usize;
+    let length = word_at(part, 4, order) as usize;
     if room - 8 < length {
         return Holding::Bad {
             number: 2,
             place: at,
         };
     }
-    match records_in(&part[8..8 + length], at + 8, Context::Entry) {
+    match records_in(&part[8..8 + length], at + 8, Context::Entry, order) {
         Count::Good { count } => Holding::Good {
             word,
             length,
@@ -135,9 +137,9 @@ pub fn configuration_in(part: &[u8], at: usize) -> Holding
 }
 
 /// The event at the front of a part whose first byte stands at `at`.
-pub fn event_in(part: &[u8], at: usize) -> Holding
+pub fn event_in(part: &[u8], at: usize, order: Order) -> Holding
     requires { ⌜ at + length (now part) ≤ 0x1000000 ⌝ }
-    ensures { λ r. ⌜ r ≡ containerStep (readEvent tt at (now (part .entry))) ⌝ }
+    ensures { λ r. ⌜ r ≡ containerStep order (readEvent order tt at (now (part .entry))) ⌝ }
 {
     let room = part.len();
     if room < 8 {
@@ -146,7 +148,7 @@ pub fn event_in(part: &[u8], at: usize) -> Holding
             place: at,
         };
     }
-    let word = word_at(part, 0);
+    let word = word_at(part, 0, order);
     let fault = event_word_rule(word);
     if fault != 0 {
         return Holding::Bad {
@@ -154,7 +156,7 @@ pub fn event_in(part: &[u8], at: usize) -> Holding
             place: at,
         };
     }
-    let length = word_at(part, 4) as usize;
+    let length = word_at(part, 4, order) as usize;
     if room - 8 < length {
         return Holding::Bad {
             number: 2,
@@ -167,7 +169,7 @@ pub fn event_in(part: &[u8], at: usize) -> Holding
             place: at,
         };
     }
-    match records_in(&part[8..8 + length], at + 8, fresh()) {
+    match records_in(&part[8..8 + length], at + 8, fresh(), order) {
         Count::Good { count } => Holding::Good {
             word,
             length,
@@ -178,15 +180,15 @@ pub fn event_in(part: &[u8], at: usize) -> Holding
 }
 
 /// How many rows the events have that fill a part whose first byte stands at `from`.
-pub fn events_in(part: &[u8], from: usize) -> Count
+pub fn events_in(part: &[u8], from: usize, order: Order) -> Count
     requires { ⌜ from + length (now part) ≤ 0x1000000 ⌝ }
-    ensures { λ r. ⌜ r ≡ eventRows (readEvents tt from (now (part .entry))) ⌝ }
+    ensures { λ r. ⌜ r ≡ eventRows (readEvents order tt from (now (part .entry))) ⌝ }
 {
     let mut rest = part;
     let mut at = from;
     let mut count = 0;
     while 0 < rest.len() {
-        match event_in(rest, at) {
+        match event_in(rest, at, order) {
             Holding::Bad { number, place } => return Count::Bad { number, place },
             Holding::Good {
                 word: _,
@@ -203,36 +205,31 @@ pub fn events_in(part: &[u8], from: usize) -> Count
     Count::Good { count }
 }
 
-/// How many rows a file has, or its refusal.
-pub fn check(file: &[u8]) -> Count
-    ensures { λ r. ⌜ r ≡ fileRows (readFile (now (file .entry))) ⌝ }
+// How many rows the parts of a file have, or the first refusal in them.
+fn parts_in(file: &[u8], order: Order) -> Count
+    requires { ⌜ length (now file) ≤ 0x1000000 ⌝ }
+    ensures { λ r. ⌜ r ≡ partRows (readParts order (now (file .entry))) ⌝ }
 {
     let room = file.len();
-    if record::FILE_LIMIT < room {
-        return Count::Bad {
-            number: 1,
-            place: 0,
-        };
-    }
     if room < 8 {
         return Count::Bad {
             number: 2,
             place: 0,
         };
     }
-    if word_at(file, 0) != FILE_MARK {
+    if word_at(file, 0, order) != FILE_MARK {
         return Count::Bad {
             number: 3,
             place: 0,
         };
     }
-    if word_at(file, 4) % 65536 != FORMAT {
+    if word_at(file, 4, order) % 65536 != FORMAT {
         return Count::Bad {
             number: 4,
             place: 0,
         };
     }
-    match configuration_in(&file[8..], 8) {
+    match configuration_in(&file[8..], 8, order) {
         Holding::Bad { number, place } => Count::Bad { number, place },
         Holding::Good {
             word: _,
@@ -240,7 +237,7 @@ pub fn check(file: &[u8]) -> Count
             count,
         } => {
             let from = 16 + length;
-            match events_in(&file[from..], from) {
+            match events_in(&file[from..], from, order) {
                 Count::Bad { number, place } => Count::Bad { number, place },
                 Count::Good { count: rows } => Count::Good {
                     count: 2 + count + rows,
@@ -248,4 +245,17 @@ pub fn check(file: &[u8]) -> Count
             }
         }
     }
+}
+
+/// How many rows a file has, or its refusal. Its words are in the order that its first bytes show.
+pub fn check(file: &[u8]) -> Count
+    ensures { λ r. ⌜ r ≡ fileRows (readFile (now (file .entry))) ⌝ }
+{
+    if record::FILE_LIMIT < file.len() {
+        return Count::Bad {
+            number: 1,
+            place: 0,
+        };
+    }
+    parts_in(file, order_of(file))
 }

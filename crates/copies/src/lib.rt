@@ -12,6 +12,7 @@ use rules::TLB;
 use rules::TRACE;
 use rules::TRIGGER;
 use rules::section_end;
+use theory::Order;
 use words::word_at;
 use writers::write_administrative;
 use writers::write_charge;
@@ -37,52 +38,54 @@ ghost use Rattle.copies.specs.Copying.{Copyable, Copied};
 
 // ---- the entries
 
-fn copy_phonon(body: &[u8], out: &mut [u8], place: usize)
-    requires { ⌜ (44 ≤ length (now body)) × Copyable phononKind (now body) (length (now out)) place ⌝ }
-    ensures { λ _. ⌜ Copied phononKind (now (body .entry)) (now (out .entry)) place (now (out .exit)) ⌝ }
+fn copy_phonon(body: &[u8], out: &mut [u8], place: usize, order: Order)
+    requires { ⌜ (44 ≤ length (now body)) × Copyable order phononKind (now body) (length (now out)) place ⌝ }
+    ensures { λ _. ⌜ Copied order phononKind (now (body .entry)) (now (out .entry)) place (now (out .exit)) ⌝ }
 {
     write_phonon(
         out,
         place,
-        signed_at(body, 0),
-        signed_at(body, 4),
-        signed_at(body, 8),
-        signed_at(body, 12),
-        signed_at(body, 16),
-        signed_at(body, 20),
-        signed_at(body, 24),
-        signed_at(body, 28),
-        signed_at(body, 32),
-        signed_at(body, 36),
-        signed_at(body, 40),
+        signed_at(body, 0, order),
+        signed_at(body, 4, order),
+        signed_at(body, 8, order),
+        signed_at(body, 12, order),
+        signed_at(body, 16, order),
+        signed_at(body, 20, order),
+        signed_at(body, 24, order),
+        signed_at(body, 28, order),
+        signed_at(body, 32, order),
+        signed_at(body, 36, order),
+        signed_at(body, 40, order),
+        order,
     );
 }
 
-fn copy_charge(body: &[u8], out: &mut [u8], place: usize)
-    requires { ⌜ (32 ≤ length (now body)) × Copyable chargeKind (now body) (length (now out)) place ⌝ }
-    ensures { λ _. ⌜ Copied chargeKind (now (body .entry)) (now (out .entry)) place (now (out .exit)) ⌝ }
+fn copy_charge(body: &[u8], out: &mut [u8], place: usize, order: Order)
+    requires { ⌜ (32 ≤ length (now body)) × Copyable order chargeKind (now body) (length (now out)) place ⌝ }
+    ensures { λ _. ⌜ Copied order chargeKind (now (body .entry)) (now (out .entry)) place (now (out .exit)) ⌝ }
 {
     write_charge(
         out,
         place,
-        signed_at(body, 0),
-        signed_at(body, 4),
-        signed_at(body, 8),
-        signed_at(body, 12),
-        signed_at(body, 16),
-        signed_at(body, 20),
-        signed_at(body, 24),
-        signed_at(body, 28),
+        signed_at(body, 0, order),
+        signed_at(body, 4, order),
+        signed_at(body, 8, order),
+        signed_at(body, 12, order),
+        signed_at(body, 16, order),
+        signed_at(body, 20, order),
+        signed_at(body, 24, order),
+        signed_at(body, 28, order),
+        order,
     );
 }
 
 // ---- the six records
 
-fn copy_administrative(body: &[u8], out: &mut [u8], place: usize)
-    requires { ⌜ (24 ≤ length (now body)) × Copyable administrativeKind (now body) (length (now out)) place ⌝ }
-    ensures { λ _. ⌜ Copied administrativeKind (now (body .entry)) (now (out .entry)) place (now (out .exit)) ⌝ }
+fn copy_administrative(body: &[u8], out: &mut [u8], place: usize, order: Order)
+    requires { ⌜ (24 ≤ length (now body)) × Copyable order administrativeKind (now body) (length (now out)) place ⌝ }
+    ensures { λ _. ⌜ Copied order administrativeKind (now (body .entry)) (now (out .entry)) place (now (out .exit)) ⌝ }
 {
-    let w = six_at(body, 0);
+    let w = six_at(body, 0, order);
     write_administrative(
         out,
         place,
@@ -92,61 +95,64 @@ fn copy_administrative(body: &[u8], out: &mut [u8], place: usize)
         w.fourth,
         w.fifth,
         w.sixth,
+        order,
     );
 }
 
-fn copy_trace(body: &[u8], out: &mut [u8], place: usize)
-    requires { ⌜ (48 ≤ length (now body)) × Copyable traceKind (now body) (length (now out)) place ⌝ }
-    ensures { λ _. ⌜ Copied traceKind (now (body .entry)) (now (out .entry)) place (now (out .exit)) ⌝ }
+fn copy_trace(body: &[u8], out: &mut [u8], place: usize, order: Order)
+    requires { ⌜ (48 ≤ length (now body)) × Copyable order traceKind (now body) (length (now out)) place ⌝ }
+    ensures { λ _. ⌜ Copied order traceKind (now (body .entry)) (now (out .entry)) place (now (out .exit)) ⌝ }
 {
     write_trace(
         out,
         place,
-        word_at(body, 8),
-        word_at(body, 12),
-        word_at(body, 16),
-        signed_at(body, 28),
-        word_at(body, 32),
-        word_at(body, 44),
+        word_at(body, 8, order),
+        word_at(body, 12, order),
+        word_at(body, 16, order),
+        signed_at(body, 28, order),
+        word_at(body, 32, order),
+        word_at(body, 44, order),
         &body[48..],
+        order,
     );
 }
 
 // Where the width of a history's section stands, whose count stands at p.
-fn width_at(p: usize, body: &[u8]) -> usize
+fn width_at(p: usize, body: &[u8], order: Order) -> usize
     requires { ⌜ p + 4 ≤ length (now body) ⌝ }
-    ensures { λ r. ⌜ r ≡ widthAt p (now (body .entry)) ⌝ }
+    ensures { λ r. ⌜ r ≡ widthAt order p (now (body .entry)) ⌝ }
 {
-    p + 4 + 4 * word_at(body, p) as usize
+    p + 4 + 4 * word_at(body, p, order) as usize
 }
 
-fn copy_history(body: &[u8], out: &mut [u8], place: usize)
-    requires { ⌜ (16 ≤ length (now body)) × Copyable historyKind (now body) (length (now out)) place ⌝ }
-    ensures { λ _. ⌜ Copied historyKind (now (body .entry)) (now (out .entry)) place (now (out .exit)) ⌝ }
+fn copy_history(body: &[u8], out: &mut [u8], place: usize, order: Order)
+    requires { ⌜ (16 ≤ length (now body)) × Copyable order historyKind (now body) (length (now out)) place ⌝ }
+    ensures { λ _. ⌜ Copied order historyKind (now (body .entry)) (now (out .entry)) place (now (out .exit)) ⌝ }
 {
-    let veto = width_at(0, body);
-    let middle = section_end(0, body);
-    let trigger = width_at(middle, body);
+    let veto = width_at(0, body, order);
+    let middle = section_end(0, body, order);
+    let trigger = width_at(middle, body, order);
     write_history(
         out,
         place,
-        word_at(body, 0),
+        word_at(body, 0, order),
         &body[4..veto],
-        word_at(body, veto),
+        word_at(body, veto, order),
         &body[veto + 4..middle],
-        word_at(body, middle),
+        word_at(body, middle, order),
         &body[middle + 4..trigger],
-        word_at(body, trigger),
+        word_at(body, trigger, order),
         &body[trigger + 4..],
+        order,
     );
 }
 
-fn copy_gps(body: &[u8], out: &mut [u8], place: usize)
-    requires { ⌜ (12 ≤ length (now body)) × Copyable gpsKind (now body) (length (now out)) place ⌝ }
-    ensures { λ _. ⌜ Copied gpsKind (now (body .entry)) (now (out .entry)) place (now (out .exit)) ⌝ }
+fn copy_gps(body: &[u8], out: &mut [u8], place: usize, order: Order)
+    requires { ⌜ (12 ≤ length (now body)) × Copyable order gpsKind (now body) (length (now out)) place ⌝ }
+    ensures { λ _. ⌜ Copied order gpsKind (now (body .entry)) (now (out .entry)) place (now (out .exit)) ⌝ }
 {
-    let date = word_at(body, 0);
-    let clock = word_at(body, 4);
+    let date = word_at(body, 0, order);
+    let clock = word_at(body, 4, order);
     write_gps(
         out,
         place,
@@ -156,15 +162,16 @@ fn copy_gps(body: &[u8], out: &mut [u8], place: usize)
         decimal(2, clock >> 16),
         decimal(2, clock >> 8),
         decimal(2, clock),
-        decimal(8, word_at(body, 8)),
+        decimal(8, word_at(body, 8, order)),
+        order,
     );
 }
 
-fn copy_trigger(body: &[u8], out: &mut [u8], place: usize)
-    requires { ⌜ (28 ≤ length (now body)) × Copyable triggerKind (now body) (length (now out)) place ⌝ }
-    ensures { λ _. ⌜ Copied triggerKind (now (body .entry)) (now (out .entry)) place (now (out .exit)) ⌝ }
+fn copy_trigger(body: &[u8], out: &mut [u8], place: usize, order: Order)
+    requires { ⌜ (28 ≤ length (now body)) × Copyable order triggerKind (now body) (length (now out)) place ⌝ }
+    ensures { λ _. ⌜ Copied order triggerKind (now (body .entry)) (now (out .entry)) place (now (out .exit)) ⌝ }
 {
-    let w = six_at(body, 4);
+    let w = six_at(body, 4, order);
     write_trigger(
         out,
         place,
@@ -174,14 +181,15 @@ fn copy_trigger(body: &[u8], out: &mut [u8], place: usize)
         w.fourth,
         w.fifth,
         w.sixth,
+        order,
     );
 }
 
-fn copy_tlb(body: &[u8], out: &mut [u8], place: usize)
-    requires { ⌜ (24 ≤ length (now body)) × Copyable tlbKind (now body) (length (now out)) place ⌝ }
-    ensures { λ _. ⌜ Copied tlbKind (now (body .entry)) (now (out .entry)) place (now (out .exit)) ⌝ }
+fn copy_tlb(body: &[u8], out: &mut [u8], place: usize, order: Order)
+    requires { ⌜ (24 ≤ length (now body)) × Copyable order tlbKind (now body) (length (now out)) place ⌝ }
+    ensures { λ _. ⌜ Copied order tlbKind (now (body .entry)) (now (out .entry)) place (now (out .exit)) ⌝ }
 {
-    let w = six_at(body, 0);
+    let w = six_at(body, 0, order);
     write_tlb(
         out,
         place,
@@ -191,25 +199,26 @@ fn copy_tlb(body: &[u8], out: &mut [u8], place: usize)
         w.fourth,
         w.fifth,
         w.sixth,
+        order,
     );
 }
 
 // ---- any of them
 
 /// Writes a record or an entry of this kind again, from its body's fields, into the output from the place on.
-pub fn copy_record(kind: u32, body: &[u8], out: &mut [u8], place: usize)
-    requires { ⌜ Copyable (kindOf kind) (now body) (length (now out)) place ⌝ }
-    ensures { λ _. ⌜ Copied (kindOf kind) (now (body .entry)) (now (out .entry)) place (now (out .exit)) ⌝ }
+pub fn copy_record(kind: u32, body: &[u8], out: &mut [u8], place: usize, order: Order)
+    requires { ⌜ Copyable order (kindOf kind) (now body) (length (now out)) place ⌝ }
+    ensures { λ _. ⌜ Copied order (kindOf kind) (now (body .entry)) (now (out .entry)) place (now (out .exit)) ⌝ }
 {
     match kind {
-        PHONON => copy_phonon(body, out, place),
-        CHARGE => copy_charge(body, out, place),
-        ADMINISTRATIVE => copy_administrative(body, out, place),
-        TRACE => copy_trace(body, out, place),
-        HISTORY => copy_history(body, out, place),
-        GPS => copy_gps(body, out, place),
-        TRIGGER => copy_trigger(body, out, place),
-        TLB => copy_tlb(body, out, place),
+        PHONON => copy_phonon(body, out, place, order),
+        CHARGE => copy_charge(body, out, place, order),
+        ADMINISTRATIVE => copy_administrative(body, out, place, order),
+        TRACE => copy_trace(body, out, place, order),
+        HISTORY => copy_history(body, out, place, order),
+        GPS => copy_gps(body, out, place, order),
+        TRIGGER => copy_trigger(body, out, place, order),
+        TLB => copy_tlb(body, out, place, order),
         // Not reached: a body that follows a rule has its kind.
         _ => {}
     }

@@ -5,10 +5,11 @@ use mathlib.Core.List.{List}
 use Prim.Native.Nat.{ℕ, _*_, _≤_}
 use native.Mathlib.Omega.{arith}
 use lib.ListN.{length, drop, length-drop}
+use Rattle.theory.specs.declared.Order.{Order}
 use Rattle.theory.specs.Words.{Bytes}
 use Rattle.theory.proofs.WordLaws.{word-fits}
 use Rattle.theory.proofs.TestLaws.{first-at, first-passes, equal-passes, equal-passed}
-use Rattle.note.specs.Words.{order, word, signed, unsigned}
+use Rattle.note.specs.Words.{word, signed, unsigned}
 use Rattle.note.specs.Kinds.{Kind}
 use Rattle.note.specs.Phonon.{phononKind, phononOf, phononBytes, phononFault, phononRule}
 use Rattle.note.specs.Charge.{chargeKind, chargeOf, chargeBytes, chargeFault, chargeRule}
@@ -27,57 +28,57 @@ use Rattle.note.proofs.HistoryLaws.{history-faultless, history-restored}
 use Rattle.note.proofs.GpsLaws.{gps-restored}
 
 -- The fields of the body b of kind k, written as w, have no fault, and the bytes are the record.
-pub record Again (k : Kind) (b : List ℕ) (w : Written) : Type 0 where
+pub record Again (o : Order) (k : Kind) (b : List ℕ) (w : Written) : Type 0 where
   pub fine : w .fault ≡ 0
-  pub same : w .bytes ≡ wrapped k b
+  pub same : w .bytes ≡ wrapped o k b
 
-again : (k : Kind) (b body : List ℕ) (fault : ℕ) → fault ≡ 0 → body ≡ b → Again k b (record { fault = fault; bytes = wrapped k body })
-again k b body fault e s = record { fine = e; same = ap (wrapped k) s }
+again : (o : Order) (k : Kind) (b body : List ℕ) (fault : ℕ) → fault ≡ 0 → body ≡ b → Again o k b (record { fault = fault; bytes = wrapped o k body })
+again o k b body fault e s = record { fine = e; same = ap (wrapped o k) s }
 
-module _ (b : List ℕ) (h : Bytes b) where
+module _ (o : Order) (b : List ℕ) (h : Bytes b) where
   -- A code that was read as signed is asked as the word that it was.
-  code-again : 4 ≤ length b → (fault : ℕ → ℕ) → fault (word 0 b) ≡ 0 → fault (unsigned (signed (word 0 b))) ≡ 0
-  code-again l fault e = ap fault (signed-again (word 0 b) (word-fits order 4 0 b h l)) ∙ e
+  code-again : 4 ≤ length b → (fault : ℕ → ℕ) → fault (word o 0 b) ≡ 0 → fault (unsigned (signed (word o 0 b))) ≡ 0
+  code-again l fault e = ap fault (signed-again (word o 0 b) (word-fits o 4 0 b h l)) ∙ e
 
-  pub phonon-again : phononRule b ≡ 0 → Again phononKind b (phononWritten (phononOf b))
+  pub phonon-again : phononRule o b ≡ 0 → Again o phononKind b (phononWritten o (phononOf o b))
   unfolding phononWritten phononOf phononRule
   phonon-again e =
       let size : length b ≡ 44 = equal-passed (length b) 44 5 (first-at _ e 0) in
-      again phononKind b (phononBytes (phononOf b)) _ (code-again (omega arith) phononFault (first-at _ e 1)) (phonon-restored b h e)
+      again o phononKind b (phononBytes o (phononOf o b)) _ (code-again (omega arith) phononFault (first-at _ e 1)) (phonon-restored o b h e)
 
-  pub charge-again : chargeRule b ≡ 0 → Again chargeKind b (chargeWritten (chargeOf b))
+  pub charge-again : chargeRule o b ≡ 0 → Again o chargeKind b (chargeWritten o (chargeOf o b))
   unfolding chargeWritten chargeOf chargeRule
   charge-again e =
       let size : length b ≡ 32 = equal-passed (length b) 32 5 (first-at _ e 0) in
-      again chargeKind b (chargeBytes (chargeOf b)) _ (code-again (omega arith) chargeFault (first-at _ e 1)) (charge-restored b h e)
+      again o chargeKind b (chargeBytes o (chargeOf o b)) _ (code-again (omega arith) chargeFault (first-at _ e 1)) (charge-restored o b h e)
 
-  pub administrative-again : administrativeRule b ≡ 0 → Again administrativeKind b (administrativeWritten (administrativeOf b))
+  pub administrative-again : administrativeRule o b ≡ 0 → Again o administrativeKind b (administrativeWritten o (administrativeOf o b))
   unfolding administrativeWritten administrativeOf administrativeRule
-  administrative-again e = again administrativeKind b _ _ (first-at _ e 1) (administrative-restored b h e)
+  administrative-again e = again o administrativeKind b _ _ (first-at _ e 1) (administrative-restored o b h e)
 
-  pub trace-again : traceRule b ≡ 0 → Again traceKind b (traceWritten (traceOf b))
+  pub trace-again : traceRule o b ≡ 0 → Again o traceKind b (traceWritten o (traceOf o b))
   unfolding traceWritten traceOf traceFault traceRule bookkeepingRule timebaseRule samplesRule
   trace-again e =
-      let size : length (drop 48 b) ≡ 2 * word 44 b = omega (arith, length-drop 48 b, trace-accepted b e .size) in
+      let size : length (drop 48 b) ≡ 2 * word o 44 b = omega (arith, length-drop 48 b, trace-accepted o b e .size) in
       let book = first-at _ e 1 in
       let base = first-at _ e 2 in
       let samples = first-at _ e 3 in
-      again traceKind b _ _
+      again o traceKind b _ _
       (first-passes _ (first-at _ book 2, (first-at _ book 3, (first-at _ base 2, (first-at _ samples 1, (equal-passes 6 size, tt))))))
-      (trace-restored b h e)
+      (trace-restored o b h e)
 
-  pub history-again : historyRule b ≡ 0 → Again historyKind b (historyWritten (historyOf b))
+  pub history-again : historyRule o b ≡ 0 → Again o historyKind b (historyWritten o (historyOf o b))
   unfolding historyWritten
-  history-again e = again historyKind b _ _ (history-faultless b e) (history-restored b h e)
+  history-again e = again o historyKind b _ _ (history-faultless o b e) (history-restored o b h e)
 
-  pub gps-again : gpsRule b ≡ 0 → Again gpsKind b (gpsWritten (gpsOf b))
+  pub gps-again : gpsRule o b ≡ 0 → Again o gpsKind b (gpsWritten o (gpsOf o b))
   unfolding gpsWritten gpsRule
-  gps-again e = again gpsKind b _ _ (first-at _ e 5) (gps-restored b h e)
+  gps-again e = again o gpsKind b _ _ (first-at _ e 5) (gps-restored o b h e)
 
-  pub trigger-again : triggerRule b ≡ 0 → Again triggerKind b (triggerWritten (triggerOf b))
+  pub trigger-again : triggerRule o b ≡ 0 → Again o triggerKind b (triggerWritten o (triggerOf o b))
   unfolding triggerWritten
-  trigger-again e = again triggerKind b _ _ refl (trigger-restored b h e)
+  trigger-again e = again o triggerKind b _ _ refl (trigger-restored o b h e)
 
-  pub tlb-again : tlbRule b ≡ 0 → Again tlbKind b (tlbWritten (tlbOf b))
+  pub tlb-again : tlbRule o b ≡ 0 → Again o tlbKind b (tlbWritten o (tlbOf o b))
   unfolding tlbWritten tlbRule
-  tlb-again e = again tlbKind b _ _ (first-at _ e 1) (tlb-restored b h e)
+  tlb-again e = again o tlbKind b _ _ (first-at _ e 1) (tlb-restored o b h e)

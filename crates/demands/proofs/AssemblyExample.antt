@@ -4,6 +4,7 @@ use mathlib.Core.Path.{_≡_, refl}
 use mathlib.Core.List.{[], _∷_, _++_}
 use native.Mathlib.Omega.{arith}
 use lib.ListN.{replicate}
+use Rattle.theory.specs.declared.Order.the-variants.{Little}
 use Rattle.theory.specs.Tests.{ok}
 use Rattle.note.specs.Examples.{p14}
 use Rattle.note.proofs.Computing.{computing}
@@ -26,7 +27,7 @@ pieces = record {
   } ∷ [];
 }
 
-pub example-assembled : fileAssembled (replicate 96 255) pieces ≡ ok (record { next = 88; out = p14 ++ replicate 8 255 })
+pub example-assembled : fileAssembled Little (replicate 96 255) pieces ≡ ok (record { next = 88; out = p14 ++ replicate 8 255 })
 unfolding computing writtenOf recordsAssembled containerAssembled eventsAssembled fileAssembled
 example-assembled = refl
 

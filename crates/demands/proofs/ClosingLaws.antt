@@ -8,13 +8,13 @@ use native.Mathlib.Omega.{arith}
 use lib.Dec.{leb}
 use lib.ListN.{length, take, drop, length-drop, take-append-drop}
 use lib.Seq.{take-at, drop-at, drop-drop, length-take-le}
+use Rattle.theory.specs.declared.Order.{Order}
 use Rattle.theory.specs.Words.{Bytes, Fits, put, puts}
 use Rattle.theory.specs.Tests.{Res, ok, bad, unless}
 use Rattle.theory.specs.Structures.{readStructure}
 use Rattle.theory.proofs.WordLaws.{Bytes-part, length-puts}
 use Rattle.theory.proofs.TestLaws.{need-ok, bind-ok, ok-inj, most-passed, most-passes}
 use Rattle.note.specs.Limits.{fileLimit}
-use Rattle.note.specs.Words.{order}
 use Rattle.note.specs.Records.{Record, Context, entry, event, none, recordsBytes, readRecord, readRecords}
 use Rattle.note.specs.Events.{Container, containerBytes, eventWord, eventFault, eventHead, eventLate, readEvent}
 use Rattle.note.specs.Files.{configurationWord, configurationHead, configurationLate, readConfiguration}
@@ -28,12 +28,12 @@ use Rattle.demands.proofs.OutputLaws.{structure-apart, laid-from, put-l
 
 -- ---- any container
 
-module _ (head : Unit {0} → ℕ → ℕ) (late : Unit {0} → ℕ → ℕ → ℕ) (c : Context) where
+module _ (o : Order) (head : Unit {0} → ℕ → ℕ) (late : Unit {0} → ℕ → ℕ → ℕ) (c : Context) where
   -- The container's reader, its tests of its own words being these and its records read in the context c.
   abbrev pub reader : Unit {0} → ℕ → List ℕ → Res Container
-  reader = readStructure order head late (λ s at bs. readRecords c (at + 8) bs)
+  reader = readStructure o head late (λ s at bs. readRecords o c (at + 8) bs)
 
-  same-box : (s : Unit {0}) (at : ℕ) (bs : List ℕ) → reader s at bs ≡ box head late c .read s at bs
+  same-box : (s : Unit {0}) (at : ℕ) (bs : List ℕ) → reader s at bs ≡ box o head late c .read s at bs
   unfolding readRecords readRecord
   same-box s at bs = refl
 
@@ -44,7 +44,7 @@ module _ (head : Unit {0} → ℕ → ℕ) (late : Unit {0} → ℕ → ℕ → 
     pub head-ok : head tt word ≡ 0
     pub late-ok : late tt word (end - (place + 8)) ≡ 0
     pub read : List Record
-    pub contents : readRecords c (place + 8) (contentsOf out place end) ≡ ok read
+    pub contents : readRecords o c (place + 8) (contentsOf out place end) ≡ ok read
     pub is : end ≡ next
 
   module _ (out : List ℕ) (place end next word : ℕ) (k : Checked out place end next word) (h : Bytes (contentsOf out place end)) where
@@ -56,13 +56,13 @@ module _ (head : Unit {0} → ℕ → ℕ) (late : Unit {0} → ℕ → ℕ → 
     inner-size = length-take-le (end - (place + 8)) (drop (place + 8) out) (omega (arith, length-drop (place + 8) out, k .room))
 
     -- The contents are the records that were read from them, and the container is valid.
-    inner : (held ≡ recordsBytes (k .read)) × records .Ok c (k .read)
-    inner = records .sound c (place + 8) held (k .read) h (sym (same-records c (place + 8) held) ∙ k .contents)
+    inner : (held ≡ recordsBytes o (k .read)) × records o .Ok c (k .read)
+    inner = records o .sound c (place + 8) held (k .read) h (sym (same-records o c (place + 8) held) ∙ k .contents)
 
-    size : length (recordsBytes (k .read)) ≡ end - (place + 8)
+    size : length (recordsBytes o (k .read)) ≡ end - (place + 8)
     size = sym (ap length (inner .0)) ∙ inner-size
 
-    pub container-ok : box head late c .Ok tt (record { kind = word; body = k .read })
+    pub container-ok : box o head late c .Ok tt (record { kind = word; body = k .read })
     container-ok = record {
       head-ok = k .head-ok;
       late-ok = ap (late tt word) size ∙ k .late-ok;
@@ -73,11 +73,11 @@ module _ (head : Unit {0} → ℕ → ℕ) (late : Unit {0} → ℕ → ℕ → 
 
     -- The eight bytes, and from the place on the whole container.
     eight : List ℕ
-    eight = closingBytes word place end
+    eight = closingBytes o word place end
 
     eight-size : length eight ≡ 8
     unfolding eight
-    eight-size = length-puts order 4 (word ∷ (end - (place + 8)) ∷ [])
+    eight-size = length-puts o 4 (word ∷ (end - (place + 8)) ∷ [])
 
     new : List ℕ
     new = written (ok next) out place eight
@@ -89,35 +89,35 @@ module _ (head : Unit {0} → ℕ → ℕ) (late : Unit {0} → ℕ → ℕ → 
     whole : Container
     whole = record { kind = word; body = k .read }
 
-    new-from : drop place new ≡ containerBytes whole ++ drop end out
+    new-from : drop place new ≡ containerBytes o whole ++ drop end out
     unfolding eight whole puts
     new-from =
         let n : ℕ = end - (place + 8) in
-        let B : List ℕ = recordsBytes (k .read) in
+        let B : List ℕ = recordsBytes o (k .read) in
         let rest : List ℕ = drop end out in
         let at : place + length eight ≡ place + 8 = omega (arith, eight-size) in
         let last : place + 8 + n ≡ end = omega (arith, k .room) in
         let behind : drop (place + 8) out ≡ B ++ rest =
         sym (take-append-drop n (drop (place + 8) out))
         ∙ ap₂ (λ (x y : List ℕ). x ++ y) (inner .0) (drop-drop n (place + 8) out ∙ ap (λ (m : ℕ). drop m out) last) in
-        let front : eight ++ (B ++ rest) ≡ put order 4 word ++ (put order 4 n ++ (B ++ rest)) = simp append-assoc in
+        let front : eight ++ (B ++ rest) ≡ put o 4 word ++ (put o 4 n ++ (B ++ rest)) = simp append-assoc in
         laid-from out new place (place + length eight) eight eight-laid
         ∙ ap (λ (m : ℕ). eight ++ drop m out) at
         ∙ ap (λ (x : List ℕ). eight ++ x) behind
         ∙ front
-        ∙ ap (λ (m : ℕ). put order 4 word ++ (put order 4 m ++ (B ++ rest))) (sym size)
-        ∙ sym (structure-apart recordsBytes whole rest)
+        ∙ ap (λ (m : ℕ). put o 4 word ++ (put o 4 m ++ (B ++ rest))) (sym size)
+        ∙ sym (structure-apart o (recordsBytes o) whole rest)
 
-    whole-size : length (containerBytes whole) ≡ end - place
+    whole-size : length (containerBytes o whole) ≡ end - place
     unfolding whole
-    whole-size = omega (arith, container-size whole, size, k .room)
+    whole-size = omega (arith, container-size o whole, size, k .room)
 
-    pub container-laid : Laid out (written (ok next) out place (closingBytes word place end)) place end
-        (containerBytes (record { kind = word; body = k .read }))
+    pub container-laid : Laid out (written (ok next) out place (closingBytes o word place end)) place end
+        (containerBytes o (record { kind = word; body = k .read }))
     unfolding eight new whole
     container-laid =
         let rest : List ℕ = drop end out in
-        let all : List ℕ = containerBytes whole in
+        let all : List ℕ = containerBytes o whole in
         let last : place + (end - place) ≡ end = omega (arith, k .room) in
         record {
           before = eight-laid .before;
@@ -131,18 +131,18 @@ module _ (head : Unit {0} → ℕ → ℕ) (late : Unit {0} → ℕ → ℕ → 
         }
 
     -- So a closing that has checked all this leaves a closed container.
-    closes : Closed reader c out (written (ok next) out place (closingBytes word place end)) place end next word
+    closes : Closed o reader c out (written (ok next) out place (closingBytes o word place end)) place end next word
     unfolding eight new whole
     closes =
-        let all : List ℕ = containerBytes whole in
+        let all : List ℕ = containerBytes o whole in
         record {
           records = k .read;
           contents = k .contents;
           ends = sym (k .is);
           reads = same-box tt place (take (end - place) (drop place new))
-              ∙ ap (λ (x : List ℕ). box head late c .read tt place (take (end - place) x)) new-from
-              ∙ ap (box head late c .read tt place) (take-at all (drop end out) (end - place) whole-size ∙ sym (append-nil all))
-              ∙ box head late c .complete tt place whole [] container-ok;
+              ∙ ap (λ (x : List ℕ). box o head late c .read tt place (take (end - place) x)) new-from
+              ∙ ap (box o head late c .read tt place) (take-at all (drop end out) (end - place) whole-size ∙ sym (append-nil all))
+              ∙ box o head late c .complete tt place whole [] container-ok;
           stands = container-laid;
           contents-stay = ap (λ (m : ℕ). drop (place + m) new) (sym eight-size)
               ∙ eight-laid .behind
@@ -174,9 +174,9 @@ contents-bytes : (out : List ℕ) (place end : ℕ) → Bytes out → Bytes (con
 contents-bytes out place end h = Bytes-part (end - (place + 8)) (place + 8) out h
 
 -- A configuration.
-module _ (out : List ℕ) (place end : ℕ) where
-  pub configuration-checked : (next : ℕ) → configurationClosed out place end ≡ ok next
-      → Checked configurationHead configurationLate entry out place end next configurationWord
+module _ (o : Order) (out : List ℕ) (place end : ℕ) where
+  pub configuration-checked : (next : ℕ) → configurationClosed o out place end ≡ ok next
+      → Checked o configurationHead configurationLate entry out place end next configurationWord
   unfolding configurationClosed
   configuration-checked next e =
       let (room, q) = within-ok (length out) place end _ next e in
@@ -184,33 +184,33 @@ module _ (out : List ℕ) (place end : ℕ) where
       record { room = room; fits = omega arith; head-ok = refl; late-ok = refl; read = rs; contents = read; is = is }
 
   -- And what a closing asks is no more.
-  pub configuration-grants : Checked configurationHead configurationLate entry out place end end configurationWord
-      → configurationClosed out place end ≡ ok end
+  pub configuration-grants : Checked o configurationHead configurationLate entry out place end end configurationWord
+      → configurationClosed o out place end ≡ ok end
   unfolding configurationClosed
   configuration-grants k = within-grants (length out) place end _ (k .room) ∙ ap (ended end) (k .contents)
 
-  pub configuration-closes : (next : ℕ) → Bytes out → configurationClosed out place end ≡ ok next
-      → Closed readConfiguration entry out (configurationOutput out place end) place end next configurationWord
+  pub configuration-closes : (next : ℕ) → Bytes out → configurationClosed o out place end ≡ ok next
+      → Closed o (readConfiguration o) entry out (configurationOutput o out place end) place end next configurationWord
   unfolding readConfiguration configurationOutput
   configuration-closes next h e =
-      rw e (closes configurationHead configurationLate entry out place end next configurationWord
+      rw e (closes o configurationHead configurationLate entry out place end next configurationWord
       (configuration-checked next e) (contents-bytes out place end h))
 
   -- A refusal leaves the output as it was.
-  pub configuration-refused : (c p : ℕ) → configurationClosed out place end ≡ bad c p → configurationOutput out place end ≡ out
+  pub configuration-refused : (c p : ℕ) → configurationClosed o out place end ≡ bad c p → configurationOutput o out place end ≡ out
   unfolding configurationOutput
-  configuration-refused c p e = refusal-keeps (configurationClosed out place end) out (closingBytes configurationWord place end) place c p e
+  configuration-refused c p e = refusal-keeps (configurationClosed o out place end) out (closingBytes o configurationWord place end) place c p e
 
 -- An event.
-module _ (out : List ℕ) (place end class category type : ℕ) where
+module _ (o : Order) (out : List ℕ) (place end class category type : ℕ) where
   -- The closing's answer, and the event's first word.
   abbrev closedEvent : Res ℕ
-  closedEvent = eventClosed out place end class category type
+  closedEvent = eventClosed o out place end class category type
 
   abbrev firstWord : ℕ
   firstWord = eventWord class category type
 
-  pub event-checked : (next : ℕ) → closedEvent ≡ ok next → Checked eventHead eventLate (event none) out place end next firstWord
+  pub event-checked : (next : ℕ) → closedEvent ≡ ok next → Checked o eventHead eventLate (event none) out place end next firstWord
   unfolding eventClosed
   event-checked next e =
       let (room, q) = within-ok (length out) place end _ next e in
@@ -233,21 +233,21 @@ module _ (out : List ℕ) (place end class category type : ℕ) where
   event-faultless next e = need-ok (eventFault class category type) place _ (within-ok (length out) place end _ next e .1) .0
 
   -- And what a closing asks is no more than that and a class, category and type without fault.
-  pub event-grants : eventFault class category type ≡ 0 → Checked eventHead eventLate (event none) out place end end firstWord
+  pub event-grants : eventFault class category type ≡ 0 → Checked o eventHead eventLate (event none) out place end end firstWord
       → closedEvent ≡ ok end
   unfolding eventClosed
   event-grants fault k =
       let some : place + 9 ≤ end = omega (arith, most-passed 1 (end - (place + 8)) 8 (k .late-ok)) in
       within-grants (length out) place end _ (k .room) ∙ rw (fault, most-passes 9 some) (ap (ended end) (k .contents))
 
-  pub event-closes : (next : ℕ) → Bytes out → eventClosed out place end class category type ≡ ok next
-      → Closed readEvent (event none) out (eventOutput out place end class category type) place end next (eventWord class category type)
+  pub event-closes : (next : ℕ) → Bytes out → eventClosed o out place end class category type ≡ ok next
+      → Closed o (readEvent o) (event none) out (eventOutput o out place end class category type) place end next (eventWord class category type)
   unfolding readEvent eventOutput
   event-closes next h e =
-      rw e (closes eventHead eventLate (event none) out place end next firstWord (event-checked next e) (contents-bytes out place end h))
+      rw e (closes o eventHead eventLate (event none) out place end next firstWord (event-checked next e) (contents-bytes out place end h))
 
   -- A refusal leaves the output as it was.
-  pub event-refused : (c p : ℕ) → eventClosed out place end class category type ≡ bad c p
-      → eventOutput out place end class category type ≡ out
+  pub event-refused : (c p : ℕ) → eventClosed o out place end class category type ≡ bad c p
+      → eventOutput o out place end class category type ≡ out
   unfolding eventOutput
-  event-refused c p e = refusal-keeps closedEvent out (closingBytes firstWord place end) place c p e
+  event-refused c p e = refusal-keeps closedEvent out (closingBytes o firstWord place end) place c p e

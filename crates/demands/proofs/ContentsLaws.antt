@@ -7,6 +7,7 @@ use mathlib.Core.List.{List, _++_}
 use Prim.Native.Nat.{ℕ, _+_}
 use native.Mathlib.Omega.{arith}
 use lib.ListN.{length}
+use Rattle.theory.specs.declared.Order.{Order}
 use Rattle.theory.specs.Words.{Bytes}
 use Rattle.theory.specs.Tests.{ok, bad}
 use Rattle.theory.proofs.Items.{steps, seq-refused, seq-refuses}
@@ -19,58 +20,58 @@ use Rattle.demands.specs.Contents.{ContentsFault}
 use Rattle.demands.proofs.Bundles.{recordItem, records, same-record, same-records, records-valid, records-ok}
 use Rattle.demands.proofs.FaultLaws.{record-fault-here, steps-past}
 
-module _ (c : Context) (at : ℕ) (bs : List ℕ) (h : Bytes bs) where
-  pub contents-read : (rs : List Record) → (readRecords c at bs ≡ ok rs) ↔ ((bs ≡ recordsBytes rs) × ValidRecords c rs)
+module _ (o : Order) (c : Context) (at : ℕ) (bs : List ℕ) (h : Bytes bs) where
+  pub contents-read : (rs : List Record) → (readRecords o c at bs ≡ ok rs) ↔ ((bs ≡ recordsBytes o rs) × ValidRecords o c rs)
   contents-read rs = (
     λ e.
-        let (is, valid) = records .sound c at bs rs h (sym (same-records c at bs) ∙ e) in
-        (is, records-valid c rs valid),
+        let (is, valid) = records o .sound c at bs rs h (sym (same-records o c at bs) ∙ e) in
+        (is, records-valid o c rs valid),
     λ p.
-        same-records c at bs
-        ∙ subst (λ (x : List ℕ). records .read c at x ≡ ok rs) (sym (p .0)) (records .complete c at rs (records-ok c rs (p .1))),
+        same-records o c at bs
+        ∙ subst (λ (x : List ℕ). records o .read c at x ≡ ok rs) (sym (p .0)) (records o .complete c at rs (records-ok o c rs (p .1))),
   )
 
-  pub contents-refused : (n p : ℕ) → (readRecords c at bs ≡ bad n p) ↔ ContentsFault c at bs n p
+  pub contents-refused : (n p : ℕ) → (readRecords o c at bs ≡ bad n p) ↔ ContentsFault o c at bs n p
   contents-refused n p = (there, back)
     where
-      there : readRecords c at bs ≡ bad n p → ContentsFault c at bs n p
+      there : readRecords o c at bs ≡ bad n p → ContentsFault o c at bs n p
       there e =
-          let (xs, rest, is, os, left, q) = seq-refused recordItem (length bs) c at bs n p (omega arith) h (sym (same-records c at bs) ∙ e) in
-          let passed : Context = steps recordItem c xs in
-          let here : p ≡ at + length (recordsBytes xs) = record-fault-here passed (at + length (recordsBytes xs)) rest n p q in
+          let (xs, rest, is, os, left, q) = seq-refused (recordItem o) (length bs) c at bs n p (omega arith) h (sym (same-records o c at bs) ∙ e) in
+          let passed : Context = steps (recordItem o) c xs in
+          let here : p ≡ at + length (recordsBytes o xs) = record-fault-here o passed (at + length (recordsBytes o xs)) rest n p q in
           record {
             before = xs;
             part = rest;
-            valid = records-valid c xs os;
+            valid = records-valid o c xs os;
             left = left;
             splits = is;
             place = here;
-            fault = ap (λ (x : Context). readRecord x p rest) (sym (steps-past c xs))
-                ∙ same-record passed p rest
-                ∙ ap (λ (m : ℕ). recordItem .read passed m rest) here
+            fault = ap (λ (x : Context). readRecord o x p rest) (sym (steps-past o c xs))
+                ∙ same-record o passed p rest
+                ∙ ap (λ (m : ℕ). recordItem o .read passed m rest) here
                 ∙ q;
           }
 
-      back : ContentsFault c at bs n p → readRecords c at bs ≡ bad n p
+      back : ContentsFault o c at bs n p → readRecords o c at bs ≡ bad n p
       back f =
           let xs : List Record = f .before in
-          let passed : Context = steps recordItem c xs in
-          let there : recordItem .read passed (at + length (recordsBytes xs)) (f .part) ≡ bad n p =
-          ap (λ (m : ℕ). recordItem .read passed m (f .part)) (sym (f .place))
-          ∙ sym (same-record passed p (f .part))
-          ∙ ap (λ (x : Context). readRecord x p (f .part)) (steps-past c xs)
+          let passed : Context = steps (recordItem o) c xs in
+          let there : recordItem o .read passed (at + length (recordsBytes o xs)) (f .part) ≡ bad n p =
+          ap (λ (m : ℕ). recordItem o .read passed m (f .part)) (sym (f .place))
+          ∙ sym (same-record o passed p (f .part))
+          ∙ ap (λ (x : Context). readRecord o x p (f .part)) (steps-past o c xs)
           ∙ f .fault in
-          same-records c at bs
-          ∙ subst (λ (x : List ℕ). records .read c at x ≡ bad n p) (sym (f .splits))
-          (seq-refuses recordItem (length (recordsBytes xs ++ f .part)) c at xs (f .part) n p (omega arith)
-          (records-ok c xs (f .valid)) (f .left) there)
+          same-records o c at bs
+          ∙ subst (λ (x : List ℕ). records o .read c at x ≡ bad n p) (sym (f .splits))
+          (seq-refuses (recordItem o) (length (recordsBytes o xs ++ f .part)) c at xs (f .part) n p (omega arith)
+          (records-ok o c xs (f .valid)) (f .left) there)
 
 -- A container at fault itself is refused so by its reader.
-pub event-itself : (part : List ℕ) (c p : ℕ) → Itself eventHead eventLate part c p → readEvent tt p part ≡ bad c p
+pub event-itself : (o : Order) (part : List ℕ) (c p : ℕ) → Itself o eventHead eventLate part c p → readEvent o tt p part ≡ bad c p
 unfolding readEvent
-event-itself part c p own = own (λ s at bs. readRecords (event none) (at + 8) bs)
+event-itself o part c p own = own (λ s at bs. readRecords o (event none) (at + 8) bs)
 
-pub configuration-itself : (part : List ℕ) (c p : ℕ) → Itself configurationHead configurationLate part c p
-    → readConfiguration tt p part ≡ bad c p
+pub configuration-itself : (o : Order) (part : List ℕ) (c p : ℕ) → Itself o configurationHead configurationLate part c p
+    → readConfiguration o tt p part ≡ bad c p
 unfolding readConfiguration
-configuration-itself part c p own = own (λ s at bs. readRecords entry (at + 8) bs)
+configuration-itself o part c p own = own (λ s at bs. readRecords o entry (at + 8) bs)

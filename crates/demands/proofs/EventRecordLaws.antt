@@ -8,6 +8,7 @@ use mathlib.Core.List.{List, [], _∷_}
 use native.Mathlib.Omega.{arith}
 use lib.Dec.{eqb}
 use borrow.Author.Tests.{eqb-true, eqb-false, eq-eqb}
+use Rattle.theory.specs.declared.Order.{Order}
 use Rattle.note.specs.EventKinds.{IsEntryKind, IsRecordKind, occurs, MayFollow, StartsWith, EventKinds}
 use Rattle.note.specs.Records.{Record, Context, entry, event, alone, none, isKind, isAllowed, behind}
 use Rattle.note.proofs.PlaceLaws.{seenOf, one-more-seen, entry-kinds-exact, record-kinds-exact, all-kinds-exact, place-exact}
@@ -17,9 +18,9 @@ use Rattle.demands.specs.EventRecords.{kindsOf, EachValid, EventRecords,
 -- ---- one record
 
 -- A record that is valid in a context is valid alone; and alone it needs only the context's two tests.
-by-itself : (c : Context) (r : Record) → IsEntryKind (r .kind) ⊎ IsRecordKind (r .kind) → ValidRecord c r → ValidRecord alone r
+by-itself : (o : Order) (c : Context) (r : Record) → IsEntryKind (r .kind) ⊎ IsRecordKind (r .kind) → ValidRecord o c r → ValidRecord o alone r
 unfolding isAllowed
-by-itself c r k v = record {
+by-itself o c r k v = record {
   kind-allowed = all-kinds-exact (r .kind) .1 k;
   place-allowed = refl;
   kind-fits = v .kind-fits;
@@ -28,8 +29,9 @@ by-itself c r k v = record {
   body-rule = v .body-rule;
 }
 
-in-context : (c : Context) (r : Record) → isKind c (r .kind) ≡ true → isAllowed c (r .kind) ≡ true → ValidRecord alone r → ValidRecord c r
-in-context c r k p v = record {
+in-context : (o : Order) (c : Context) (r : Record) → isKind c (r .kind) ≡ true → isAllowed c (r .kind) ≡ true → ValidRecord o alone r
+    → ValidRecord o c r
+in-context o c r k p v = record {
   kind-allowed = k;
   place-allowed = p;
   kind-fits = v .kind-fits;
@@ -40,13 +42,13 @@ in-context c r k p v = record {
 
 -- ---- entries
 
-pub configuration-entries-exact : (rs : List Record) → ValidRecords entry rs ↔ ConfigurationEntries rs
+pub configuration-entries-exact : (o : Order) (rs : List Record) → ValidRecords o entry rs ↔ ConfigurationEntries o rs
 unfolding isAllowed behind
-configuration-entries-exact [] = (λ v. tt, λ v. tt)
-configuration-entries-exact (r ∷ rs) =
-    let rest = configuration-entries-exact rs in (
-      λ v. let k = entry-kinds-exact (r .kind) .0 (v .0 .kind-allowed) in ((k, by-itself entry r (inl k) (v .0)), rest .0 (v .1)),
-      λ v. (in-context entry r (entry-kinds-exact (r .kind) .1 (v .0 .0)) refl (v .0 .1), rest .1 (v .1)),
+configuration-entries-exact o [] = (λ v. tt, λ v. tt)
+configuration-entries-exact o (r ∷ rs) =
+    let rest = configuration-entries-exact o rs in (
+      λ v. let k = entry-kinds-exact (r .kind) .0 (v .0 .kind-allowed) in ((k, by-itself o entry r (inl k) (v .0)), rest .0 (v .1)),
+      λ v. (in-context o entry r (entry-kinds-exact (r .kind) .1 (v .0 .0)) refl (v .0 .1), rest .1 (v .1)),
     )
 
 -- ---- records
@@ -56,21 +58,21 @@ abbrev Follow : List ℕ → List ℕ → Type 0
 Follow before [] = Unit {0}
 Follow before (k ∷ ks) = MayFollow before k × Follow (k ∷ before) ks
 
-follow-valid : (before : List ℕ) (rs : List Record)
-    → ValidRecords (event (seenOf before)) rs ↔ (Follow before (kindsOf rs) × EachValid IsRecordKind rs)
+follow-valid : (o : Order) (before : List ℕ) (rs : List Record)
+    → ValidRecords o (event (seenOf before)) rs ↔ (Follow before (kindsOf rs) × EachValid o IsRecordKind rs)
 unfolding behind
-follow-valid before [] = (λ v. (tt, tt), λ v. tt)
-follow-valid before (r ∷ rs) =
+follow-valid o before [] = (λ v. (tt, tt), λ v. tt)
+follow-valid o before (r ∷ rs) =
     let c : Context = event (seenOf before) in
-    let rest : ValidRecords (behind c (r .kind)) rs ↔ (Follow (r .kind ∷ before) (kindsOf rs) × EachValid IsRecordKind rs) =
-    rw (one-more-seen before (r .kind)) (follow-valid (r .kind ∷ before) rs) in (
+    let rest : ValidRecords o (behind c (r .kind)) rs ↔ (Follow (r .kind ∷ before) (kindsOf rs) × EachValid o IsRecordKind rs) =
+    rw (one-more-seen before (r .kind)) (follow-valid o (r .kind ∷ before) rs) in (
       λ v.
           let k = record-kinds-exact (seenOf before) (r .kind) .0 (v .0 .kind-allowed) in
           let (f, e) = rest .0 (v .1) in
-          ((place-exact before (r .kind) k .0 (v .0 .place-allowed), f), ((k, by-itself c r (inr k) (v .0)), e)),
+          ((place-exact before (r .kind) k .0 (v .0 .place-allowed), f), ((k, by-itself o c r (inr k) (v .0)), e)),
       λ h.
           let ((m, f), ((k, v), e)) = h in
-          (in-context c r (record-kinds-exact (seenOf before) (r .kind) .1 k) (place-exact before (r .kind) k .1 m) v, rest .1 (f, e)),
+          (in-context o c r (record-kinds-exact (seenOf before) (r .kind) .1 k) (place-exact before (r .kind) k .1 m) v, rest .1 (f, e)),
     )
 
 -- How often k occurs with one number more.
@@ -136,9 +138,9 @@ follow-exact ks = (
 )
 
 -- "The first record is administrative (house). Every kind but trace occurs at most once in an event (house)": no more, and no less.
-pub event-records-exact : (rs : List Record) → ValidRecords (event none) rs ↔ EventRecords rs
-event-records-exact rs =
-    let v = follow-valid [] rs in
+pub event-records-exact : (o : Order) (rs : List Record) → ValidRecords o (event none) rs ↔ EventRecords o rs
+event-records-exact o rs =
+    let v = follow-valid o [] rs in
     let k = follow-exact (kindsOf rs) in (
       λ h. let (f, e) = v .0 h in record { kinds = k .0 f; each = e },
       λ r. v .1 (k .1 (r .kinds), r .each),

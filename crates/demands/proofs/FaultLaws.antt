@@ -11,6 +11,7 @@ use lib.ListN.{length, take, drop, length-append, length-drop, take-append-drop}
 use lib.Seq.{length-take-le}
 use lib.Dec.{leb}
 use borrow.Author.Tests.{lt-leb, leb-true, leb-false}
+use Rattle.theory.specs.declared.Order.{Order}
 use Rattle.theory.specs.Words.{Bytes, wordAt, put, puts, bytes, Fits}
 use Rattle.theory.specs.Tests.{Res, ok, bad, need, bind, unless}
 use Rattle.theory.proofs.WordLaws.{Bytes-part, Bytes-right, length-put, word-fits}
@@ -18,10 +19,10 @@ use Rattle.theory.proofs.TestLaws.{ok-bad, bad-inj, need-pass, equal-passed, mo
 use Rattle.theory.proofs.Items.{steps, seq-refused, seq-refuses}
 use Rattle.theory.proofs.StructureLaws.{BodyFault, refused, structure-past, restore-two, inside, pair, pair-refused, pair-refuses, words-refused}
 use Rattle.note.specs.Limits.{fileLimit}
-use Rattle.note.specs.Words.{order, words}
+use Rattle.note.specs.Words.{words}
 use Rattle.note.specs.Records.{Record, Context, entry, event, none, recordHead, recordLate, recordRule, recordStep, recordsBytes, readRecord}
 use Rattle.note.specs.Events.{Container, containerBytes, eventsBytes, eventMark, eventWordRule, eventHead, eventLate}
-use Rattle.note.specs.Files.{File, configurationWord, configurationHead, configurationLate, headerBytes, fileMark, versionRule}
+use Rattle.note.specs.Files.{Parts, File, orderOf, orderIn, configurationWord, configurationHead, configurationLate, headerBytes, fileMark, versionRule}
 use Rattle.note.specs.Files.{versionOf, configurationOf, eventsOf, fileBytes, readHeader, readParts, readFile}
 use Rattle.demands.specs.Valid.{ValidRecords, Valid}
 use Rattle.demands.specs.FirstFault.{Cut, ValidHeader, front, past, Itself}
@@ -29,15 +30,15 @@ use Rattle.demands.specs.Refusals.{Refusal, too-long, within-limit}
 use Rattle.demands.specs.FirstFault.{FirstFault, at-header, at-configuration, at-entry, at-event, at-record}
 use Rattle.demands.proofs.Bundles.{recordBody, recordItem, records, box, configurationItem, eventItem, events, headerItem, parts}
 use Rattle.demands.proofs.Bundles.{same-record, same-parts, records-valid, records-ok}
-use Rattle.demands.proofs.Follows.{parts-valid, parts-ok, within as accepted-within, read-within}
+use Rattle.demands.proofs.Follows.{parts-valid, parts-ok, order-admitted, order-shown, accepted-means, read-within}
 
 -- A record's refusal is at its first byte.
-pub record-fault-here : (c : Context) (at : ℕ) (bs : List ℕ) (k p : ℕ) → recordItem .read c at bs ≡ bad k p → p ≡ at
-record-fault-here c at bs k p e = elim (refused order recordHead recordLate (recordBody .read) c at bs k p e) [
-  | inl o ↦ o .place
+pub record-fault-here : (o : Order) (c : Context) (at : ℕ) (bs : List ℕ) (k p : ℕ) → recordItem o .read c at bs ≡ bad k p → p ≡ at
+record-fault-here o c at bs k p e = elim (refused o recordHead recordLate (recordBody o .read) c at bs k p e) [
+  | inl own ↦ own .place
   | inr b ↦
-      let body : List ℕ = take (wordAt order 4 4 bs) (drop 8 bs) in
-      inner (recordRule (wordAt order 4 0 bs) body) body (b .body-is)
+      let body : List ℕ = take (wordAt o 4 4 bs) (drop 8 bs) in
+      inner (recordRule o (wordAt o 4 0 bs) body) body (b .body-is)
 ]
   where
     inner : (f : ℕ) (b : List ℕ) → need f at (ok b) ≡ bad k p → p ≡ at
@@ -45,100 +46,100 @@ record-fault-here c at bs k p e = elim (refused order recordHead recordLate (rec
     inner (suc f) b q = cc
 
 -- The context behind records that were read is the definition's.
-pub steps-past : (c : Context) (rs : List Record) → steps recordItem c rs ≡ past c rs
-steps-past c [] = refl
-steps-past c (r ∷ rs) = steps-past (recordStep c r) rs
+pub steps-past : (o : Order) (c : Context) (rs : List Record) → steps (recordItem o) c rs ≡ past c rs
+steps-past o c [] = refl
+steps-past o c (r ∷ rs) = steps-past o (recordStep c r) rs
 
 -- The two words in front of a container's contents are eight bytes.
-pub length-front : (w n : ℕ) → length (front w n) ≡ 8
-length-front w n = omega (arith, length-append (put order 4 w) (put order 4 n), length-put order 4 w, length-put order 4 n)
+pub length-front : (o : Order) (w n : ℕ) → length (front o w n) ≡ 8
+length-front o w n = omega (arith, length-append (put o 4 w) (put o 4 n), length-put o 4 w, length-put o 4 n)
 
-pub front-bytes : (w n : ℕ) → front w n ≡ words (w ∷ n ∷ [])
-unfolding puts put bytes
-front-bytes w n = refl
+pub front-bytes : (o : Order) (w n : ℕ) → front o w n ≡ words o (w ∷ n ∷ [])
+unfolding puts
+front-bytes o w n = ap (λ (r : List ℕ). put o 4 w ++ r) (sym (append-nil (put o 4 n)))
 
 -- A container of records that is refused: itself, or at one of its records, those before it being valid.
-module _ (head : Unit {0} → ℕ → ℕ) (late : Unit {0} → ℕ → ℕ → ℕ) (start : Context) where
+module _ (o : Order) (head : Unit {0} → ℕ → ℕ) (late : Unit {0} → ℕ → ℕ → ℕ) (start : Context) where
   pub record Within (at : ℕ) (bs : List ℕ) (c p : ℕ) : Type 0 where
     pub word : ℕ
     pub before : List Record
     pub part : List ℕ
     pub beyond : List ℕ
     pub word-fits : Fits 4 word
-    pub length-fits : Fits 4 (length (recordsBytes before ++ part))
+    pub length-fits : Fits 4 (length (recordsBytes o before ++ part))
     pub head-ok : head tt word ≡ 0
-    pub late-ok : late tt word (length (recordsBytes before ++ part)) ≡ 0
-    pub valid : ValidRecords start before
+    pub late-ok : late tt word (length (recordsBytes o before ++ part)) ≡ 0
+    pub valid : ValidRecords o start before
     pub left : 1 ≤ length part
-    pub splits : bs ≡ (front word (length (recordsBytes before ++ part)) ++ recordsBytes before) ++ (part ++ beyond)
-    pub place : p ≡ at + (8 + length (recordsBytes before))
-    pub fault : readRecord (past start before) p part ≡ bad c p
+    pub splits : bs ≡ (front o word (length (recordsBytes o before ++ part)) ++ recordsBytes o before) ++ (part ++ beyond)
+    pub place : p ≡ at + (8 + length (recordsBytes o before))
+    pub fault : readRecord o (past start before) p part ≡ bad c p
 
   -- The two ways.
   abbrev pub ContainerFault : ℕ → List ℕ → ℕ → ℕ → Type 0
-  ContainerFault at bs c p = ((p ≡ at) × Itself head late bs c at) ⊎ Within at bs c p
+  ContainerFault at bs c p = ((p ≡ at) × Itself o head late bs c at) ⊎ Within at bs c p
 
   module _ (at : ℕ) (bs : List ℕ) (c p : ℕ) (h : Bytes bs) where
     -- A fault in the contents is at a record.
-    within : BodyFault order head late (inside (λ s. start) records .read) tt at bs c p → Within at bs c p
+    within : BodyFault o head late (inside (λ s. start) (records o) .read) tt at bs c p → Within at bs c p
     within b =
-        let k : ℕ = wordAt order 4 0 bs in
-        let n : ℕ = wordAt order 4 4 bs in
+        let k : ℕ = wordAt o 4 0 bs in
+        let n : ℕ = wordAt o 4 4 bs in
         let content : List ℕ = take n (drop 8 bs) in
         let beyond : List ℕ = drop n (drop 8 bs) in
         let fits : 8 + n ≤ length bs = b .fits in
         let size : length content ≡ n = length-take-le n (drop 8 bs) (omega (arith, length-drop 8 bs)) in
         let bytes : Bytes content = Bytes-part n 8 bs h in
-        let (xs, rest, es, os, left, q) = seq-refused recordItem (length content) start (at + 8) content c p (omega arith) bytes (b .body-is) in
-        let passed : Context = steps recordItem start xs in
-        let here : p ≡ at + 8 + length (recordsBytes xs) = record-fault-here passed (at + 8 + length (recordsBytes xs)) rest c p q in
-        let filled : n ≡ length (recordsBytes xs ++ rest) = sym size ∙ ap length es in
-        let behind : drop 8 bs ≡ recordsBytes xs ++ (rest ++ beyond) =
-        sym (take-append-drop n (drop 8 bs)) ∙ ap (λ (r : List ℕ). r ++ beyond) es ∙ append-assoc (recordsBytes xs) rest beyond in
+        let (xs, rest, es, os, left, q) = seq-refused (recordItem o) (length content) start (at + 8) content c p (omega arith) bytes (b .body-is) in
+        let passed : Context = steps (recordItem o) start xs in
+        let here : p ≡ at + 8 + length (recordsBytes o xs) = record-fault-here o passed (at + 8 + length (recordsBytes o xs)) rest c p q in
+        let filled : n ≡ length (recordsBytes o xs ++ rest) = sym size ∙ ap length es in
+        let behind : drop 8 bs ≡ recordsBytes o xs ++ (rest ++ beyond) =
+        sym (take-append-drop n (drop 8 bs)) ∙ ap (λ (r : List ℕ). r ++ beyond) es ∙ append-assoc (recordsBytes o xs) rest beyond in
         record {
           word = k;
           before = xs;
           part = rest;
           beyond = beyond;
-          word-fits = word-fits order 4 0 bs h (omega arith);
-          length-fits = subst (Fits 4) filled (word-fits order 4 4 bs h (omega arith));
+          word-fits = word-fits o 4 0 bs h (omega arith);
+          length-fits = subst (Fits 4) filled (word-fits o 4 4 bs h (omega arith));
           head-ok = b .head-ok;
           late-ok = subst (λ (m : ℕ). late tt k m ≡ 0) filled (b .late-ok);
-          valid = records-valid start xs os;
+          valid = records-valid o start xs os;
           left = left;
-          splits = sym (restore-two order bs h (omega arith))
-              ∙ ap₂ (λ (m : ℕ) (r : List ℕ). put order 4 k ++ (put order 4 m ++ r)) filled behind
+          splits = sym (restore-two o bs h (omega arith))
+              ∙ ap₂ (λ (m : ℕ) (r : List ℕ). put o 4 k ++ (put o 4 m ++ r)) filled behind
               ∙ simp append-assoc;
           place = omega arith;
-          fault = ap (λ (x : Context). readRecord x p rest) (sym (steps-past start xs))
-              ∙ same-record passed p rest
-              ∙ ap (λ (m : ℕ). recordItem .read passed m rest) here
+          fault = ap (λ (x : Context). readRecord o x p rest) (sym (steps-past o start xs))
+              ∙ same-record o passed p rest
+              ∙ ap (λ (m : ℕ). recordItem o .read passed m rest) here
               ∙ q;
         }
 
     -- A container that is refused has its fault in one of the two ways.
-    pub container-refused : box head late start .read tt at bs ≡ bad c p → ContainerFault at bs c p
-    container-refused e = elim (refused order head late (inside (λ s. start) records .read) tt at bs c p e) [
-      | inl o ↦ inl (o .place, λ contents. o .whatever contents ∙ ap (λ (m : ℕ). bad c m) (o .place))
+    pub container-refused : box o head late start .read tt at bs ≡ bad c p → ContainerFault at bs c p
+    container-refused e = elim (refused o head late (inside (λ s. start) (records o) .read) tt at bs c p e) [
+      | inl own ↦ inl (own .place, λ contents. own .whatever contents ∙ ap (λ (m : ℕ). bad c m) (own .place))
       | inr b ↦ inr (within b)
     ]
 
   -- And each of the two refuses the container.
-  pub container-refuses : (at : ℕ) (bs : List ℕ) (c p : ℕ) → ContainerFault at bs c p → box head late start .read tt at bs ≡ bad c p
-  container-refuses at bs c p (inl (here, own)) = own (inside (λ s. start) records .read) ∙ ap (λ (m : ℕ). bad c m) (sym here)
+  pub container-refuses : (at : ℕ) (bs : List ℕ) (c p : ℕ) → ContainerFault at bs c p → box o head late start .read tt at bs ≡ bad c p
+  container-refuses at bs c p (inl (here, own)) = own (inside (λ s. start) (records o) .read) ∙ ap (λ (m : ℕ). bad c m) (sym here)
   container-refuses at bs c p (inr w) =
       let xs : List Record = w .before in
-      let content : List ℕ = recordsBytes xs ++ w .part in
-      let shape : bs ≡ put order 4 (w .word) ++ (put order 4 (length content) ++ (content ++ w .beyond)) = w .splits ∙ simp append-assoc in
-      let there : at + 8 + length (recordsBytes xs) ≡ p = omega (arith, w .place) in
-      let fault : recordItem .read (steps recordItem start xs) (at + 8 + length (recordsBytes xs)) (w .part) ≡ bad c p =
-      ap₂ (λ (x : Context) (m : ℕ). recordItem .read x m (w .part)) (steps-past start xs) there
-      ∙ sym (same-record (past start xs) p (w .part))
+      let content : List ℕ = recordsBytes o xs ++ w .part in
+      let shape : bs ≡ put o 4 (w .word) ++ (put o 4 (length content) ++ (content ++ w .beyond)) = w .splits ∙ simp append-assoc in
+      let there : at + 8 + length (recordsBytes o xs) ≡ p = omega (arith, w .place) in
+      let fault : recordItem o .read (steps (recordItem o) start xs) (at + 8 + length (recordsBytes o xs)) (w .part) ≡ bad c p =
+      ap₂ (λ (x : Context) (m : ℕ). recordItem o .read x m (w .part)) (steps-past o start xs) there
+      ∙ sym (same-record o (past start xs) p (w .part))
       ∙ w .fault in
-      let body : records .read start (at + 8) content ≡ bad c p =
-      seq-refuses recordItem (length content) start (at + 8) xs (w .part) c p (omega arith) (records-ok start xs (w .valid)) (w .left) fault in
-      ap (box head late start .read tt at) shape
-      ∙ structure-past order head late (inside (λ s. start) records .read) tt at (w .word) content (w .beyond)
+      let body : records o .read start (at + 8) content ≡ bad c p =
+      seq-refuses (recordItem o) (length content) start (at + 8) xs (w .part) c p (omega arith) (records-ok o start xs (w .valid)) (w .left) fault in
+      ap (box o head late start .read tt at) shape
+      ∙ structure-past o head late (inside (λ s. start) (records o) .read) tt at (w .word) content (w .beyond)
       (w .word-fits) (w .length-fits) (w .head-ok) (w .late-ok)
       ∙ ap (λ (r : Res (List Record)). bind r (λ b. ok (record { kind = w .word; body = b }))) body
 
@@ -146,16 +147,16 @@ module _ (head : Unit {0} → ℕ → ℕ) (late : Unit {0} → ℕ → ℕ → 
   module _ (bs X : List ℕ) (c p : ℕ) where
     -- The container's bytes up to the record at fault, and how many bytes lie before that record.
     abbrev opening : ℕ → List Record → List ℕ → List ℕ
-    opening w rs part = front w (length (recordsBytes rs ++ part)) ++ recordsBytes rs
+    opening w rs part = front o w (length (recordsBytes o rs ++ part)) ++ recordsBytes o rs
 
-    length-before : (w : ℕ) (rs : List Record) (part : List ℕ) → length (X ++ opening w rs part) ≡ length X + (8 + length (recordsBytes rs))
+    length-before : (w : ℕ) (rs : List Record) (part : List ℕ) → length (X ++ opening w rs part) ≡ length X + (8 + length (recordsBytes o rs))
     length-before w rs part =
-        let two : List ℕ = front w (length (recordsBytes rs ++ part)) in
+        let two : List ℕ = front o w (length (recordsBytes o rs ++ part)) in
         omega (
           arith,
-          length-append X (two ++ recordsBytes rs),
-          length-append two (recordsBytes rs),
-          length-front w (length (recordsBytes rs ++ part)),
+          length-append X (two ++ recordsBytes o rs),
+          length-append two (recordsBytes o rs),
+          length-front o w (length (recordsBytes o rs ++ part)),
         )
 
     within-cut : (rest : List ℕ) → bs ≡ X ++ rest → (w : Within (length X) rest c p)
@@ -168,8 +169,8 @@ module _ (head : Unit {0} → ℕ → ℕ) (late : Unit {0} → ℕ → ℕ → 
     }
 
     cut-within : (w : ℕ) (rs : List Record) (part beyond : List ℕ) → length bs ≤ fileLimit → Fits 4 w
-        → head tt w ≡ 0 → late tt w (length (recordsBytes rs ++ part)) ≡ 0 → ValidRecords start rs → 1 ≤ length part
-        → Cut bs (X ++ opening w rs part) part beyond p → readRecord (past start rs) p part ≡ bad c p
+        → head tt w ≡ 0 → late tt w (length (recordsBytes o rs ++ part)) ≡ 0 → ValidRecords o start rs → 1 ≤ length part
+        → Cut bs (X ++ opening w rs part) part beyond p → readRecord o (past start rs) p part ≡ bad c p
         → Within (length X) (opening w rs part ++ (part ++ beyond)) c p
     cut-within w rs part beyond l hw hh hl v left cut e =
         let size : length bs ≡ length (X ++ opening w rs part) + length (part ++ beyond) =
@@ -180,7 +181,7 @@ module _ (head : Unit {0} → ℕ → ℕ) (late : Unit {0} → ℕ → ℕ → 
           part = part;
           beyond = beyond;
           word-fits = hw;
-          length-fits = omega (arith, length-before w rs part, length-append part beyond, length-append (recordsBytes rs) part);
+          length-fits = omega (arith, length-before w rs part, length-append part beyond, length-append (recordsBytes o rs) part);
           head-ok = hh;
           late-ok = hl;
           valid = v;
@@ -192,20 +193,21 @@ module _ (head : Unit {0} → ℕ → ℕ) (late : Unit {0} → ℕ → ℕ → 
 
 -- ---- the file
 
-length-header : (v : ℕ) → length (headerBytes v) ≡ 8
-length-header v = sym (headerItem .sizes v)
+length-header : (o : Order) (v : ℕ) → length (headerBytes o v) ≡ 8
+length-header o v = sym (headerItem o .sizes v)
 
 -- What would be a file ends behind its last event.
-file-end : (f : File) → 8 + configurationItem .size (configurationOf f) + length (eventsBytes (eventsOf f)) ≡ length (fileBytes f)
+file-end : (f : File) → 8 + configurationItem (orderIn f) .size (configurationOf f) + length (eventsBytes (orderIn f) (eventsOf f))
+    ≡ length (fileBytes f)
 file-end f =
-    let C : List ℕ = containerBytes (configurationOf f) in
-    let E : List ℕ = eventsBytes (eventsOf f) in
+    let C : List ℕ = containerBytes (orderIn f) (configurationOf f) in
+    let E : List ℕ = eventsBytes (orderIn f) (eventsOf f) in
     omega (
       arith,
-      length-append (headerBytes (versionOf f)) (C ++ E),
+      length-append (headerBytes (orderIn f) (versionOf f)) (C ++ E),
       length-append C E,
-      length-header (versionOf f),
-      configurationItem .sizes (configurationOf f),
+      length-header (orderIn f) (versionOf f),
+      configurationItem (orderIn f) .sizes (configurationOf f),
     )
 
 -- The first word of an event that is admitted fits its word.
@@ -214,128 +216,149 @@ unfolding eventWordRule
 event-word-fits w e = let is : w / 65536 ≡ eventMark = equal-passed (w / 65536) eventMark 4 (first-at _ e 0) in omega arith
 
 -- Faults of the configuration behind a header, and of an event behind what would be a file.
-abbrev InConfiguration : ℕ → List ℕ → ℕ → ℕ → Type 0
-InConfiguration v rest c p = ContainerFault configurationHead configurationLate entry (length (headerBytes v)) rest c p
+abbrev InConfiguration : Order → ℕ → List ℕ → ℕ → ℕ → Type 0
+InConfiguration o v rest c p = ContainerFault o configurationHead configurationLate entry (length (headerBytes o v)) rest c p
 
-abbrev InEvent : File → List ℕ → ℕ → ℕ → Type 0
-InEvent f rest c p = ContainerFault eventHead eventLate (event none) (length (fileBytes f)) rest c p
+abbrev InEvent : Order → File → List ℕ → ℕ → ℕ → Type 0
+InEvent o f rest c p = ContainerFault o eventHead eventLate (event none) (length (fileBytes f)) rest c p
 
 module _ (bs : List ℕ) (c p : ℕ) where
   -- Each is a first fault of the file.
-  configuration-fault : (v : ℕ) (rest : List ℕ) → ValidHeader v → bs ≡ headerBytes v ++ rest → InConfiguration v rest c p → FirstFault bs c p
+  configuration-fault : (v : ℕ) (rest : List ℕ) → ValidHeader v → bs ≡ headerBytes (orderOf bs) v ++ rest → InConfiguration (orderOf bs) v rest c p
+      → FirstFault bs c p
   configuration-fault v rest hv is (inl (here, own)) =
       at-configuration v rest hv
-      (record { splits = is ∙ ap (λ (r : List ℕ). headerBytes v ++ r) (sym (append-nil rest)); place = here })
-      (subst (λ (m : ℕ). Itself configurationHead configurationLate rest c m) (sym here) own)
+      (record { splits = is ∙ ap (λ (r : List ℕ). headerBytes (orderOf bs) v ++ r) (sym (append-nil rest)); place = here })
+      (subst (λ (m : ℕ). Itself (orderOf bs) configurationHead configurationLate rest c m) (sym here) own)
   configuration-fault v rest hv is (inr w) =
       let rs : List Record = w .before in
-      let n : ℕ = length (recordsBytes rs ++ w .part) in
+      let n : ℕ = length (recordsBytes (orderOf bs) rs ++ w .part) in
       at-entry v rs (w .part) (w .beyond) hv (w .valid) (omega (arith, w .left))
-      (subst (λ (x : ℕ). Cut bs (headerBytes v ++ (front x n ++ recordsBytes rs)) (w .part) (w .beyond) p)
+      (subst (λ (x : ℕ). Cut bs (headerBytes (orderOf bs) v ++ (front (orderOf bs) x n ++ recordsBytes (orderOf bs) rs)) (w .part) (w .beyond) p)
       (equal-passed (w .word) configurationWord 4 (w .head-ok))
-      (within-cut configurationHead configurationLate entry bs (headerBytes v) c p rest is w))
+      (within-cut (orderOf bs) configurationHead configurationLate entry bs (headerBytes (orderOf bs) v) c p rest is w))
       (w .fault)
 
-  event-fault : (f : File) (rest : List ℕ) → Valid f → 1 ≤ length rest → bs ≡ fileBytes f ++ rest → InEvent f rest c p → FirstFault bs c p
+  event-fault : (f : File) (rest : List ℕ) → Valid f → 1 ≤ length rest → bs ≡ fileBytes f ++ rest → InEvent (orderIn f) f rest c p → FirstFault bs c p
   event-fault f rest v left is (inl (here, own)) =
       at-event f rest v (omega arith)
       (record { splits = is ∙ ap (λ (r : List ℕ). fileBytes f ++ r) (sym (append-nil rest)); place = here })
-      (subst (λ (m : ℕ). Itself eventHead eventLate rest c m) (sym here) own)
+      (subst (λ (m : ℕ). Itself (orderIn f) eventHead eventLate rest c m) (sym here) own)
   event-fault f rest v left is (inr w) =
       at-record f (w .word) (w .before) (w .part) (w .beyond) v (w .head-ok) (w .valid) (omega (arith, w .left))
-      (within-cut eventHead eventLate (event none) bs (fileBytes f) c p rest is w)
+      (within-cut (orderIn f) eventHead eventLate (event none) bs (fileBytes f) c p rest is w)
       (w .fault)
 
   -- Each refuses the file.
-  configuration-refuses : (v : ℕ) (rest : List ℕ) → ValidHeader v → bs ≡ headerBytes v ++ rest → InConfiguration v rest c p
-      → parts .read tt 0 bs ≡ bad c p
+  configuration-refuses : (v : ℕ) (rest : List ℕ) → ValidHeader v → bs ≡ headerBytes (orderOf bs) v ++ rest → InConfiguration (orderOf bs) v rest c p
+      → parts (orderOf bs) .read tt 0 bs ≡ bad c p
   configuration-refuses v rest hv is e =
-      let refuses : configurationItem .read tt 8 rest ≡ bad c p =
-      ap (λ (m : ℕ). configurationItem .read tt m rest) (sym (length-header v))
-      ∙ container-refuses configurationHead configurationLate entry (length (headerBytes v)) rest c p e in
-      pair-refuses headerItem (pair configurationItem events) tt 0 bs c p
-      (inr (v, rest, is, (hv .rule, hv .fits), pair-refuses configurationItem events tt 8 rest c p (inl refuses)))
+      let refuses : configurationItem (orderOf bs) .read tt 8 rest ≡ bad c p =
+      ap (λ (m : ℕ). configurationItem (orderOf bs) .read tt m rest) (sym (length-header (orderOf bs) v))
+      ∙ container-refuses (orderOf bs) configurationHead configurationLate entry (length (headerBytes (orderOf bs) v)) rest c p e in
+      pair-refuses (headerItem (orderOf bs)) (pair (configurationItem (orderOf bs)) (events (orderOf bs))) tt 0 bs c p
+      (inr (v, rest, is, (hv .rule, hv .fits), pair-refuses (configurationItem (orderOf bs)) (events (orderOf bs)) tt 8 rest c p (inl refuses)))
 
-  event-refuses : (f : File) (rest : List ℕ) → Valid f → 1 ≤ length rest → bs ≡ fileBytes f ++ rest → InEvent f rest c p
-      → parts .read tt 0 bs ≡ bad c p
+  event-refuses : (f : File) (rest : List ℕ) → Valid f → 1 ≤ length rest → bs ≡ fileBytes f ++ rest → InEvent (orderIn f) f rest c p
+      → parts (orderIn f) .read tt 0 bs ≡ bad c p
   event-refuses f rest v left is e =
-      let C : List ℕ = containerBytes (configurationOf f) in
-      let E : List ℕ = eventsBytes (eventsOf f) in
-      let at : ℕ = 8 + configurationItem .size (configurationOf f) in
-      let valid : parts .Ok tt f = parts-ok f v in
-      let refuses : eventItem .read tt (at + length E) rest ≡ bad c p =
-      ap (λ (m : ℕ). eventItem .read tt m rest) (file-end f)
-      ∙ container-refuses eventHead eventLate (event none) (length (fileBytes f)) rest c p e in
-      let behind : events .read tt at (E ++ rest) ≡ bad c p =
-      seq-refuses eventItem (length (E ++ rest)) tt at (eventsOf f) rest c p (omega arith) (valid .1 .1) left refuses in
-      let both : pair configurationItem events .read tt 8 (C ++ (E ++ rest)) ≡ bad c p =
-      pair-refuses configurationItem events tt 8 (C ++ (E ++ rest)) c p (inr (configurationOf f, E ++ rest, refl, valid .1 .0, behind)) in
-      pair-refuses headerItem (pair configurationItem events) tt 0 bs c p
+      let o : Order = orderIn f in
+      let C : List ℕ = containerBytes o (configurationOf f) in
+      let E : List ℕ = eventsBytes o (eventsOf f) in
+      let at : ℕ = 8 + configurationItem o .size (configurationOf f) in
+      let valid : parts o .Ok tt (f .1) = parts-ok f v in
+      let refuses : eventItem o .read tt (at + length E) rest ≡ bad c p =
+      ap (λ (m : ℕ). eventItem o .read tt m rest) (file-end f)
+      ∙ container-refuses o eventHead eventLate (event none) (length (fileBytes f)) rest c p e in
+      let behind : events o .read tt at (E ++ rest) ≡ bad c p =
+      seq-refuses (eventItem o) (length (E ++ rest)) tt at (eventsOf f) rest c p (omega arith) (valid .1 .1) left refuses in
+      let both : pair (configurationItem o) (events o) .read tt 8 (C ++ (E ++ rest)) ≡ bad c p =
+      pair-refuses (configurationItem o) (events o) tt 8 (C ++ (E ++ rest)) c p (inr (configurationOf f, E ++ rest, refl, valid .1 .0, behind)) in
+      pair-refuses (headerItem o) (pair (configurationItem o) (events o)) tt 0 bs c p
       (inr (versionOf f, C ++ (E ++ rest), is ∙ simp append-assoc, valid .0, both))
 
 -- A refusal within the limit names the first fault.
 pub first-fault : (bs : List ℕ) (c p : ℕ) → Bytes bs → length bs ≤ fileLimit → readFile bs ≡ bad c p → FirstFault bs c p
 unfolding readFile readHeader
 first-fault bs c p h l e =
-    let inside-limit : readParts bs ≡ bad c p = sym (need-pass (unless (leb (length bs) fileLimit) 1) 0 (readParts bs) (most-passes 1 l)) ∙ e in
-    elim (pair-refused headerItem (pair configurationItem events) tt 0 bs c p h (sym (same-parts bs) ∙ inside-limit)) [
+    let inside-limit : readParts o bs ≡ bad c p =
+    not-named (readParts o bs)
+    (sym (need-pass (unless (leb (length bs) fileLimit) 1) 0 _ (most-passes 1 l)) ∙ e) in
+    elim (pair-refused (headerItem o) (pair (configurationItem o) (events o)) tt 0 bs c p h (sym (same-parts o bs) ∙ inside-limit)) [
       | inl q ↦
-          let here : p ≡ 0 = words-refused order fileMark 3 versionRule tt 0 bs c p q in
-          at-header (record { splits = sym (append-nil bs); place = here }) (ap (λ (m : ℕ). headerItem .read tt m bs) here ∙ q)
-      | inr (v, rest, is, ok′, q) ↦ behind-header v rest is ok′ (Bytes-right (headerBytes v) rest (subst Bytes is h)) q
+          let here : p ≡ 0 = words-refused o fileMark 3 versionRule tt 0 bs c p q in
+          at-header (record { splits = sym (append-nil bs); place = here }) (ap (λ (m : ℕ). headerItem o .read tt m bs) here ∙ q)
+      | inr (v, rest, is, ok′, q) ↦ behind-header v rest is ok′ (Bytes-right (headerBytes o v) rest (subst Bytes is h)) q
     ]
   where
+    o : Order
+    o = orderOf bs
+
+    -- The order beside the parts refuses nothing.
+    not-named : (r : Res Parts) → bind {B = File} r (λ q. ok (o, q)) ≡ bad c p → r ≡ bad c p
+    not-named (ok q) e = absurd (ok-bad e)
+    not-named (bad d q) e = let same = bad-inj e in ap₂ bad (same .0) (same .1)
+
     -- Behind a valid header and a valid configuration, an event.
-    behind-configuration : (v : ℕ) (conf : Container) (rest : List ℕ) → bs ≡ headerBytes v ++ (containerBytes conf ++ rest)
-        → headerItem .Ok tt v × configurationItem .Ok tt conf → Bytes rest
-        → events .read tt (8 + configurationItem .size conf) rest ≡ bad c p → FirstFault bs c p
+    behind-configuration : (v : ℕ) (conf : Container) (rest : List ℕ) → bs ≡ headerBytes o v ++ (containerBytes o conf ++ rest)
+        → headerItem o .Ok tt v × configurationItem o .Ok tt conf → Bytes rest
+        → events o .read tt (8 + configurationItem o .size conf) rest ≡ bad c p → FirstFault bs c p
     behind-configuration v conf rest is (okv, okc) h q =
-        let at : ℕ = 8 + configurationItem .size conf in
-        let (xs, part, er, os, left, r) = seq-refused eventItem (length rest) tt at rest c p (omega arith) h q in
-        let f : File = (v, (conf, xs)) in
-        let whole : bs ≡ fileBytes f ++ part = is ∙ ap (λ (b : List ℕ). headerBytes v ++ (containerBytes conf ++ b)) er ∙ simp append-assoc in
+        let at : ℕ = 8 + configurationItem o .size conf in
+        let (xs, part, er, os, left, r) = seq-refused (eventItem o) (length rest) tt at rest c p (omega arith) h q in
+        let f : File = (o, (v, (conf, xs))) in
+        let whole : bs ≡ fileBytes f ++ part =
+        is ∙ ap (λ (b : List ℕ). headerBytes o v ++ (containerBytes o conf ++ b)) er ∙ simp append-assoc in
         let small : length (fileBytes f) ≤ fileLimit = omega (arith, ap length whole, length-append (fileBytes f) part) in
-        event-fault bs c p f part (parts-valid f (okv, (okc, os)) small) left whole
-        (container-refused eventHead eventLate (event none) (length (fileBytes f)) part c p
-        (Bytes-right (eventsBytes xs) part (subst Bytes er h)) (ap (λ (m : ℕ). eventItem .read tt m part) (sym (file-end f)) ∙ r))
+        event-fault bs c p f part (parts-valid f (order-admitted bs) (okv, (okc, os)) small) left whole
+        (container-refused o eventHead eventLate (event none) (length (fileBytes f)) part c p
+        (Bytes-right (eventsBytes o xs) part (subst Bytes er h)) (ap (λ (m : ℕ). eventItem o .read tt m part) (sym (file-end f)) ∙ r))
 
     -- Behind a valid header, the configuration or the events.
-    behind-header : (v : ℕ) (rest : List ℕ) → bs ≡ headerBytes v ++ rest → headerItem .Ok tt v → Bytes rest
-        → pair configurationItem events .read tt 8 rest ≡ bad c p → FirstFault bs c p
-    behind-header v rest is ok′ h q = elim (pair-refused configurationItem events tt 8 rest c p h q) [
+    behind-header : (v : ℕ) (rest : List ℕ) → bs ≡ headerBytes o v ++ rest → headerItem o .Ok tt v → Bytes rest
+        → pair (configurationItem o) (events o) .read tt 8 rest ≡ bad c p → FirstFault bs c p
+    behind-header v rest is ok′ h q = elim (pair-refused (configurationItem o) (events o) tt 8 rest c p h q) [
       | inl r ↦
           configuration-fault bs c p v rest (record { rule = ok′ .0; fits = ok′ .1 }) is
-          (container-refused configurationHead configurationLate entry (length (headerBytes v)) rest c p h
-          (ap (λ (m : ℕ). configurationItem .read tt m rest) (length-header v) ∙ r))
-      | inr (conf, later, er, okc, r) ↦ behind-configuration v conf later (is ∙ ap (λ (b : List ℕ). headerBytes v ++ b) er) (ok′, okc)
-          (Bytes-right (containerBytes conf) later (subst Bytes er h)) r
+          (container-refused o configurationHead configurationLate entry (length (headerBytes o v)) rest c p h
+          (ap (λ (m : ℕ). configurationItem o .read tt m rest) (length-header o v) ∙ r))
+      | inr (conf, later, er, okc, r) ↦ behind-configuration v conf later (is ∙ ap (λ (b : List ℕ). headerBytes o v ++ b) er) (ok′, okc)
+          (Bytes-right (containerBytes o conf) later (subst Bytes er h)) r
     ]
 
+-- Behind a valid file the bytes show its order.
+shown-order : (bs : List ℕ) (f : File) (rest : List ℕ) → Valid f → bs ≡ fileBytes f ++ rest → orderOf bs ≡ orderIn f
+shown-order bs f rest v is = ap orderOf is ∙ order-shown f rest v
+
 -- A first fault refuses the parts of the file, with its number at its place.
-parts-refused : (bs : List ℕ) (c p : ℕ) → length bs ≤ fileLimit → FirstFault bs c p → parts .read tt 0 bs ≡ bad c p
+parts-refused : (bs : List ℕ) (c p : ℕ) → length bs ≤ fileLimit → FirstFault bs c p → parts (orderOf bs) .read tt 0 bs ≡ bad c p
 unfolding readHeader
 parts-refused bs c p l (at-header cut e) =
-    pair-refuses headerItem (pair configurationItem events) tt 0 bs c p
-    (inl (ap (λ (m : ℕ). headerItem .read tt m bs) (sym (cut .place)) ∙ e))
+    pair-refuses (headerItem (orderOf bs)) (pair (configurationItem (orderOf bs)) (events (orderOf bs))) tt 0 bs c p
+    (inl (ap (λ (m : ℕ). headerItem (orderOf bs) .read tt m bs) (sym (cut .place)) ∙ e))
 parts-refused bs c p l (at-configuration v part hv cut own) =
-    configuration-refuses bs c p v part hv (cut .splits ∙ ap (λ (r : List ℕ). headerBytes v ++ r) (append-nil part))
-    (inl (cut .place, subst (λ (m : ℕ). Itself configurationHead configurationLate part c m) (cut .place) own))
+    configuration-refuses bs c p v part hv (cut .splits ∙ ap (λ (r : List ℕ). headerBytes (orderOf bs) v ++ r) (append-nil part))
+    (inl (cut .place, subst (λ (m : ℕ). Itself (orderOf bs) configurationHead configurationLate part c m) (cut .place) own))
 parts-refused bs c p l (at-entry v rs part beyond hv valid left cut e) =
-    let X : List ℕ = headerBytes v in
+    let X : List ℕ = headerBytes (orderOf bs) v in
     configuration-refuses bs c p v _ hv (cut .splits ∙ append-assoc X _ (part ++ beyond))
-    (inr (cut-within configurationHead configurationLate entry bs X c p configurationWord rs part beyond l
+    (inr (cut-within (orderOf bs) configurationHead configurationLate entry bs X c p configurationWord rs part beyond l
     (omega arith) refl refl valid (omega arith) cut e))
 parts-refused bs c p l (at-event f part v left cut own) =
-    event-refuses bs c p f part v (omega arith) (cut .splits ∙ ap (λ (r : List ℕ). fileBytes f ++ r) (append-nil part))
-    (inl (cut .place, subst (λ (m : ℕ). Itself eventHead eventLate part c m) (cut .place) own))
+    rw (shown-order bs f (part ++ []) v (cut .splits))
+    (event-refuses bs c p f part v (omega arith) (cut .splits ∙ ap (λ (r : List ℕ). fileBytes f ++ r) (append-nil part))
+    (inl (cut .place, subst (λ (m : ℕ). Itself (orderIn f) eventHead eventLate part c m) (cut .place) own)))
 parts-refused bs c p l (at-record f w rs part beyond v admitted valid left cut e) =
     let X : List ℕ = fileBytes f in
-    let first : List ℕ = front w (length (recordsBytes rs ++ part)) ++ recordsBytes rs in
-    let some : 1 ≤ length (recordsBytes rs ++ part) = omega (arith, length-append (recordsBytes rs) part) in
+    let o : Order = orderIn f in
+    let first : List ℕ = front o w (length (recordsBytes o rs ++ part)) ++ recordsBytes o rs in
+    let some : 1 ≤ length (recordsBytes o rs ++ part) = omega (arith, length-append (recordsBytes o rs) part) in
     let left-there : 1 ≤ length (first ++ (part ++ beyond)) = omega (arith, length-append first (part ++ beyond), length-append part beyond) in
-    event-refuses bs c p f (first ++ (part ++ beyond)) v left-there (cut .splits ∙ append-assoc X first (part ++ beyond))
-    (inr (cut-within eventHead eventLate (event none) bs X c p w rs part beyond l
-    (event-word-fits w admitted) admitted (most-passes 9 some) valid left cut e))
+    let is : bs ≡ X ++ (first ++ (part ++ beyond)) = cut .splits ∙ append-assoc X first (part ++ beyond) in
+    rw (shown-order bs f (first ++ (part ++ beyond)) v is)
+    (event-refuses bs c p f (first ++ (part ++ beyond)) v left-there is
+    (inr (cut-within o eventHead eventLate (event none) bs X c p w rs part beyond l
+    (event-word-fits w admitted) admitted (most-passes 9 some) valid left cut e)))
 
 -- A file within the limit that has a first fault is refused so.
 pub fault-refuses : (bs : List ℕ) (c p : ℕ) → length bs ≤ fileLimit → FirstFault bs c p → readFile bs ≡ bad c p
@@ -351,7 +374,7 @@ one-first-fault bs c p d q l e f = bad-inj (sym (fault-refuses bs c p l e) ∙ f
 
 -- An accepted file has none.
 pub accepted-without-fault : (bs : List ℕ) (f : File) (c p : ℕ) → readFile bs ≡ ok f → FirstFault bs c p → ⊥
-accepted-without-fault bs f c p e fault = ok-bad (sym e ∙ fault-refuses bs c p (accepted-within bs f e .0) fault)
+accepted-without-fault bs f c p e fault = ok-bad (sym e ∙ fault-refuses bs c p (accepted-means bs f e .within-limit) fault)
 
 -- Over the limit the refusal is 1 at 0.
 pub over-limit : (bs : List ℕ) → fileLimit < length bs → readFile bs ≡ bad 1 0

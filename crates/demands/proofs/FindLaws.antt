@@ -7,12 +7,13 @@ use mathlib.Core.Bool.{Bool, true, false, cond, false≢true}
 use mathlib.Core.List.{List, [], _∷_, _++_, append-nil}
 use Prim.Native.Nat.{ℕ, _+_, _≤_}
 use native.Mathlib.Omega.{arith}
+use Rattle.theory.specs.declared.Order.{Order}
 use Rattle.theory.specs.Words.{Bytes}
 use Rattle.theory.specs.Tests.{ok, bad}
 use Rattle.note.specs.Answers.{accepted, refused, counts}
 use Rattle.note.specs.Records.{Record, recordSize}
 use Rattle.note.specs.Events.{Container, containerSize}
-use Rattle.note.specs.Files.{File, configurationOf, eventsOf, readFile}
+use Rattle.note.specs.Files.{File, orderIn, configurationOf, eventsOf, readFile}
 use Rattle.note.specs.Rows.{rowsOf}
 use Rattle.note.specs.Calls.{TraceAt, keptIf, isTrace, tracesIn, eventNumber, tracesFrom, tracesOf, matches, firstMatch, findAt}
 use Rattle.note.proofs.BoolLaws.{Tells, both-tell, eq-tells}
@@ -112,7 +113,7 @@ abbrev Behind : ℕ → List TraceAt → Type 0
 Behind low [] = Unit {0}
 Behind low (t ∷ ts) = (low ≤ t .place) × Behind low ts
 
-module _ (low : ℕ) where
+module _ (o : Order) (low : ℕ) where
   behind-both : (xs ys : List TraceAt) → Behind low xs → Behind low ys → Behind low (xs ++ ys)
   behind-both [] ys a b = b
   behind-both (x ∷ xs) ys a b = (a .0, behind-both xs ys (a .1) b)
@@ -125,18 +126,18 @@ module _ (low : ℕ) where
   behind-kept true t ts l h = (l, h)
   behind-kept false t ts l h = h
 
-  behind-records : (number at : ℕ) (rs : List Record) → low ≤ at → Behind low (tracesIn number at rs)
+  behind-records : (number at : ℕ) (rs : List Record) → low ≤ at → Behind low (tracesIn o number at rs)
   unfolding tracesIn
   behind-records number at [] l = tt
   behind-records number at (r ∷ rs) l =
-      behind-kept (isTrace r) _ (tracesIn number (at + recordSize r) rs) l (behind-records number (at + recordSize r) rs (omega arith))
+      behind-kept (isTrace r) _ (tracesIn o number (at + recordSize r) rs) l (behind-records number (at + recordSize r) rs (omega arith))
 
-  behind-events : (at : ℕ) (es : List Container) → low ≤ at + 8 → Behind low (tracesFrom at es)
+  behind-events : (at : ℕ) (es : List Container) → low ≤ at + 8 → Behind low (tracesFrom o at es)
   unfolding tracesFrom
   behind-events at [] l = tt
   behind-events at (e ∷ es) l =
-      behind-both (tracesIn (eventNumber (e .body)) (at + 8) (e .body)) (tracesFrom (at + containerSize e) es)
-      (behind-records (eventNumber (e .body)) (at + 8) (e .body) l) (behind-events (at + containerSize e) es (omega arith))
+      behind-both (tracesIn o (eventNumber o (e .body)) (at + 8) (e .body)) (tracesFrom o (at + containerSize o e) es)
+      (behind-records (eventNumber o (e .body)) (at + 8) (e .body) l) (behind-events (at + containerSize o e) es (omega arith))
 
 -- ---- Find's answer
 
@@ -178,7 +179,8 @@ module _ (bs : List ℕ) (f : File) (e : readFile bs ≡ ok f) (number code : �
   unfolding tracesOf
   found-behind-header place q =
       let m : FirstMatch number code (tracesOf f) place = find-is-first place .0 q in
-      let all : Behind 24 (tracesOf f) = behind-events 24 (8 + containerSize (configurationOf f)) (eventsOf f) (omega arith) in
+      let all : Behind 24 (tracesOf f) =
+      behind-events (orderIn f) 24 (8 + containerSize (orderIn f) (configurationOf f)) (eventsOf f) (omega arith) in
       let there : 24 ≤ m .trace .place =
-      behind-last 24 (m .before) (m .trace) (m .later) (subst (Behind 24) (m .splits) all) in
+      behind-last (orderIn f) 24 (m .before) (m .trace) (m .later) (subst (Behind 24) (m .splits) all) in
       omega (arith, m .here)

@@ -7,13 +7,14 @@ use mathlib.Core.List.{List, [], _∷_, _++_, map}
 use Prim.Native.Nat.{ℕ, _+_, _≤_}
 use native.Mathlib.Omega.{arith}
 use lib.ListN.{length, length-append}
+use Rattle.theory.specs.declared.Order.{Order}
+use Rattle.theory.specs.declared.Order.the-variants.{Little}
 use Rattle.theory.specs.Words.{Bytes, put}
 use Rattle.theory.specs.Tests.{Res, ok, bind}
 use Rattle.theory.proofs.WordLaws.{Bytes-append, Bytes-put}
 use Rattle.theory.proofs.TestLaws.{bind-ok}
 use Rattle.theory.proofs.Items.{Oks}
 use Rattle.note.specs.Limits.{fileLimit}
-use Rattle.note.specs.Words.{order}
 use Rattle.note.specs.Records.{Record, Context, entry, event, none, behind, recordBytes, recordSize, recordsBytes, readRecords}
 use Rattle.note.specs.Events.{Container, containerBytes, eventWord, eventHead, eventLate}
 use Rattle.note.specs.Files.{versionWord, fileMark, headerBytes, configurationWord, configurationHead, configurationLate, fileBytes, readFile}
@@ -38,19 +39,20 @@ use Rattle.demands.proofs.AssemblyLaws.{headed, version-ok, file-calls,
 -- ---- pieces without fault, each where it may stand, make a valid tree
 
 -- The first piece's bytes and those of the others; the first event's and those of the others.
-first-piece : (p : Piece) (ps : List Piece) → length (piecesBytes (p ∷ ps)) ≡ recordSize (recordOf p) + length (piecesBytes ps)
-first-piece p ps = omega (arith, length-append (recordBytes (recordOf p)) (piecesBytes ps), record-size (recordOf p))
+first-piece : (o : Order) (p : Piece) (ps : List Piece) → length (piecesBytes o (p ∷ ps)) ≡ recordSize (recordOf o p) + length (piecesBytes o ps)
+first-piece o p ps = omega (arith, length-append (recordBytes o (recordOf o p)) (piecesBytes o ps), record-size o (recordOf o p))
 
-first-event : (e : EventPieces) (es : List EventPieces)
-    → length (eventPiecesBytes (e ∷ es)) ≡ 8 + length (piecesBytes (e .records)) + length (eventPiecesBytes es)
-first-event e es = omega (arith, length-append (containerBytes (eventOf e)) (eventPiecesBytes es), container-size (eventOf e))
+first-event : (o : Order) (e : EventPieces) (es : List EventPieces)
+    → length (eventPiecesBytes o (e ∷ es)) ≡ 8 + length (piecesBytes o (e .records)) + length (eventPiecesBytes o es)
+first-event o e es = omega (arith, length-append (containerBytes o (eventOf o e)) (eventPiecesBytes o es), container-size o (eventOf o e))
 
-pieces-valid : (c : Context) (ps : List Piece) → AllFitting ps → AllFaultless ps → AllPlaced c ps → length (piecesBytes ps) ≤ fileLimit
-    → ValidRecords c (map recordOf ps)
-pieces-valid c [] h f k l = tt
-pieces-valid c (p ∷ ps) h f k l =
-    let w = piece-writes p (h .0) in
-    let size = first-piece p ps in (
+pieces-valid : (o : Order) (c : Context) (ps : List Piece) → AllFitting ps → AllFaultless o ps → AllPlaced o c ps
+    → length (piecesBytes o ps) ≤ fileLimit
+    → ValidRecords o c (map (recordOf o) ps)
+pieces-valid o c [] h f k l = tt
+pieces-valid o c (p ∷ ps) h f k l =
+    let w = piece-writes o p (h .0) in
+    let size = first-piece o p ps in (
       record {
         kind-allowed = k .0;
         place-allowed = k .1;
@@ -59,27 +61,27 @@ pieces-valid c (p ∷ ps) h f k l =
         body-bytes = w .body-bytes;
         body-rule = w .body-rule (f .0);
       },
-      pieces-valid (behind c (recordOf p .kind)) ps (h .1) (f .1) (k .2) (omega arith),
+      pieces-valid o (behind c (recordOf o p .kind)) ps (h .1) (f .1) (k .2) (omega arith),
     )
 
 -- Some pieces have some bytes.
-some-bytes : (ps : List Piece) → 1 ≤ length ps → 1 ≤ length (piecesBytes ps)
-some-bytes [] l = l
-some-bytes (p ∷ ps) l = omega (arith, first-piece p ps)
+some-bytes : (o : Order) (ps : List Piece) → 1 ≤ length ps → 1 ≤ length (piecesBytes o ps)
+some-bytes o [] l = l
+some-bytes o (p ∷ ps) l = omega (arith, first-piece o p ps)
 
-events-valid : (es : List EventPieces) → EventsFitting es → EventsFaultless es → EventsPlaced es
-    → length (eventPiecesBytes es) ≤ fileLimit → ValidEvents (map eventOf es)
-events-valid [] h f k l = tt
-events-valid (e ∷ es) h f k l =
-    let size = first-event e es in (
+events-valid : (o : Order) (es : List EventPieces) → EventsFitting es → EventsFaultless o es → EventsPlaced o es
+    → length (eventPiecesBytes o es) ≤ fileLimit → ValidEvents o (map (eventOf o) es)
+events-valid o [] h f k l = tt
+events-valid o (e ∷ es) h f k l =
+    let size = first-event o e es in (
       record {
         word-rule = event-word-admitted (e .class) (e .category) (e .type) (f .0 .word);
         word-fits = event-word-fits (e .class) (e .category) (e .type) (f .0 .word);
-        not-empty = some-bytes (e .records) (k .0 .some);
+        not-empty = some-bytes o (e .records) (k .0 .some);
         length-fits = omega arith;
-        records-valid = pieces-valid (event none) (e .records) (h .0) (f .0 .records) (k .0 .records) (omega arith);
+        records-valid = pieces-valid o (event none) (e .records) (h .0) (f .0 .records) (k .0 .records) (omega arith);
       },
-      events-valid es (h .1) (f .1) (k .1) (omega arith),
+      events-valid o es (h .1) (f .1) (k .1) (omega arith),
     )
 
 -- ---- what was granted before a closing is there to be read, and the closing is granted
@@ -94,46 +96,47 @@ abbrev Answers : Res Built → Type 0
 Answers r = (after : Built) × (r ≡ ok after)
 
 -- Records without fault are written where they have room.
-records-granted : (b : Built) (ps : List Piece) → AllFitting ps → AllFaultless ps → Room b (piecesBytes ps) → Answers (recordsAssembled b ps)
+records-granted : (o : Order) (b : Built) (ps : List Piece) → AllFitting ps → AllFaultless o ps → Room b (piecesBytes o ps)
+    → Answers (recordsAssembled o b ps)
 unfolding recordsAssembled recordWrote
-records-granted b [] h f r = (b, refl)
-records-granted b (p ∷ ps) h f r =
-    let w : Written = writtenOf p in
+records-granted o b [] h f r = (b, refl)
+records-granted o b (p ∷ ps) h f r =
+    let w : Written = writtenOf o p in
     let n : ℕ = length (w .bytes) in
     let mid : Built = record { next = b .next + n; out = recordOutput (b .out) (b .next) w } in
-    let own : n ≡ recordSize (recordOf p) = ap length (piece-writes p (h .0) .bytes-are) ∙ record-size (recordOf p) in
-    let fits : b .next + n ≤ length (b .out) = omega (arith, r .room, first-piece p ps) in
+    let own : n ≡ recordSize (recordOf o p) = ap length (piece-writes o p (h .0) .bytes-are) ∙ record-size o (recordOf o p) in
+    let fits : b .next + n ≤ length (b .out) = omega (arith, r .room, first-piece o p ps) in
     let one : recordWrote (b .out) (b .next) w ≡ ok (mid .next) = grants (length (b .out)) (b .next) (w .fault) n (r .limit) (f .0) fits in
     let same : length (mid .out) ≡ length (b .out) = record-laid (b .out) (b .next) (mid .next) w one .size in
-    let (after, rest) = records-granted mid ps (h .1) (f .1)
-    (record { limit = omega (arith, r .limit); room = omega (arith, r .room, first-piece p ps) }) in
-    (after, ap (λ (r : Res ℕ). bind r (λ n. recordsAssembled (record { next = n; out = mid .out }) ps)) one ∙ rest)
+    let (after, rest) = records-granted o mid ps (h .1) (f .1)
+    (record { limit = omega (arith, r .limit); room = omega (arith, r .room, first-piece o p ps) }) in
+    (after, ap (λ (r : Res ℕ). bind r (λ n. recordsAssembled o (record { next = n; out = mid .out }) ps)) one ∙ rest)
 
-module _ (head : Unit {0} → ℕ → ℕ) (late : Unit {0} → ℕ → ℕ → ℕ) (c : Context) (word : ℕ)
+module _ (o : Order) (head : Unit {0} → ℕ → ℕ) (late : Unit {0} → ℕ → ℕ → ℕ) (c : Context) (word : ℕ)
     (closed : List ℕ → ℕ → ℕ → Res ℕ) (output : List ℕ → ℕ → ℕ → List ℕ)
-    (closing-grants : (out : List ℕ) (place end : ℕ) → Checked head late c out place end end word → closed out place end ≡ ok end) where
+    (closing-grants : (out : List ℕ) (place end : ℕ) → Checked o head late c out place end end word → closed out place end ≡ ok end) where
   -- Then a valid container of them is closed.
-  container-granted : (b : Built) (ps : List Piece) → AllFitting ps → AllFaultless ps → box head late c .Ok tt (containerOf word ps)
-      → Room b (containerBytes (containerOf word ps)) → Answers (containerAssembled closed output b ps)
+  container-granted : (b : Built) (ps : List Piece) → AllFitting ps → AllFaultless o ps → box o head late c .Ok tt (containerOf o word ps)
+      → Room b (containerBytes o (containerOf o word ps)) → Answers (containerAssembled o closed output b ps)
   unfolding containerAssembled
   container-granted b ps h f v r =
-      let rs : List Record = map recordOf ps in
-      let size : length (containerBytes (containerOf word ps)) ≡ 8 + length (recordsBytes rs) = container-size (containerOf word ps) in
-      let (filled, e) = records-granted (contentsFrom b) ps h f (record { limit = r .limit; room = omega (arith, r .room) }) in
+      let rs : List Record = map (recordOf o) ps in
+      let size : length (containerBytes o (containerOf o word ps)) ≡ 8 + length (recordsBytes o rs) = container-size o (containerOf o word ps) in
+      let (filled, e) = records-granted o (contentsFrom b) ps h f (record { limit = r .limit; room = omega (arith, r .room) }) in
       let old : List ℕ = filled .out in
       let place : ℕ = b .next in
       let end : ℕ = filled .next in
-      let l = records-laid (contentsFrom b) ps filled h e in
-      let (n, contents) = laid-contents (b .out) old (recordsBytes rs) place end l in
-      let k : Checked head late c old place end end word = record {
+      let l = records-laid o (contentsFrom b) ps filled h e in
+      let (n, contents) = laid-contents (b .out) old (recordsBytes o rs) place end l in
+      let k : Checked o head late c old place end end word = record {
         room = (omega (arith, l .ends), omega (arith, l .size, l .ends, r .room), omega (arith, l .size, r .limit));
         fits = v .kind-word;
         head-ok = v .head-ok;
         late-ok = ap (late tt word) n ∙ v .late-ok;
         read = rs;
-        contents = ap (readRecords c (place + 8)) contents
-            ∙ same-records c (place + 8) (recordsBytes rs)
-            ∙ records .complete c (place + 8) rs (v .body-ok);
+        contents = ap (readRecords o c (place + 8)) contents
+            ∙ same-records o c (place + 8) (recordsBytes o rs)
+            ∙ records o .complete c (place + 8) rs (v .body-ok);
         is = refl;
       } in
       let made : Built → ℕ → Res Built = λ x next. ok (closedWith output b x next) in (
@@ -142,178 +145,184 @@ module _ (head : Unit {0} → ℕ → ℕ) (late : Unit {0} → ℕ → ℕ → 
             ∙ ap (λ (r : Res ℕ). bind r (made filled)) (closing-grants old place end k),
       )
 
-configuration-granted : (b : Built) (ps : List Piece) → AllFitting ps → AllFaultless ps
-    → configurationItem .Ok tt (containerOf configurationWord ps) → Room b (containerBytes (containerOf configurationWord ps))
-    → Answers (configurationAssembled b ps)
-configuration-granted =
-    container-granted configurationHead configurationLate entry configurationWord configurationClosed configurationOutput configuration-grants
+configuration-granted : (o : Order) (b : Built) (ps : List Piece) → AllFitting ps → AllFaultless o ps
+    → configurationItem o .Ok tt (containerOf o configurationWord ps) → Room b (containerBytes o (containerOf o configurationWord ps))
+    → Answers (configurationAssembled o b ps)
+configuration-granted o =
+    container-granted o configurationHead configurationLate entry configurationWord (configurationClosed o) (configurationOutput o)
+    (configuration-grants o)
 
-event-granted : (b : Built) (e : EventPieces) → AllFitting (e .records) → EventFaultless e → eventItem .Ok tt (eventOf e)
-    → Room b (containerBytes (eventOf e)) → Answers (eventAssembled b e)
-event-granted b e h f v r =
-    container-granted eventHead eventLate (event none) (eventWord (e .class) (e .category) (e .type)) _ _
-    (λ out place end. event-grants out place end (e .class) (e .category) (e .type) (f .word)) b (e .records) h (f .records) v r
+event-granted : (o : Order) (b : Built) (e : EventPieces) → AllFitting (e .records) → EventFaultless o e → eventItem o .Ok tt (eventOf o e)
+    → Room b (containerBytes o (eventOf o e)) → Answers (eventAssembled o b e)
+event-granted o b e h f v r =
+    container-granted o eventHead eventLate (event none) (eventWord (e .class) (e .category) (e .type)) _ _
+    (λ out place end. event-grants o out place end (e .class) (e .category) (e .type) (f .word)) b (e .records) h (f .records) v r
 
-events-granted : (b : Built) (es : List EventPieces) → EventsFitting es → EventsFaultless es → Oks eventItem tt (map eventOf es)
-    → Room b (eventPiecesBytes es) → Answers (eventsAssembled b es)
+events-granted : (o : Order) (b : Built) (es : List EventPieces) → EventsFitting es → EventsFaultless o es → Oks (eventItem o) tt (map (eventOf o) es)
+    → Room b (eventPiecesBytes o es) → Answers (eventsAssembled o b es)
 unfolding eventsAssembled
-events-granted b [] h f v r = (b, refl)
-events-granted b (e ∷ es) h f v r =
-    let size = length-append (containerBytes (eventOf e)) (eventPiecesBytes es) in
-    let (mid, one) = event-granted b e (h .0) (f .0) (v .0) (record { limit = r .limit; room = omega (arith, r .room) }) in
-    let l = event-stands b e mid (h .0) one .laid in
-    let (after, rest) = events-granted mid es (h .1) (f .1) (v .1)
+events-granted o b [] h f v r = (b, refl)
+events-granted o b (e ∷ es) h f v r =
+    let size = length-append (containerBytes o (eventOf o e)) (eventPiecesBytes o es) in
+    let (mid, one) = event-granted o b e (h .0) (f .0) (v .0) (record { limit = r .limit; room = omega (arith, r .room) }) in
+    let l = event-stands o b e mid (h .0) one .laid in
+    let (after, rest) = events-granted o mid es (h .1) (f .1) (v .1)
     (record { limit = omega (arith, l .size, r .limit); room = omega (arith, l .size, l .ends, r .room) }) in
-    (after, ap (λ (r : Res Built). bind r (λ x. eventsAssembled x es)) one ∙ rest)
+    (after, ap (λ (r : Res Built). bind r (λ x. eventsAssembled o x es)) one ∙ rest)
 
 -- ---- what granted calls say of the pieces
 
 -- A granted writer or closing found no fault.
-records-faultless : (b : Built) (ps : List Piece) (after : Built) → recordsAssembled b ps ≡ ok after → AllFaultless ps
+records-faultless : (o : Order) (b : Built) (ps : List Piece) (after : Built) → recordsAssembled o b ps ≡ ok after → AllFaultless o ps
 unfolding recordsAssembled
-records-faultless b [] after e = tt
-records-faultless b (p ∷ ps) after e =
-    let w : Written = writtenOf p in
+records-faultless o b [] after e = tt
+records-faultless o b (p ∷ ps) after e =
+    let w : Written = writtenOf o p in
     let out : List ℕ = recordOutput (b .out) (b .next) w in
-    let (next, e1, e2) = bind-ok (recordWrote (b .out) (b .next) w) (λ next. recordsAssembled (record { next = next; out = out }) ps) e in
-    (record-granted (b .out) (b .next) next w e1 .fine, records-faultless (record { next = next; out = out }) ps after e2)
+    let (next, e1, e2) = bind-ok (recordWrote (b .out) (b .next) w) (λ next. recordsAssembled o (record { next = next; out = out }) ps) e in
+    (record-granted (b .out) (b .next) next w e1 .fine, records-faultless o (record { next = next; out = out }) ps after e2)
 
-events-faultless : (b : Built) (es : List EventPieces) (after : Built) → eventsAssembled b es ≡ ok after → EventsFaultless es
+events-faultless : (o : Order) (b : Built) (es : List EventPieces) (after : Built) → eventsAssembled o b es ≡ ok after → EventsFaultless o es
 unfolding eventsAssembled
-events-faultless b [] after q = tt
-events-faultless b (e ∷ es) after q =
-    let (mid, q1, q2) = bind-ok (eventAssembled b e) (λ mid. eventsAssembled mid es) q in
-    let (filled, next, inner, closed, is) = container-calls _ _ b (e .records) mid q1 in (
+events-faultless o b [] after q = tt
+events-faultless o b (e ∷ es) after q =
+    let (mid, q1, q2) = bind-ok (eventAssembled o b e) (λ mid. eventsAssembled o mid es) q in
+    let (filled, next, inner, closed, is) = container-calls o _ _ b (e .records) mid q1 in (
       record {
-        word = event-faultless (filled .out) (b .next) (filled .next) (e .class) (e .category) (e .type) next closed;
-        records = records-faultless _ (e .records) filled inner;
+        word = event-faultless o (filled .out) (b .next) (filled .next) (e .class) (e .category) (e .type) next closed;
+        records = records-faultless o _ (e .records) filled inner;
       },
-      events-faultless mid es after q2,
+      events-faultless o mid es after q2,
     )
 
 -- In a valid tree each piece stands where it may.
-pieces-placed : (c : Context) (ps : List Piece) → ValidRecords c (map recordOf ps) → AllPlaced c ps
-pieces-placed c [] v = tt
-pieces-placed c (p ∷ ps) v = (v .0 .kind-allowed, v .0 .place-allowed, pieces-placed (behind c (recordOf p .kind)) ps (v .1))
+pieces-placed : (o : Order) (c : Context) (ps : List Piece) → ValidRecords o c (map (recordOf o) ps) → AllPlaced o c ps
+pieces-placed o c [] v = tt
+pieces-placed o c (p ∷ ps) v = (v .0 .kind-allowed, v .0 .place-allowed, pieces-placed o (behind c (recordOf o p .kind)) ps (v .1))
 
-some-pieces : (ps : List Piece) → 1 ≤ length (piecesBytes ps) → 1 ≤ length ps
-some-pieces [] l = l
-some-pieces (p ∷ ps) l = omega arith
+some-pieces : (o : Order) (ps : List Piece) → 1 ≤ length (piecesBytes o ps) → 1 ≤ length ps
+some-pieces o [] l = l
+some-pieces o (p ∷ ps) l = omega arith
 
-events-placed : (es : List EventPieces) → ValidEvents (map eventOf es) → EventsPlaced es
-events-placed [] v = tt
-events-placed (e ∷ es) v =
+events-placed : (o : Order) (es : List EventPieces) → ValidEvents o (map (eventOf o) es) → EventsPlaced o es
+events-placed o [] v = tt
+events-placed o (e ∷ es) v =
     let own = v .0 in (
-      record { some = some-pieces (e .records) (own .not-empty); records = pieces-placed (event none) (e .records) (own .records-valid) },
-      events-placed es (v .1),
+      record { some = some-pieces o (e .records) (own .not-empty); records = pieces-placed o (event none) (e .records) (own .records-valid) },
+      events-placed o es (v .1),
     )
 
 -- ---- the file
 
-events-bytes : (es : List EventPieces) → EventsFitting es → Bytes (eventPiecesBytes es)
-events-bytes [] h = tt
-events-bytes (e ∷ es) h =
-    Bytes-append (containerBytes (eventOf e)) (eventPiecesBytes es)
-    (structure-bytes recordsBytes (eventOf e) (pieces-bytes (e .records) (h .0))) (events-bytes es (h .1))
+events-bytes : (o : Order) (es : List EventPieces) → EventsFitting es → Bytes (eventPiecesBytes o es)
+events-bytes o [] h = tt
+events-bytes o (e ∷ es) h =
+    Bytes-append (containerBytes o (eventOf o e)) (eventPiecesBytes o es)
+    (structure-bytes o (recordsBytes o) (eventOf o e) (pieces-bytes o (e .records) (h .0))) (events-bytes o es (h .1))
 
-module _ (f : FilePieces) (h : FileFits f) where
+module _ (o : Order) (f : FilePieces) (h : FileFits f) where
   abbrev version : ℕ
   version = versionWord (f .major) (f .minor)
 
   abbrev configuration : Container
-  configuration = containerOf configurationWord (f .entries)
+  configuration = containerOf o configurationWord (f .entries)
 
-  file-bytes : Bytes (fileBytes (fileOf f))
+  file-bytes : Bytes (fileBytes (fileOf o f))
   unfolding fileOf
   file-bytes =
-      let header = Bytes-append (put order 4 fileMark) (put order 4 version) (Bytes-put order 4 fileMark) (Bytes-put order 4 version) in
-      let entries = structure-bytes recordsBytes configuration (pieces-bytes (f .entries) (h .entries)) in
-      Bytes-append (headerBytes version) _ header
-      (Bytes-append (containerBytes configuration) _ entries (events-bytes (f .events) (h .events)))
+      let header = Bytes-append (put o 4 fileMark) (put o 4 version) (Bytes-put o 4 fileMark) (Bytes-put o 4 version) in
+      let entries = structure-bytes o (recordsBytes o) configuration (pieces-bytes o (f .entries) (h .entries)) in
+      Bytes-append (headerBytes o version) _ header
+      (Bytes-append (containerBytes o configuration) _ entries (events-bytes o (f .events) (h .events)))
 
   -- The file's length, by its parts.
-  file-size : length (fileBytes (fileOf f)) ≡ 8 + length (containerBytes configuration) + length (eventPiecesBytes (f .events))
+  file-size : length (fileBytes (fileOf o f)) ≡ 8 + length (containerBytes o configuration) + length (eventPiecesBytes o (f .events))
   unfolding fileOf
   file-size =
-      let c : List ℕ = containerBytes configuration in
-      let events : List ℕ = eventPiecesBytes (f .events) in
-      omega (arith, length-append (headerBytes version) (c ++ events), length-append c events, headerItem .sizes version)
+      let c : List ℕ = containerBytes o configuration in
+      let events : List ℕ = eventPiecesBytes o (f .events) in
+      omega (arith, length-append (headerBytes o version) (c ++ events), length-append c events, headerItem o .sizes version)
 
-  -- Pieces without fault, each where it may stand, make a file that follows the note, if it isn't too long.
-  file-valid : FileFaultless f → FilePlaced f → length (fileBytes (fileOf f)) ≤ fileLimit → Valid (fileOf f)
+  file-placed : Valid (fileOf o f) → FilePlaced o f
   unfolding fileOf
-  file-valid fine placed l =
-      let size = container-size configuration in
-      record {
-        version-rule = version-ok f h .0;
-        version-fits = version-ok f h .1;
-        configuration-word = refl;
-        configuration-fits = omega (arith, file-size);
-        entries-valid = pieces-valid entry (f .entries) (h .entries) (fine .entries) (placed .entries) (omega (arith, file-size));
-        events-valid = events-valid (f .events) (h .events) (fine .events) (placed .events) (omega (arith, file-size));
-        within-limit = l;
-      }
+  file-placed v = record { entries = pieces-placed o entry (f .entries) (v .entries-valid); events = events-placed o (f .events) (v .events-valid) }
 
-  file-placed : Valid (fileOf f) → FilePlaced f
-  unfolding fileOf
-  file-placed v = record { entries = pieces-placed entry (f .entries) (v .entries-valid); events = events-placed (f .events) (v .events-valid) }
+-- Pieces without fault, each where it may stand, make a file that follows the note, if it isn't too long.
+file-valid : (f : FilePieces) → FileFits f → FileFaultless Little f → FilePlaced Little f → length (fileBytes (fileOf Little f)) ≤ fileLimit
+    → Valid (fileOf Little f)
+unfolding fileOf
+file-valid f h fine placed l =
+    let size = container-size Little (configuration Little f h) in
+    record {
+      byte-order = refl;
+      version-rule = version-ok f h .0;
+      version-fits = version-ok f h .1;
+      configuration-word = refl;
+      configuration-fits = omega (arith, file-size Little f h);
+      entries-valid = pieces-valid Little entry (f .entries) (h .entries) (fine .entries) (placed .entries) (omega (arith, file-size Little f h));
+      events-valid = events-valid Little (f .events) (h .events) (fine .events) (placed .events) (omega (arith, file-size Little f h));
+      within-limit = l;
+    }
 
-module _ (out : List ℕ) (f : FilePieces) (h : FileFits f) where
+module _ (o : Order) (out : List ℕ) (f : FilePieces) (h : FileFits f) where
   -- Calls that were granted have found no fault.
-  file-faultless : (b : Built) → fileAssembled out f ≡ ok b → FileFaultless f
+  file-faultless : (b : Built) → fileAssembled o out f ≡ ok b → FileFaultless o f
   file-faultless b e =
-      let (next, mid, header, configuration, events) = file-calls out f b e in
-      let (filled, end, inner, closed, is) = container-calls _ _ _ (f .entries) mid configuration in
-      record { entries = records-faultless _ (f .entries) filled inner; events = events-faultless mid (f .events) b events }
+      let (next, mid, header, configuration, events) = file-calls o out f b e in
+      let (filled, end, inner, closed, is) = container-calls o _ _ _ (f .entries) mid configuration in
+      record { entries = records-faultless o _ (f .entries) filled inner; events = events-faultless o mid (f .events) b events }
 
   -- And they are granted where the tree is valid and has room.
-  file-granted : FileFaultless f → Valid (fileOf f) → length out ≤ fileLimit → length (fileBytes (fileOf f)) ≤ length out
-      → (b : Built) × (fileAssembled out f ≡ ok b)
+  file-granted : FileFaultless o f → Valid (fileOf o f) → length out ≤ fileLimit → length (fileBytes (fileOf o f)) ≤ length out
+      → (b : Built) × (fileAssembled o out f ≡ ok b)
   unfolding fileAssembled fileOf headerWrote
   file-granted fine valid limit room =
-      let (ok-header, (ok-configuration, ok-events)) = parts-ok (fileOf f) valid in
-      let size = file-size f h in
-      let top : Built = headed out f 8 in
+      let (ok-header, (ok-configuration, ok-events)) = parts-ok (fileOf o f) valid in
+      let size = file-size o f h in
+      let top : Built = headed o out f 8 in
       let header : headerWrote out ≡ ok 8 = grants (length out) 0 0 8 limit refl (omega arith) in
-      let l = header-laid out (f .major) (f .minor) 8 header in
-      let (mid, entries) = configuration-granted top (f .entries) (h .entries) (fine .entries) ok-configuration
+      let l = header-laid o out (f .major) (f .minor) 8 header in
+      let (mid, entries) = configuration-granted o top (f .entries) (h .entries) (fine .entries) ok-configuration
       (record { limit = omega (arith, l .size); room = omega (arith, l .size) }) in
-      let m = configuration-stands top (f .entries) mid (h .entries) entries .laid in
-      let (b, events) = events-granted mid (f .events) (h .events) (fine .events) ok-events
+      let m = configuration-stands o top (f .entries) mid (h .entries) entries .laid in
+      let (b, events) = events-granted o mid (f .events) (h .events) (fine .events) ok-events
       (record { limit = omega (arith, l .size, m .size); room = omega (arith, l .size, m .size, m .ends) }) in
-      let rest : Built → Res Built = λ x. eventsAssembled x (f .events) in (
+      let rest : Built → Res Built = λ x. eventsAssembled o x (f .events) in (
         b,
-        ap (λ (r : Res ℕ). bind r (λ n. bind (configurationAssembled (headed out f n) (f .entries)) rest)) header
+        ap (λ (r : Res ℕ). bind r (λ n. bind (configurationAssembled o (headed o out f n) (f .entries)) rest)) header
             ∙ ap (λ (r : Res Built). bind r rest) entries
             ∙ events,
       )
 
   -- They end where the file does.
-  file-ends : (b : Built) → fileAssembled out f ≡ ok b → b .next ≡ length (fileBytes (fileOf f))
-  file-ends b e = omega (arith, file-stands out f h b e .0 .ends)
+  file-ends : (b : Built) → fileAssembled o out f ≡ ok b → b .next ≡ length (fileBytes (fileOf o f))
+  file-ends b e = omega (arith, file-stands o out f h b e .0 .ends)
 
+-- Of a file whose words are little-endian, as document 01 has them.
+module _ (out : List ℕ) (f : FilePieces) (h : FileFits f) where
   -- Given room, pieces without fault, each where it may stand, are never refused.
-  pub assembly-granted : FileFaultless f → FilePlaced f → length out ≤ fileLimit → length (fileBytes (fileOf f)) ≤ length out
-      → (b : Built) × (fileAssembled out f ≡ ok b) × (b .next ≡ length (fileBytes (fileOf f)))
+  pub assembly-granted : FileFaultless Little f → FilePlaced Little f → length out ≤ fileLimit → length (fileBytes (fileOf Little f)) ≤ length out
+      → (b : Built) × (fileAssembled Little out f ≡ ok b) × (b .next ≡ length (fileBytes (fileOf Little f)))
   assembly-granted fine placed limit room =
-      let (b, e) = file-granted fine (file-valid f h fine placed (omega arith)) limit room in
-      (b, e, file-ends b e)
+      let (b, e) = file-granted Little out f h fine (file-valid f h fine placed (omega arith)) limit room in
+      (b, e, file-ends Little out f h b e)
 
   -- And only such pieces are granted.
-  pub granted-exactly : ((b : Built) × (fileAssembled out f ≡ ok b))
-      ↔ (FileFaultless f × FilePlaced f × (length out ≤ fileLimit) × (length (fileBytes (fileOf f)) ≤ length out))
+  pub granted-exactly : ((b : Built) × (fileAssembled Little out f ≡ ok b))
+      ↔ (FileFaultless Little f × FilePlaced Little f × (length out ≤ fileLimit) × (length (fileBytes (fileOf Little f)) ≤ length out))
+  unfolding fileOf
   granted-exactly = (
-    λ g. let (l, limit, valid) = file-stands out f h (g .0) (g .1) in
-        let room = laid-within out (g .0 .out) (fileBytes (fileOf f)) (g .0 .next) l in
-        (file-faultless (g .0) (g .1), file-placed f h (parts-valid (fileOf f) valid (omega arith)), limit, room),
-    λ p. file-granted (p .0) (file-valid f h (p .0) (p .1) (omega (arith, p .2, p .3))) (p .2) (p .3),
+    λ g. let (l, limit, valid) = file-stands Little out f h (g .0) (g .1) in
+        let room = laid-within out (g .0 .out) (fileBytes (fileOf Little f)) (g .0 .next) l in
+        (file-faultless Little out f h (g .0) (g .1), file-placed Little f h (parts-valid (fileOf Little f) refl valid (omega arith)), limit, room),
+    λ p. file-granted Little out f h (p .0) (file-valid f h (p .0) (p .1) (omega (arith, p .2, p .3))) (p .2) (p .3),
   )
 
   -- So, where the file of the pieces is one that is accepted, the calls make it: the pieces are assembled, and what then stands is that file.
-  pub valid-assembles : FileFaultless f → readFile (fileBytes (fileOf f)) ≡ ok (fileOf f)
-      → length out ≤ fileLimit → length (fileBytes (fileOf f)) ≤ length out
-      → (b : Built) × (fileAssembled out f ≡ ok b) × (b .next ≡ length (fileBytes (fileOf f))) × Assembled out f b
+  pub valid-assembles : FileFaultless Little f → readFile (fileBytes (fileOf Little f)) ≡ ok (fileOf Little f)
+      → length out ≤ fileLimit → length (fileBytes (fileOf Little f)) ≤ length out
+      → (b : Built) × (fileAssembled Little out f ≡ ok b) × (b .next ≡ length (fileBytes (fileOf Little f))) × Assembled Little out f b
   valid-assembles fine accepted limit room =
-      let valid : Valid (fileOf f) = file-sound (fileBytes (fileOf f)) (fileOf f) (file-bytes f h) accepted .1 in
-      let (b, e) = file-granted fine valid limit room in
-      (b, e, file-ends b e, assembled-accepted out f h b e)
+      let valid : Valid (fileOf Little f) = file-sound (fileBytes (fileOf Little f)) (fileOf Little f) (file-bytes Little f h) accepted .1 in
+      let (b, e) = file-granted Little out f h fine valid limit room in
+      (b, e, file-ends Little out f h b e, assembled-accepted out f h b e)

@@ -7,13 +7,14 @@ use borrow.Author.Tests.{lt-leb}
 use lib.Dec.{leb}
 use lib.IntN.{pos}
 use lib.ListN.{length, drop}
+use Rattle.theory.specs.declared.Order.the-variants.{Little}
 use Rattle.theory.specs.Tests.{Res, ok, bad, need, unless}
 use Rattle.note.specs.Limits.{fileLimit}
 use Rattle.note.specs.Words.{words}
 use Rattle.note.specs.Answers.{Given, refused}
 use Rattle.note.specs.Channels.{channelAnswer, codeAnswer}
 use Rattle.note.specs.Records.{entry, event, none, alone, readRecord}
-use Rattle.note.specs.Files.{readParts, readFile}
+use Rattle.note.specs.Files.{readFile}
 use Rattle.note.specs.Rows.{tableAnswer}
 use Rattle.note.specs.Calls.{recordFound, recordAt, settingAt, sampleAt}
 use Rattle.note.specs.Writers.{wrote, recordWrote, headerWrote, configurationClosed, eventClosed, rewriteWrote}
@@ -29,14 +30,14 @@ over : {A : Type 0} (n : ℕ) (r : Res A) → fileLimit < n → need (unless (le
 over n r h = rw (lt-leb n fileLimit h)
 
 -- A lent file over the limit, for a file's calls and for Record's; an output over the limit, for every writer.
-pub long-file-refused : (bs : List ℕ) → fileLimit < length bs → (readFile bs ≡ bad 1 0) × ((place : ℕ) → recordFound bs place ≡ bad 1 0)
+pub long-file-refused : (bs : List ℕ) → fileLimit < length bs → (readFile bs ≡ bad 1 0) × ((place : ℕ) → recordFound Little bs place ≡ bad 1 0)
 unfolding readFile recordFound
-long-file-refused bs h = (over (length bs) (readParts bs) h, λ place. over (length bs) (readRecord alone place (drop place bs)) h)
+long-file-refused bs h = (over (length bs) _ h, λ place. over (length bs) (readRecord Little alone place (drop place bs)) h)
 
 pub long-output-refused : (out : List ℕ) → fileLimit < length out
     → ((place fault size : ℕ) → wrote (length out) place fault size ≡ bad 1 0)
-    × ((place end : ℕ) → configurationClosed out place end ≡ bad 1 0)
-    × ((place end class category type : ℕ) → eventClosed out place end class category type ≡ bad 1 0)
+    × ((place end : ℕ) → configurationClosed Little out place end ≡ bad 1 0)
+    × ((place end class category type : ℕ) → eventClosed Little out place end class category type ≡ bad 1 0)
     × ((bs : List ℕ) → rewriteWrote bs out ≡ bad 1 0)
 unfolding wrote configurationClosed eventClosed rewriteWrote
 long-output-refused out h = (
@@ -59,7 +60,7 @@ abbrev unnamed : List ℕ
 unnamed = 0x00010002 ∷ 32 ∷ 0 ∷ 0 ∷ 0 ∷ 0 ∷ 0 ∷ 0 ∷ 0 ∷ 0 ∷ []
 
 abbrev configured : ℕ → List ℕ → List ℕ
-configured n ws = words (0x01020304 ∷ 0x01000200 ∷ 0x00010000 ∷ n ∷ ws)
+configured n ws = words Little (0x01020304 ∷ 0x01000200 ∷ 0x00010000 ∷ n ∷ ws)
 
 -- Refusals of these numbers at one place; the numbers of refusals.
 abbrev at : {A : Type 0} → ℕ → List ℕ → List (Res A)
@@ -71,8 +72,9 @@ number (bad c p) = c
 
 -- Of the header; of the configuration; of all that stands behind.
 pub file-numbers-given :
-    (map readFile ([] ∷ words (0 ∷ 0 ∷ []) ∷ words (0x01020304 ∷ 0 ∷ []) ∷ []) ≡ at 0 headerNumbers)
-    × (map readFile (words (0x01020304 ∷ 0x01000200 ∷ []) ∷ words (0x01020304 ∷ 0x01000200 ∷ 0 ∷ 0 ∷ []) ∷ []) ≡ at 8 configurationNumbers)
+    (map readFile ([] ∷ words Little (0 ∷ 0 ∷ []) ∷ words Little (0x01020304 ∷ 0 ∷ []) ∷ []) ≡ at 0 headerNumbers)
+    × (map readFile (words Little (0x01020304 ∷ 0x01000200 ∷ []) ∷ words Little (0x01020304 ∷ 0x01000200 ∷ 0 ∷ 0 ∷ []) ∷ [])
+    ≡ at 8 configurationNumbers)
     × (map (λ bs. number (readFile bs)) (
     after (0 ∷ []) ∷ after (0 ∷ 0 ∷ []) ∷ configured 8 (0x00010001 ∷ 0 ∷ []) ∷ after (0xA9801000 ∷ 0 ∷ []) ∷ after (0xA9800007 ∷ 0 ∷ []) ∷
     after (0xA9800000 ∷ 0 ∷ []) ∷ configured 40 unnamed ∷ after (0xA9800000 ∷ 88 ∷ (dated ++ unsampled)) ∷ []) ≡ restNumbers)
@@ -86,13 +88,13 @@ table-number-given = refl
 -- ---- Record, Setting, a sample; channels
 
 abbrev records : List (List ℕ)
-records = [] ∷ words (0 ∷ 0 ∷ []) ∷ words (0x02 ∷ 0 ∷ []) ∷ words unnamed ∷ words unsampled ∷ []
+records = [] ∷ words Little (0 ∷ 0 ∷ []) ∷ words Little (0x02 ∷ 0 ∷ []) ∷ words Little unnamed ∷ words Little unsampled ∷ []
 
 abbrev refusals : List Given
 refusals = map (λ (c : ℕ). refused c 0) (recordNumbers alone)
 
-pub record-numbers-given : (map (λ bs. recordAt bs 0) records ≡ refusals) × (map (λ bs. settingAt bs 0) records ≡ refusals)
-    × (map (λ bs. sampleAt bs 0 1) records ≡ refusals)
+pub record-numbers-given : (map (λ bs. recordAt Little bs 0) records ≡ refusals) × (map (λ bs. settingAt Little bs 0) records ≡ refusals)
+    × (map (λ bs. sampleAt Little bs 0 1) records ≡ refusals)
 unfolding computing
 record-numbers-given = (refl, refl, refl)
 
@@ -153,7 +155,7 @@ masks = trigger (record { mask1 = 0; mask2 = 0; mask3 = 0; mask4 = 0; mask5 = 0;
 
 -- Into an output without room, at byte 3: faults of fields first, then 13.
 abbrev given : List Piece → List (Res ℕ)
-given ps = map (λ (p : Piece). recordWrote [] 3 (writtenOf p)) ps
+given ps = map (λ (p : Piece). recordWrote [] 3 (writtenOf Little p)) ps
 
 pub writer-numbers-given :
     (given (phononOfCode 0 ∷ phononOfCode 10001003 ∷ []) ≡ at 3 (writerNumbers (phononOfCode 0)))
@@ -176,18 +178,18 @@ header-number-given = refl
 
 -- A container from byte 0, closed behind these words.
 abbrev eight : List ℕ → List ℕ
-eight ws = words (0 ∷ 0 ∷ ws)
+eight ws = words Little (0 ∷ 0 ∷ ws)
 
 abbrev configurationOver : List ℕ → Res ℕ
-configurationOver ws = configurationClosed (eight ws) 0 (length (eight ws))
+configurationOver ws = configurationClosed Little (eight ws) 0 (length (eight ws))
 
 abbrev eventOver : List ℕ → Res ℕ
-eventOver ws = eventClosed (eight ws) 0 (length (eight ws)) 0 0 0
+eventOver ws = eventClosed Little (eight ws) 0 (length (eight ws)) 0 0 0
 
 pub closing-numbers-given :
-    (configurationClosed [] 3 0 ∷ [] ≡ at 3 configurationClosingNumbers)
+    (configurationClosed Little [] 3 0 ∷ [] ≡ at 3 configurationClosingNumbers)
     × (map configurationOver ((0 ∷ []) ∷ (0 ∷ 0 ∷ []) ∷ (0x00010001 ∷ 0 ∷ []) ∷ unnamed ∷ []) ≡ at 8 (recordNumbers entry))
-    × (eventClosed (eight []) 0 8 1 0 0 ∷ eventClosed (eight []) 0 8 0 0 7 ∷ eventOver [] ∷ eventClosed [] 0 0 0 0 0 ∷ []
+    × (eventClosed Little (eight []) 0 8 1 0 0 ∷ eventClosed Little (eight []) 0 8 0 0 7 ∷ eventOver [] ∷ eventClosed Little [] 0 0 0 0 0 ∷ []
     ≡ at 0 eventClosingNumbers)
     × (map (λ ws. number (eventOver ws)) (
     (0 ∷ []) ∷ (0 ∷ 0 ∷ []) ∷ (0x02 ∷ 0 ∷ []) ∷ (0x11 ∷ 0 ∷ []) ∷ (0x02 ∷ 24 ∷ 0 ∷ 0 ∷ 0 ∷ 0 ∷ 0 ∷ 0 ∷ []) ∷ (dated ++ unsampled) ∷ [])

@@ -8,6 +8,7 @@ use Prim.Native.Nat.{ℕ, _+_, _*_, _≤_}
 use borrow.Author.Tests.{leb-false}
 use lib.Dec.{leb, ltb, eqb}
 use lib.ListN.{length, drop}
+use Rattle.theory.specs.declared.Order.{Order}
 use Rattle.theory.specs.Tests.{Res, ok, bad, need, unless, among}
 use Rattle.theory.specs.Layout.{Row}
 use Rattle.theory.proofs.TestLaws.{Numbered, unless-numbered, numbered-wider, need-ok, most-passed}
@@ -95,49 +96,49 @@ module _ (bs : List ℕ) where
       go (bad c p) h = h
       go (ok f) h = tt
 
-module _ (bs : List ℕ) (place : ℕ) where
+module _ (o : Order) (bs : List ℕ) (place : ℕ) where
   abbrev Mine : ℕ → ℕ → Type 0
   Mine = RecordRefusal bs place
 
-  found-gives : Gives Mine (recordFound bs place)
+  found-gives : Gives Mine (recordFound o bs place)
   unfolding recordFound
   found-gives =
-      limit-gives (At place (recordNumbers alone)) (length bs) (readRecord alone place (drop place bs))
-      (record-gives alone place (drop place bs))
+      limit-gives (At place (recordNumbers alone)) (length bs) (readRecord o alone place (drop place bs))
+      (record-gives o alone place (drop place bs))
 
   -- What was found was looked for within the limit, so a number of the call's own is given at the place.
-  found-within : (r : Record) → recordFound bs place ≡ ok r → (c : ℕ) → among c (recordNumbers alone) ≡ true → Mine c place
+  found-within : (r : Record) → recordFound o bs place ≡ ok r → (c : ℕ) → among c (recordNumbers alone) ≡ true → Mine c place
   unfolding recordFound
   found-within r e c h =
       within-limit (most-passed (length bs) fileLimit 0 (need-ok (unless (leb (length bs) fileLimit) 1) 0 _ e .0)) (h, refl)
 
-  pub record-numbers : (c p : ℕ) → recordAt bs place ≡ refused c p → RecordRefusal bs place c p
+  pub record-numbers : (c p : ℕ) → recordAt o bs place ≡ refused c p → RecordRefusal bs place c p
   unfolding recordAt
-  record-numbers c p e = subst (Refuses Mine) e (go (recordFound bs place) found-gives)
+  record-numbers c p e = subst (Refuses Mine) e (go (recordFound o bs place) found-gives)
     where
-      go : (r : Res Record) → Gives Mine r → Refuses Mine (recordGiven place r)
+      go : (r : Res Record) → Gives Mine r → Refuses Mine (recordGiven o place r)
       go (bad c p) h = h
       go (ok r) h = tt
 
-  pub setting-numbers : (c p : ℕ) → settingAt bs place ≡ refused c p → RecordRefusal bs place c p
+  pub setting-numbers : (c p : ℕ) → settingAt o bs place ≡ refused c p → RecordRefusal bs place c p
   unfolding settingAt
-  setting-numbers c p e = subst (Refuses Mine) e (go (recordFound bs place) refl found-gives)
+  setting-numbers c p e = subst (Refuses Mine) e (go (recordFound o bs place) refl found-gives)
     where
-      go : (r : Res Record) → recordFound bs place ≡ r → Gives Mine r → Refuses Mine (settingGiven place r)
+      go : (r : Res Record) → recordFound o bs place ≡ r → Gives Mine r → Refuses Mine (settingGiven o place r)
       go (bad c p) q h = h
       go (ok r) q h =
           either Mine (eqb (r .kind) (phononKind .word)) _ _ tt
           (either Mine (eqb (r .kind) (chargeKind .word)) _ (refused 5 place) tt (found-within r q 5 refl))
 
-  pub sample-numbers : (k c p : ℕ) → sampleAt bs place k ≡ refused c p → RecordRefusal bs place c p
+  pub sample-numbers : (k c p : ℕ) → sampleAt o bs place k ≡ refused c p → RecordRefusal bs place c p
   unfolding sampleAt
-  sample-numbers k c p e = subst (Refuses Mine) e (go (recordFound bs place) refl found-gives)
+  sample-numbers k c p e = subst (Refuses Mine) e (go (recordFound o bs place) refl found-gives)
     where
-      go : (r : Res Record) → recordFound bs place ≡ r → Gives Mine r → Refuses Mine (sampleGiven place k r)
+      go : (r : Res Record) → recordFound o bs place ≡ r → Gives Mine r → Refuses Mine (sampleGiven o place k r)
       go (bad c p) q h = h
       go (ok r) q h =
           either Mine (isTrace r) _ (refused 5 place)
-          (either Mine (leb 1 k && leb k (traceOf (r .body) .n)) _ (refused 11 place) tt (found-within r q 11 refl))
+          (either Mine (leb 1 k && leb k (traceOf o (r .body) .n)) _ (refused 11 place) tt (found-within r q 11 refl))
           (found-within r q 5 refl)
 
 -- ---- channels
@@ -188,24 +189,24 @@ room-numbered (tlb f) = refl
 ten : (c : ℕ) → Numbered (10 ∷ []) c → Numbered (10 ∷ 13 ∷ []) c
 ten c h = numbered-wider (10 ∷ []) (10 ∷ 13 ∷ []) c refl h
 
-fault-numbered : (piece : Piece) → Numbered (writerNumbers piece) (writtenOf piece .fault)
+fault-numbered : (o : Order) (piece : Piece) → Numbered (writerNumbers piece) (writtenOf o piece .fault)
 unfolding writtenOf phononWritten chargeWritten administrativeWritten traceWritten historyWritten gpsWritten triggerWritten tlbWritten Numbered
-fault-numbered (phonon f) = ten (phononFault (unsigned (f .code))) (phonon-fault-numbers (unsigned (f .code)))
-fault-numbered (charge f) = ten (chargeFault (unsigned (f .code))) (charge-fault-numbers (unsigned (f .code)))
-fault-numbered (administrative f) = ten (administrativeFault (f .date) (f .clock)) (administrative-fault-numbers (f .date) (f .clock))
-fault-numbered (trace f) = numbered-wider (6 ∷ 10 ∷ 11 ∷ []) (6 ∷ 10 ∷ 11 ∷ 13 ∷ []) (traceFault f) refl (trace-fault-numbers f)
-fault-numbered (history f) = numbered-wider (6 ∷ 10 ∷ []) (6 ∷ 10 ∷ 13 ∷ []) (historyFault f) refl (history-fault-numbers f)
-fault-numbered (gps f) = ten (gpsFault f) (gps-fault-numbers f)
-fault-numbered (trigger f) = tt
-fault-numbered (tlb f) = ten (tlbFault f) (tlb-fault-numbers f)
+fault-numbered o (phonon f) = ten (phononFault (unsigned (f .code))) (phonon-fault-numbers (unsigned (f .code)))
+fault-numbered o (charge f) = ten (chargeFault (unsigned (f .code))) (charge-fault-numbers (unsigned (f .code)))
+fault-numbered o (administrative f) = ten (administrativeFault (f .date) (f .clock)) (administrative-fault-numbers (f .date) (f .clock))
+fault-numbered o (trace f) = numbered-wider (6 ∷ 10 ∷ 11 ∷ []) (6 ∷ 10 ∷ 11 ∷ 13 ∷ []) (traceFault f) refl (trace-fault-numbers f)
+fault-numbered o (history f) = numbered-wider (6 ∷ 10 ∷ []) (6 ∷ 10 ∷ 13 ∷ []) (historyFault f) refl (history-fault-numbers f)
+fault-numbered o (gps f) = ten (gpsFault f) (gps-fault-numbers f)
+fault-numbered o (trigger f) = tt
+fault-numbered o (tlb f) = ten (tlbFault f) (tlb-fault-numbers f)
 
-pub writer-numbers : (piece : Piece) (out : List ℕ) (place c p : ℕ) → recordWrote out place (writtenOf piece) ≡ bad c p
+pub writer-numbers : (o : Order) (piece : Piece) (out : List ℕ) (place c p : ℕ) → recordWrote out place (writtenOf o piece) ≡ bad c p
     → WriterRefusal out place (writerNumbers piece) c p
 unfolding recordWrote
-writer-numbers piece out place c p e =
+writer-numbers o piece out place c p e =
     subst (Gives (WriterRefusal out place (writerNumbers piece))) e
-    (wrote-gives (length out) place (writtenOf piece .fault) (length (writtenOf piece .bytes)) (writerNumbers piece)
-    (room-numbered piece) (fault-numbered piece))
+    (wrote-gives (length out) place (writtenOf o piece .fault) (length (writtenOf o piece .bytes)) (writerNumbers piece)
+    (room-numbered piece) (fault-numbered o piece))
 
 pub header-numbers : (out : List ℕ) (c p : ℕ) → headerWrote out ≡ bad c p → WriterRefusal out 0 (13 ∷ []) c p
 unfolding headerWrote Numbered
@@ -213,7 +214,7 @@ header-numbers out c p e = subst (Gives (WriterRefusal out 0 (13 ∷ []))) e (wr
 
 -- ---- the closings and Rewrite
 
-module _ (out : List ℕ) (place end : ℕ) where
+module _ (o : Order) (out : List ℕ) (place end : ℕ) where
   -- 1 and 13, before what a container asks.
   within-gives : (own contents : List ℕ) (r : Res ℕ) → among 13 own ≡ true → Gives (ContainerNumbers place own contents) r
       → Gives (Refusal (length out) (ContainerNumbers place own contents)) (within (length out) place end r)
@@ -229,22 +230,22 @@ module _ (out : List ℕ) (place end : ℕ) where
       (λ b. need-gives P own (unless (leb (place + 8) end) 13) place r (unless-numbered own (leb (place + 8) end) 13 h) mine (λ c. g))))
 
   contents-give : (own : List ℕ) (context : Context) → Gives (ContainerNumbers place own (recordNumbers context))
-      (ended end (readRecords context (place + 8) (contentsOf out place end)))
+      (ended end (readRecords o context (place + 8) (contentsOf out place end)))
   contents-give own context =
       let P : ℕ → ℕ → Type 0 = ContainerNumbers place own (recordNumbers context) in
-      let r : Res (List Record) = readRecords context (place + 8) (contentsOf out place end) in
+      let r : Res (List Record) = readRecords o context (place + 8) (contentsOf out place end) in
       bind-gives P r (λ rs. ok end)
-      (gives-wider (From (place + 8) (recordNumbers context)) P r (λ c p h. inside h) (records-give context (place + 8) (contentsOf out place end)))
+      (gives-wider (From (place + 8) (recordNumbers context)) P r (λ c p h. inside h) (records-give o context (place + 8) (contentsOf out place end)))
       (λ rs. tt)
 
-  pub configuration-closing-numbers : (c p : ℕ) → configurationClosed out place end ≡ bad c p
+  pub configuration-closing-numbers : (c p : ℕ) → configurationClosed o out place end ≡ bad c p
       → ClosingRefusal out place configurationClosingNumbers entry c p
   unfolding configurationClosed
   configuration-closing-numbers c p e =
       subst (Gives (ClosingRefusal out place configurationClosingNumbers entry)) e
       (within-gives configurationClosingNumbers (recordNumbers entry) _ refl (contents-give configurationClosingNumbers entry))
 
-  pub event-closing-numbers : (class category type c p : ℕ) → eventClosed out place end class category type ≡ bad c p
+  pub event-closing-numbers : (class category type c p : ℕ) → eventClosed o out place end class category type ≡ bad c p
       → ClosingRefusal out place eventClosingNumbers (event none) c p
   unfolding eventClosed
   event-closing-numbers class category type c p e =
@@ -253,7 +254,7 @@ module _ (out : List ℕ) (place end : ℕ) where
       let mine : (c : ℕ) → among c own ≡ true → P c place = λ c a. itself (a, refl) in
       let fault : ℕ = eventFault class category type in
       let some : Bool = leb (place + 9) end in
-      let contents : Res ℕ = ended end (readRecords (event none) (place + 8) (contentsOf out place end)) in
+      let contents : Res ℕ = ended end (readRecords o (event none) (place + 8) (contentsOf out place end)) in
       let full : Res ℕ = need (unless some 9) place contents in
       subst (Gives (ClosingRefusal out place own (event none))) e
       (within-gives own (recordNumbers (event none)) (need fault place full) refl

@@ -7,20 +7,20 @@ use native.Mathlib.Omega.{arith}
 use lib.Dec.{leb}
 use lib.ListN.{length, take, drop, length-append, length-take, length-drop, take-append-drop}
 use lib.Seq.{take-at, drop-at, drop-drop, take-take, length-take-le}
+use Rattle.theory.specs.declared.Order.{Order}
 use Rattle.theory.specs.Words.{put}
 use Rattle.theory.specs.Structures.{Structure, structureBytes}
 use Rattle.theory.specs.Tests.{Res, ok, bad, unless}
 use Rattle.theory.proofs.TestLaws.{need-ok, most-passed, most-passes, ok-inj}
 use Rattle.note.specs.Limits.{fileLimit}
-use Rattle.note.specs.Words.{order}
 use Rattle.note.specs.Writers.{wrote, written, contentsOf}
 use Rattle.demands.specs.Outputs.{Laid}
 
 -- A structure's bytes in front of others: its two words, its body, the others.
-pub structure-apart : {B : Type 0} (bodyBytes : B → List ℕ) (c : Structure B) (rest : List ℕ)
-    → structureBytes order bodyBytes c ++ rest
-    ≡ put order 4 (c .kind) ++ (put order 4 (length (bodyBytes (c .body))) ++ (bodyBytes (c .body) ++ rest))
-structure-apart bodyBytes c rest = simp append-assoc
+pub structure-apart : (o : Order) {B : Type 0} (bodyBytes : B → List ℕ) (c : Structure B) (rest : List ℕ)
+    → structureBytes o bodyBytes c ++ rest
+    ≡ put o 4 (c .kind) ++ (put o 4 (length (bodyBytes (c .body))) ++ (bodyBytes (c .body) ++ rest))
+structure-apart o bodyBytes c rest = simp append-assoc
 
 -- ---- what an output is made of
 

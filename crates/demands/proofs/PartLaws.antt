@@ -10,12 +10,13 @@ use lib.Dec.{leb}
 use lib.IntN.{pos, negsuc}
 use lib.ListN.{length, take, drop, getD, take-append-drop, length-take, length-drop}
 use lib.Seq.{take-all, take-append-le, drop-append-le, drop-drop, getD-take, getD-drop}
+use Rattle.theory.specs.declared.Order.{Order}
 use Rattle.theory.specs.Words.{wordAt}
 use Rattle.theory.specs.Tests.{Res, ok, bad, unless}
 use Rattle.theory.proofs.TestLaws.{need-ok, ok-inj}
 use Rattle.theory.proofs.StructureLaws.{opens, ruled}
 use Rattle.note.specs.Limits.{fileLimit}
-use Rattle.note.specs.Words.{order, word}
+use Rattle.note.specs.Words.{word}
 use Rattle.note.specs.Answers.{whole, float, Given, accepted, refused, count, counts}
 use Rattle.note.specs.Trace.{traceKind, traceRule}
 use Rattle.note.specs.History.{historyKind, historyRule, widthAt, widthOf, after, triggerAt, sectionValues}
@@ -29,13 +30,13 @@ use Rattle.demands.specs.Edited.{SameSection, SameLists}
 use Rattle.demands.proofs.Bundles.{same-record}
 use Rattle.demands.proofs.RecordLaws.{found-body}
 
-module _ (bs : List ℕ) (place : ℕ) (r : Record) (found : recordFound bs place ≡ ok r) where
+module _ (o : Order) (bs : List ℕ) (place : ℕ) (r : Record) (found : recordFound o bs place ≡ ok r) where
   -- n bytes of the body, from its byte q on, are the file's
   pub part-found : (q n : ℕ) → q + n ≤ length (r .body) → take n (drop (place + 8 + q) bs) ≡ take n (drop q (r .body))
   part-found q n l =
-      let w : ℕ = wordAt order 4 4 (drop place bs) in
+      let w : ℕ = wordAt o 4 4 (drop place bs) in
       let behind : List ℕ = drop 8 (drop place bs) in
-      let is : r .body ≡ take w behind = found-body bs place r found in
+      let is : r .body ≡ take w behind = found-body o bs place r found in
       let size : length (r .body) ≡ length (take w behind) = ap length is in
       let there : drop q behind ≡ drop (place + 8 + q) bs =
       ap (drop q) (drop-drop 8 place bs) ∙ drop-drop q (place + 8) bs in
@@ -46,8 +47,8 @@ module _ (bs : List ℕ) (place : ℕ) (r : Record) (found : recordFound bs plac
   -- one of its bytes
   pub byte-found : (m : ℕ) → m < length (r .body) → getD (r .body) m 0 ≡ getD bs (place + 8 + m) 0
   byte-found m l =
-      let n : ℕ = wordAt order 4 4 (drop place bs) in
-      let is : r .body ≡ take n (drop 8 (drop place bs)) = found-body bs place r found in
+      let n : ℕ = wordAt o 4 4 (drop place bs) in
+      let is : r .body ≡ take n (drop 8 (drop place bs)) = found-body o bs place r found in
       let below : m < n = omega (arith, ap length is, length-take n (drop 8 (drop place bs))) in
       ap (λ (b : List ℕ). getD b m 0) is
       ∙ getD-take n (drop 8 (drop place bs)) m 0 below
@@ -55,15 +56,16 @@ module _ (bs : List ℕ) (place : ℕ) (r : Record) (found : recordFound bs plac
       ∙ getD-drop (place + 8) bs m 0
 
   -- what was found follows its kind's rule
-  pub rule-found : recordRule (r .kind) (r .body) ≡ 0
+  pub rule-found : recordRule o (r .kind) (r .body) ≡ 0
   unfolding recordFound
   rule-found =
       let from : List ℕ = drop place bs in
-      let (l, q) = need-ok (unless (leb (length bs) fileLimit) 1) 0 (readRecord alone place from) found in
-      let o = opens order recordHead recordLate (ruled (λ s. recordRule (s .1)) .read) alone place from r (sym (same-record alone place from) ∙ q) in
-      let b : List ℕ = take (wordAt order 4 4 from) (drop 8 from) in
-      let (passed, same) = need-ok (recordRule (wordAt order 4 0 from) b) place (ok b) (o .body-is) in
-      rw (o .kind-is) (subst (λ (x : List ℕ). recordRule (wordAt order 4 0 from) x ≡ 0) (ok-inj same) passed)
+      let (l, q) = need-ok (unless (leb (length bs) fileLimit) 1) 0 (readRecord o alone place from) found in
+      let shown =
+      opens o recordHead recordLate (ruled (λ s. recordRule o (s .1)) .read) alone place from r (sym (same-record o alone place from) ∙ q) in
+      let b : List ℕ = take (wordAt o 4 4 from) (drop 8 from) in
+      let (passed, same) = need-ok (recordRule o (wordAt o 4 0 from) b) place (ok b) (shown .body-is) in
+      rw (shown .kind-is) (subst (λ (x : List ℕ). recordRule o (wordAt o 4 0 from) x ≡ 0) (ok-inj same) passed)
 
 -- ---- the samples
 
@@ -72,14 +74,14 @@ abbrev pub samplesGiven : Res Record → List ℕ
 samplesGiven (bad c p) = []
 samplesGiven (ok r) = cond (isTrace r) (drop 48 (r .body)) []
 
-pub samples-given : (bs : List ℕ) (place : ℕ) → samplesAt bs place ≡ samplesGiven (recordFound bs place)
+pub samples-given : (o : Order) (bs : List ℕ) (place : ℕ) → samplesAt o bs place ≡ samplesGiven (recordFound o bs place)
 unfolding samplesAt samplesPart kindOf
-samples-given bs place = go (recordFound bs place) refl
+samples-given o bs place = go (recordFound o bs place) refl
   where
     cut : ℕ × ℕ → List ℕ
     cut s = take (s .1) (drop (s .0) bs)
 
-    go : (s : Res Record) → recordFound bs place ≡ s → cut (partGiven place s) ≡ samplesGiven s
+    go : (s : Res Record) → recordFound o bs place ≡ s → cut (partGiven place s) ≡ samplesGiven s
     go (bad c p) e = refl
     go (ok r) e = trace (isTrace r) refl
       where
@@ -89,19 +91,19 @@ samples-given bs place = go (recordFound bs place) refl
         trace : (t : Bool) → isTrace r ≡ t → cut (cond t (place + 56, n) (0, 0)) ≡ cond t (drop 48 (r .body)) []
         trace false k = refl
         trace true k =
-            let passes : traceRule (r .body) ≡ 0 =
-            subst (λ (w : ℕ). recordRule w (r .body) ≡ 0) (eqb-true (r .kind) (traceKind .word) k) (rule-found bs place r e) in
-            let size : length (r .body) ≡ 48 + 2 * word 44 (r .body) = trace-length (r .body) passes .0 in
+            let passes : traceRule o (r .body) ≡ 0 =
+            subst (λ (w : ℕ). recordRule o w (r .body) ≡ 0) (eqb-true (r .kind) (traceKind .word) k) (rule-found o bs place r e) in
+            let size : length (r .body) ≡ 48 + 2 * word o 44 (r .body) = trace-length o (r .body) passes .0 in
             let from : place + 56 ≡ place + 8 + 48 = omega arith in
             let short : length (drop 48 (r .body)) ≤ n = omega (arith, length-drop 48 (r .body)) in
-            ap (λ (p : ℕ). take n (drop p bs)) from ∙ part-found bs place r e 48 n (omega arith) ∙ take-all n (drop 48 (r .body)) short
+            ap (λ (p : ℕ). take n (drop p bs)) from ∙ part-found o bs place r e 48 n (omega arith) ∙ take-all n (drop 48 (r .body)) short
 
 -- Where the same is found in both files, Samples gives the same part of both, with the same bytes.
-pub samples-stay : (bs bs′ : List ℕ) (place : ℕ) → recordFound bs′ place ≡ recordFound bs place
-    → (samplesPart bs′ place ≡ samplesPart bs place) × (samplesAt bs′ place ≡ samplesAt bs place)
+pub samples-stay : (o : Order) (bs bs′ : List ℕ) (place : ℕ) → recordFound o bs′ place ≡ recordFound o bs place
+    → (samplesPart o bs′ place ≡ samplesPart o bs place) × (samplesAt o bs′ place ≡ samplesAt o bs place)
 unfolding samplesPart
-samples-stay bs bs′ place same =
-    (ap (partGiven place) same, samples-given bs′ place ∙ ap samplesGiven same ∙ sym (samples-given bs place))
+samples-stay o bs bs′ place same =
+    (ap (partGiven place) same, samples-given o bs′ place ∙ ap samplesGiven same ∙ sym (samples-given o bs place))
 
 -- ---- a history's lists
 
@@ -121,48 +123,49 @@ history-kind k =
     (λ e. absurd (omega arith)) (λ e. absurd (omega arith)) (λ e. absurd (omega arith)) (λ e. absurd (omega arith))
 
 -- Where the same record is found in both files, a section of it has the same lists.
-module _ (bs bs′ : List ℕ) (place : ℕ) (r : Record) (was : recordFound bs place ≡ ok r) (is : recordFound bs′ place ≡ ok r) where
+module _ (o : Order) (bs bs′ : List ℕ) (place : ℕ) (r : Record) (was : recordFound o bs place ≡ ok r) (is : recordFound o bs′ place ≡ ok r) where
   same-part : (q n : ℕ) → q + n ≤ length (r .body) → take n (drop (place + 8 + q) bs′) ≡ take n (drop (place + 8 + q) bs)
-  same-part q n l = part-found bs′ place r is q n l ∙ sym (part-found bs place r was q n l)
+  same-part q n l = part-found o bs′ place r is q n l ∙ sym (part-found o bs place r was q n l)
 
-  same-section : (p : ℕ) → after p (r .body) ≤ length (r .body)
-      → SameSection bs bs′ (word p (r .body)) (place + 8 + (p + 4)) (widthOf p (r .body)) (place + 8 + (widthAt p (r .body) + 4))
+  same-section : (p : ℕ) → after o p (r .body) ≤ length (r .body)
+      → SameSection bs bs′ (word o p (r .body)) (place + 8 + (p + 4)) (widthOf o p (r .body)) (place + 8 + (widthAt o p (r .body) + 4))
   unfolding after widthAt
   same-section p l = let b : List ℕ = r .body in (
-    same-part (p + 4) (4 * word p b) (omega arith),
-    same-part (p + 4 + 4 * word p b + 4) (4 * (word p b * widthOf p b)) (omega arith),
+    same-part (p + 4) (4 * word o p b) (omega arith),
+    same-part (p + 4 + 4 * word o p b + 4) (4 * (word o p b * widthOf o p b)) (omega arith),
   )
 
-  same-lists : kindOf (r .kind) .row ≡ 8 → SameLists bs bs′ place
+  same-lists : kindOf (r .kind) .row ≡ 8 → SameLists o bs bs′ place
   unfolding recordAt sectionValues kindOf
   same-lists e n t w m n′ t′ w′ m′ given =
       let k : r .kind ≡ historyKind .word = history-kind (r .kind) e in
       let b : List ℕ = r .body in
-      let passes : historyRule b ≡ 0 = subst (λ (q : ℕ). recordRule q b ≡ 0) k (rule-found bs place r was) in
-      let (room, end) = history-ends b passes in
-      let ns : List ℕ = 8 ∷ (sectionValues (place + 8) 0 b ++ sectionValues (place + 8) (triggerAt b) b) in
-      let told : recordAt bs place ≡ accepted (counts ns) = rw (was, k) in
+      let passes : historyRule o b ≡ 0 = subst (λ (q : ℕ). recordRule o q b ≡ 0) k (rule-found o bs place r was) in
+      let (room, end) = history-ends o b passes in
+      let ns : List ℕ = 8 ∷ (sectionValues o (place + 8) 0 b ++ sectionValues o (place + 8) (triggerAt o b) b) in
+      let told : recordAt o bs place ≡ accepted (counts ns) = rw (was, k) in
       let same = counts-determined ns (8 ∷ n ∷ t ∷ w ∷ m ∷ n′ ∷ t′ ∷ w′ ∷ m′ ∷ []) (sym told ∙ given) in
       subst (λ (ns : List ℕ). SameSection bs bs′ (getD ns 1 0) (getD ns 2 0) (getD ns 3 0) (getD ns 4 0)
       × SameSection bs bs′ (getD ns 5 0) (getD ns 6 0) (getD ns 7 0) (getD ns 8 0)) same
-      (same-section 0 room, same-section (triggerAt b) (omega arith))
+      (same-section 0 room, same-section (triggerAt o b) (omega arith))
 
 -- Where the same is found in both files, a history there has the same lists.
-pub lists-stay : (bs bs′ : List ℕ) (place : ℕ) → recordFound bs′ place ≡ recordFound bs place → SameLists bs bs′ place
+pub lists-stay : (o : Order) (bs bs′ : List ℕ) (place : ℕ) → recordFound o bs′ place ≡ recordFound o bs place → SameLists o bs bs′ place
 unfolding recordAt
-lists-stay bs bs′ place same = go (recordFound bs place) refl
+lists-stay o bs bs′ place same = go (recordFound o bs place) refl
   where
-    go : (s : Res Record) → recordFound bs place ≡ s → SameLists bs bs′ place
+    go : (s : Res Record) → recordFound o bs place ≡ s → SameLists o bs bs′ place
     go (bad c p) e n t w m n′ t′ w′ m′ given =
-        let both : _≡_ {A = ℕ} 0 8 = ap firstNumber (sym (ap (recordGiven place) e) ∙ given) in
+        let both : _≡_ {A = ℕ} 0 8 = ap firstNumber (sym (ap (recordGiven o place) e) ∙ given) in
         absurd (omega arith)
     go (ok r) e n t w m n′ t′ w′ m′ given =
-        same-lists bs bs′ place r e (same ∙ e) (ap firstNumber (sym (ap (recordGiven place) e) ∙ given)) n t w m n′ t′ w′ m′ given
+        same-lists o bs bs′ place r e (same ∙ e) (ap firstNumber (sym (ap (recordGiven o place) e) ∙ given)) n t w m n′ t′ w′ m′ given
 
 -- Where a trace is found Record's answer is no history's.
-pub trace-lists : (bs bs′ : List ℕ) (place : ℕ) (r : Record) → recordFound bs place ≡ ok r → r .kind ≡ traceKind .word → SameLists bs bs′ place
+pub trace-lists : (o : Order) (bs bs′ : List ℕ) (place : ℕ) (r : Record) → recordFound o bs place ≡ ok r → r .kind ≡ traceKind .word
+    → SameLists o bs bs′ place
 unfolding recordAt kindOf
-trace-lists bs bs′ place r e k n t w m n′ t′ w′ m′ given =
-    let told : recordAt bs place ≡ accepted (count 7 ∷ traceKind .values place (r .body)) = rw (e, k) in
+trace-lists o bs bs′ place r e k n t w m n′ t′ w′ m′ given =
+    let told : recordAt o bs place ≡ accepted (count 7 ∷ traceKind .values o place (r .body)) = rw (e, k) in
     let both : _≡_ {A = ℕ} 7 8 = ap firstNumber (sym told ∙ given) in
     absurd (omega arith)

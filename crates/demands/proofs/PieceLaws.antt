@@ -6,10 +6,11 @@ use mathlib.Core.List.{List, _∷_}
 use Prim.Native.Nat.{ℕ, _+_, _≤_}
 use native.Mathlib.Omega.{arith}
 use lib.ListN.{length}
+use Rattle.theory.specs.declared.Order.{Order}
 use Rattle.theory.specs.Words.{Bytes}
 use Rattle.theory.proofs.WordLaws.{word-fits}
 use Rattle.theory.proofs.TestLaws.{first-at, equal-passed}
-use Rattle.note.specs.Words.{order, word, signed, unsigned}
+use Rattle.note.specs.Words.{word, signed, unsigned}
 use Rattle.note.specs.Kinds.{Kind}
 use Rattle.note.specs.Answers.{Value, accepted, count}
 use Rattle.note.specs.Phonon.{phononKind, phononOf, phononRule}
@@ -31,73 +32,73 @@ use Rattle.demands.specs.Pieces.{Piece, phonon, charge, administrative, 
 use Rattle.demands.specs.RowContents.{rowKind, rowValues}
 use Rattle.demands.proofs.WriterLaws.{history-answer}
 
-module _ (place : ℕ) (b : List ℕ) (h : Bytes b) where
+module _ (o : Order) (place : ℕ) (b : List ℕ) (h : Bytes b) where
   -- The body b under the kind word w of kind x, at the place: its fields, what they make, what they answer, what its row says.
   pub record Shown (w : ℕ) (x : Kind) : Type 0 where
     pub fields : Piece
-    pub made : recordOf fields ≡ record { kind = w; body = b }
-    pub answer : accepted (count (x .row) ∷ x .values place b) ≡ answerOf place fields
+    pub made : recordOf o fields ≡ record { kind = w; body = b }
+    pub answer : accepted (count (x .row) ∷ x .values o place b) ≡ answerOf place fields
     pub kind : x .row ≡ rowKind fields
-    pub one : x .one b ≡ rowValues fields .0
-    pub two : x .two b ≡ rowValues fields .1
+    pub one : x .one o b ≡ rowValues o fields .0
+    pub two : x .two o b ≡ rowValues o fields .1
 
-  shows : {w : ℕ} {x : Kind} (p : Piece) → recordOf p ≡ record { kind = w; body = b }
-      → accepted (count (x .row) ∷ x .values place b) ≡ answerOf place p
-      → x .row ≡ rowKind p → x .one b ≡ rowValues p .0 → x .two b ≡ rowValues p .1 → Shown w x
+  shows : {w : ℕ} {x : Kind} (p : Piece) → recordOf o p ≡ record { kind = w; body = b }
+      → accepted (count (x .row) ∷ x .values o place b) ≡ answerOf place p
+      → x .row ≡ rowKind p → x .one o b ≡ rowValues o p .0 → x .two o b ≡ rowValues o p .1 → Shown w x
   shows p m a k v w = record { fields = p; made = m; answer = a; kind = k; one = v; two = w }
 
   -- A word that was read as signed is the same word.
-  word-again : (p : ℕ) → p + 4 ≤ length b → word p b ≡ unsigned (signed (word p b))
-  word-again p l = sym (signed-again (word p b) (word-fits order 4 p b h l))
+  word-again : (p : ℕ) → p + 4 ≤ length b → word o p b ≡ unsigned (signed (word o p b))
+  word-again p l = sym (signed-again (word o p b) (word-fits o 4 p b h l))
 
-  phonon-shown : phononRule b ≡ 0 → Shown (phononKind .word) phononKind
+  phonon-shown : phononRule o b ≡ 0 → Shown (phononKind .word) phononKind
   unfolding recordOf answerOf rowKind rowValues phononOf phononRule
   phonon-shown e =
       let size : length b ≡ 44 = equal-passed (length b) 44 5 (first-at _ e 0) in
-      shows (phonon (phononOf b)) (ap (ofKind phononKind) (phonon-restored b h e)) refl refl
+      shows (phonon (phononOf o b)) (ap (ofKind phononKind) (phonon-restored o b h e)) refl refl
       (word-again 0 (omega arith)) (word-again 4 (omega arith))
 
-  charge-shown : chargeRule b ≡ 0 → Shown (chargeKind .word) chargeKind
+  charge-shown : chargeRule o b ≡ 0 → Shown (chargeKind .word) chargeKind
   unfolding recordOf answerOf rowKind rowValues chargeOf chargeRule
   charge-shown e =
       let size : length b ≡ 32 = equal-passed (length b) 32 5 (first-at _ e 0) in
-      shows (charge (chargeOf b)) (ap (ofKind chargeKind) (charge-restored b h e)) refl refl
+      shows (charge (chargeOf o b)) (ap (ofKind chargeKind) (charge-restored o b h e)) refl refl
       (word-again 0 (omega arith)) (word-again 4 (omega arith))
 
-  administrative-shown : administrativeRule b ≡ 0 → Shown (administrativeKind .word) administrativeKind
+  administrative-shown : administrativeRule o b ≡ 0 → Shown (administrativeKind .word) administrativeKind
   unfolding recordOf answerOf rowKind rowValues administrativeOf
   administrative-shown e =
-      shows (administrative (administrativeOf b)) (ap (ofKind administrativeKind) (administrative-restored b h e)) refl refl refl refl
+      shows (administrative (administrativeOf o b)) (ap (ofKind administrativeKind) (administrative-restored o b h e)) refl refl refl refl
 
-  trace-shown : traceRule b ≡ 0 → Shown (traceKind .word) traceKind
+  trace-shown : traceRule o b ≡ 0 → Shown (traceKind .word) traceKind
   unfolding recordOf answerOf rowKind rowValues traceOf
-  trace-shown e = shows (trace (traceOf b)) (ap (ofKind traceKind) (trace-restored b h e)) refl refl refl refl
+  trace-shown e = shows (trace (traceOf o b)) (ap (ofKind traceKind) (trace-restored o b h e)) refl refl refl refl
 
-  history-shown : historyRule b ≡ 0 → Shown (historyKind .word) historyKind
+  history-shown : historyRule o b ≡ 0 → Shown (historyKind .word) historyKind
   unfolding recordOf answerOf rowKind rowValues historyOf sectionOf
   history-shown e =
-      let same = history-restored b h e in
-      shows (history (historyOf b)) (ap (ofKind historyKind) same)
+      let same = history-restored o b h e in
+      shows (history (historyOf o b)) (ap (ofKind historyKind) same)
       (ap (λ (vs : List Value). accepted (count 8 ∷ vs))
-      (ap (historyKind .values place) (sym same) ∙ history-answer place (historyOf b) (history-faultless b e)))
+      (ap (historyKind .values o place) (sym same) ∙ history-answer o place (historyOf o b) (history-faultless o b e)))
       refl refl refl
 
-  gps-shown : gpsRule b ≡ 0 → Shown (gpsKind .word) gpsKind
+  gps-shown : gpsRule o b ≡ 0 → Shown (gpsKind .word) gpsKind
   unfolding recordOf answerOf rowKind rowValues
   gps-shown e =
-      let same = gps-restored b h e in
-      shows (gps (gpsOf b)) (ap (ofKind gpsKind) same) refl refl (ap (word 0) (sym same)) (ap (word 4) (sym same))
+      let same = gps-restored o b h e in
+      shows (gps (gpsOf o b)) (ap (ofKind gpsKind) same) refl refl (ap (word o 0) (sym same)) (ap (word o 4) (sym same))
 
-  trigger-shown : triggerRule b ≡ 0 → Shown (triggerKind .word) triggerKind
+  trigger-shown : triggerRule o b ≡ 0 → Shown (triggerKind .word) triggerKind
   unfolding recordOf answerOf rowKind rowValues triggerOf
-  trigger-shown e = shows (trigger (triggerOf b)) (ap (ofKind triggerKind) (trigger-restored b h e)) refl refl refl refl
+  trigger-shown e = shows (trigger (triggerOf o b)) (ap (ofKind triggerKind) (trigger-restored o b h e)) refl refl refl refl
 
-  tlb-shown : tlbRule b ≡ 0 → Shown (tlbKind .word) tlbKind
+  tlb-shown : tlbRule o b ≡ 0 → Shown (tlbKind .word) tlbKind
   unfolding recordOf answerOf rowKind rowValues tlbOf
-  tlb-shown e = shows (tlb (tlbOf b)) (ap (ofKind tlbKind) (tlb-restored b h e)) refl refl refl refl
+  tlb-shown e = shows (tlb (tlbOf o b)) (ap (ofKind tlbKind) (tlb-restored o b h e)) refl refl refl refl
 
-  pub shown : (k : ℕ) → recordRule k b ≡ 0 → Shown k (kindOf k)
+  pub shown : (k : ℕ) → recordRule o k b ≡ 0 → Shown k (kindOf k)
   shown k =
-      kind-cases (λ w x. x .rule b ≡ 0 → Shown w x) k
+      kind-cases (λ w x. x .rule o b ≡ 0 → Shown w x) k
       phonon-shown charge-shown administrative-shown trace-shown history-shown gps-shown trigger-shown tlb-shown
       (λ e. absurd (omega arith))

@@ -14,12 +14,11 @@ use Rattle.theory.specs.Tests.{Res, ok, bad, need, bind, unless, among}
 use Rattle.theory.specs.Structures.{Structure, readStructure, readSequence, readPair, readWords}
 use Rattle.theory.proofs.TestLaws.{Numbered, unless-numbered, unless-zero, numbered-wider, among-wider}
 use Rattle.note.specs.Limits.{fileLimit}
-use Rattle.note.specs.Words.{order}
 use Rattle.note.specs.Records.{Record, Context, entry, event, alone, none, isKind, isAllowed, entryKinds}
 use Rattle.note.specs.Records.{recordHead, recordLate, recordRule, recordStep, recordSize, behind, readRecord, readRecords}
 use Rattle.note.specs.Events.{Container, containerSize, eventHead, eventLate, eventStep, readEvent, readEvents}
-use Rattle.note.specs.Files.{fileMark, format, versionRule, configurationWord, configurationHead, configurationLate}
-use Rattle.note.specs.Files.{readHeader, readConfiguration, readParts, readFile}
+use Rattle.note.specs.Files.{orderOf, fileMark, format, versionRule, configurationWord, configurationHead, configurationLate}
+use Rattle.note.specs.Files.{Parts, File, readHeader, readConfiguration, readParts, readFile}
 use Rattle.note.proofs.BoolLaws.{among-tells, upTo, one-up-to}
 use Rattle.note.proofs.RuleNumbers.{rule-numbers, entry-rule-numbers, event-word-numbers}
 use Rattle.demands.specs.Refusals.{Refusal, too-long, within-limit}
@@ -102,26 +101,26 @@ record-late-numbers entry w n = tt
 record-late-numbers (event seen) w n = unless-numbered _ (isAllowed (event seen) w) 9 refl
 record-late-numbers alone w n = tt
 
-record-rule-numbers : (c : Context) (w : ℕ) (b : List ℕ) → recordHead c w ≡ 0 → Numbered (recordNumbers c) (recordRule w b)
+record-rule-numbers : (o : Order) (c : Context) (w : ℕ) (b : List ℕ) → recordHead c w ≡ 0 → Numbered (recordNumbers c) (recordRule o w b)
 unfolding isKind
-record-rule-numbers entry w b h =
-    numbered-wider (5 ∷ 6 ∷ 10 ∷ []) _ (recordRule w b) refl (entry-rule-numbers w b (unless-zero (among w entryKinds) 5 (omega arith) h))
-record-rule-numbers (event seen) w b h = numbered-wider (5 ∷ 6 ∷ 10 ∷ 11 ∷ []) _ (recordRule w b) refl (rule-numbers w b)
-record-rule-numbers alone w b h = numbered-wider (5 ∷ 6 ∷ 10 ∷ 11 ∷ []) _ (recordRule w b) refl (rule-numbers w b)
+record-rule-numbers o entry w b h =
+    numbered-wider (5 ∷ 6 ∷ 10 ∷ []) _ (recordRule o w b) refl (entry-rule-numbers o w b (unless-zero (among w entryKinds) 5 (omega arith) h))
+record-rule-numbers o (event seen) w b h = numbered-wider (5 ∷ 6 ∷ 10 ∷ 11 ∷ []) _ (recordRule o w b) refl (rule-numbers o w b)
+record-rule-numbers o alone w b h = numbered-wider (5 ∷ 6 ∷ 10 ∷ 11 ∷ []) _ (recordRule o w b) refl (rule-numbers o w b)
 
 two-among : (c : Context) → among 2 (recordNumbers c) ≡ true
 two-among entry = refl
 two-among (event seen) = refl
 two-among alone = refl
 
-pub record-gives : (c : Context) (at : ℕ) (bs : List ℕ) → Gives (At at (recordNumbers c)) (readRecord c at bs)
+pub record-gives : (o : Order) (c : Context) (at : ℕ) (bs : List ℕ) → Gives (At at (recordNumbers c)) (readRecord o c at bs)
 unfolding readRecord
-record-gives c at bs =
+record-gives o c at bs =
     let P : ℕ → ℕ → Type 0 = At at (recordNumbers c) in
     let own : (n : ℕ) → among n (recordNumbers c) ≡ true → P n at = λ n h. (h, refl) in
-    structure-gives order recordHead recordLate (λ s at b. need (recordRule (s .1) b) at (ok b)) P (recordNumbers c) (two-among c) c
+    structure-gives o recordHead recordLate (λ s at b. need (recordRule o (s .1) b) at (ok b)) P (recordNumbers c) (two-among c) c
     (record-head-numbers c) (record-late-numbers c) at bs own
-    (λ w part h. need-gives P (recordNumbers c) (recordRule w part) at (ok part) (record-rule-numbers c w part h) own (λ e. tt))
+    (λ w part h. need-gives P (recordNumbers c) (recordRule o w part) at (ok part) (record-rule-numbers o c w part h) own (λ e. tt))
 
 -- A context stays of its sort.
 numbers-stay : (c : Context) (k : ℕ) → recordNumbers (behind c k) ≡ recordNumbers c
@@ -130,74 +129,75 @@ numbers-stay entry k = refl
 numbers-stay (event seen) k = refl
 numbers-stay alone k = refl
 
-pub records-give : (c : Context) (at : ℕ) (bs : List ℕ) → Gives (From at (recordNumbers c)) (readRecords c at bs)
+pub records-give : (o : Order) (c : Context) (at : ℕ) (bs : List ℕ) → Gives (From at (recordNumbers c)) (readRecords o c at bs)
 unfolding readRecords
-records-give c at bs =
+records-give o c at bs =
     let P : ℕ → ℕ → Type 0 = From at (recordNumbers c) in
     let Reached : Context → ℕ → Type 0 = λ s q. (recordNumbers s ≡ recordNumbers c) × (at ≤ q) in
-    sequence-gives recordStep recordSize readRecord P Reached
+    sequence-gives recordStep recordSize (readRecord o) P Reached
     (λ s q r h. (numbers-stay s (r .kind) ∙ h .0, omega (arith, h .1)))
-    (λ s q bs h. gives-wider (At q (recordNumbers s)) P (readRecord s q bs)
-    (λ n p e. (subst (λ (ns : List ℕ). among n ns ≡ true) (h .0) (e .0), omega (arith, e .1, h .1))) (record-gives s q bs))
+    (λ s q bs h. gives-wider (At q (recordNumbers s)) P (readRecord o s q bs)
+    (λ n p e. (subst (λ (ns : List ℕ). among n ns ≡ true) (h .0) (e .0), omega (arith, e .1, h .1))) (record-gives o s q bs))
     (length bs) c at bs (refl, omega arith)
 
 -- Any container of records.
-container-gives : (head : Unit {0} → ℕ → ℕ) (late : Unit {0} → ℕ → ℕ → ℕ) (c : Context) (own : List ℕ) → among 2 own ≡ true
+container-gives : (o : Order) (head : Unit {0} → ℕ → ℕ) (late : Unit {0} → ℕ → ℕ → ℕ) (c : Context) (own : List ℕ) → among 2 own ≡ true
     → ((w : ℕ) → Numbered own (head tt w)) → ((w n : ℕ) → Numbered own (late tt w n)) → (s : Unit {0}) (at : ℕ) (bs : List ℕ)
-    → Gives (ContainerNumbers at own (recordNumbers c)) (readStructure order head late (λ s at bs. readRecords c (at + 8) bs) s at bs)
-container-gives head late c own two heads lates s at bs =
+    → Gives (ContainerNumbers at own (recordNumbers c)) (readStructure o head late (λ s at bs. readRecords o c (at + 8) bs) s at bs)
+container-gives o head late c own two heads lates s at bs =
     let P : ℕ → ℕ → Type 0 = ContainerNumbers at own (recordNumbers c) in
-    structure-gives order head late (λ s at bs. readRecords c (at + 8) bs) P own two s heads lates at bs (λ n h. itself (h, refl))
-    (λ w part h. gives-wider (From (at + 8) (recordNumbers c)) P (readRecords c (at + 8) part) (λ n p e. inside e) (records-give c (at + 8) part))
+    structure-gives o head late (λ s at bs. readRecords o c (at + 8) bs) P own two s heads lates at bs (λ n h. itself (h, refl))
+    (λ w part h. gives-wider (From (at + 8) (recordNumbers c)) P (readRecords o c (at + 8) part) (λ n p e. inside e) (records-give o c (at + 8) part))
 
-configuration-gives : (at : ℕ) (bs : List ℕ) → Gives (ContainerNumbers at configurationNumbers (recordNumbers entry)) (readConfiguration tt at bs)
+configuration-gives : (o : Order) (at : ℕ) (bs : List ℕ)
+    → Gives (ContainerNumbers at configurationNumbers (recordNumbers entry)) (readConfiguration o tt at bs)
 unfolding readConfiguration Numbered
-configuration-gives at bs =
-    container-gives configurationHead configurationLate entry configurationNumbers refl
+configuration-gives o at bs =
+    container-gives o configurationHead configurationLate entry configurationNumbers refl
     (λ w. unless-numbered configurationNumbers (eqb w configurationWord) 5 refl) (λ w n. tt) tt at bs
 
-event-gives : (at : ℕ) (bs : List ℕ)
-    → Gives (ContainerNumbers at (2 ∷ 5 ∷ 7 ∷ 8 ∷ 9 ∷ []) (recordNumbers (event none))) (readEvent tt at bs)
+event-gives : (o : Order) (at : ℕ) (bs : List ℕ)
+    → Gives (ContainerNumbers at (2 ∷ 5 ∷ 7 ∷ 8 ∷ 9 ∷ []) (recordNumbers (event none))) (readEvent o tt at bs)
 unfolding readEvent
-event-gives at bs =
-    container-gives eventHead eventLate (event none) (2 ∷ 5 ∷ 7 ∷ 8 ∷ 9 ∷ []) refl
+event-gives o at bs =
+    container-gives o eventHead eventLate (event none) (2 ∷ 5 ∷ 7 ∷ 8 ∷ 9 ∷ []) refl
     (λ w. numbered-wider (5 ∷ 7 ∷ 8 ∷ []) _ (eventHead tt w) refl (event-word-numbers w)) (λ w n. unless-numbered _ (leb 1 n) 9 refl) tt at bs
 
-events-give : (from at : ℕ) (bs : List ℕ) → from ≤ at → Gives (From from restNumbers) (readEvents tt at bs)
+events-give : (o : Order) (from at : ℕ) (bs : List ℕ) → from ≤ at → Gives (From from restNumbers) (readEvents o tt at bs)
 unfolding readEvents
-events-give from at bs l =
+events-give o from at bs l =
     let P : ℕ → ℕ → Type 0 = From from restNumbers in
-    sequence-gives eventStep containerSize readEvent P (λ s q. from ≤ q) (λ s q e h. omega (arith, h))
-    (λ s q bs h. gives-wider _ P (readEvent tt q bs) (λ n p e. spread q n p h e) (event-gives q bs)) (length bs) tt at bs l
+    sequence-gives eventStep (containerSize o) (readEvent o) P (λ s q. from ≤ q) (λ s q e h. omega (arith, h))
+    (λ s q bs h. gives-wider _ P (readEvent o tt q bs) (λ n p e. spread q n p h e) (event-gives o q bs)) (length bs) tt at bs l
   where
     spread : (q n p : ℕ) → from ≤ q → ContainerNumbers q (2 ∷ 5 ∷ 7 ∷ 8 ∷ 9 ∷ []) (recordNumbers (event none)) n p → From from restNumbers n p
     spread q n p h (itself (a, e)) = (among-wider (2 ∷ 5 ∷ 7 ∷ 8 ∷ 9 ∷ []) restNumbers n refl a, omega arith)
     spread q n p h (inside (a, e)) = (among-wider (recordNumbers (event none)) restNumbers n refl a, omega arith)
 
-header-gives : (bs : List ℕ) → Gives (At 0 headerNumbers) (readHeader tt 0 bs)
+header-gives : (o : Order) (bs : List ℕ) → Gives (At 0 headerNumbers) (readHeader o tt 0 bs)
 unfolding readHeader
-header-gives bs =
+header-gives o bs =
     let ns : List ℕ = headerNumbers in
     let P : ℕ → ℕ → Type 0 = At 0 ns in
     let own : (n : ℕ) → among n ns ≡ true → P n 0 = λ n h. (h, refl) in
-    let v : ℕ = wordAt order 4 4 bs in
+    let v : ℕ = wordAt o 4 4 bs in
     let last : Res ℕ = need (versionRule v) 0 (ok v) in
-    let marked : Bool = eqb (wordAt order 4 0 bs) fileMark in
+    let marked : Bool = eqb (wordAt o 4 0 bs) fileMark in
     need-gives P ns (unless (leb 8 (length bs)) 2) 0 (need (unless marked 3) 0 last) (unless-numbered ns (leb 8 (length bs)) 2 refl) own
     (λ e. need-gives P ns (unless marked 3) 0 last (unless-numbered ns marked 3 refl) own
     (λ m. need-gives P ns (versionRule v) 0 (ok v) (unless-numbered ns (eqb (v % 65536) format) 4 refl) own (λ r. tt)))
 
-parts-give : (bs : List ℕ) → Gives FileNumbers (readParts bs)
+parts-give : (o : Order) (bs : List ℕ) → Gives FileNumbers (readParts o bs)
 unfolding readParts
-parts-give bs =
-    pair-gives (λ s v. tt) (λ v. 8) readHeader (readPair (λ s c. tt) containerSize readConfiguration readEvents) FileNumbers tt 0 bs
-    (gives-wider (At 0 headerNumbers) FileNumbers (readHeader tt 0 bs) (λ c p h. of-header h) (header-gives bs))
-    (λ v. pair-gives (λ s c. tt) containerSize readConfiguration readEvents FileNumbers tt 8 (drop 8 bs)
-    (gives-wider _ FileNumbers (readConfiguration tt 8 (drop 8 bs)) spread (configuration-gives 8 (drop 8 bs)))
+parts-give o bs =
+    pair-gives (λ s v. tt) (λ v. 8) (readHeader o) (readPair (λ s c. tt) (containerSize o) (readConfiguration o) (readEvents o)) FileNumbers tt 0 bs
+    (gives-wider (At 0 headerNumbers) FileNumbers (readHeader o tt 0 bs) (λ c p h. of-header h) (header-gives o bs))
+    (λ v. pair-gives (λ s c. tt) (containerSize o) (readConfiguration o) (readEvents o) FileNumbers tt 8 (drop 8 bs)
+    (gives-wider _ FileNumbers (readConfiguration o tt 8 (drop 8 bs)) spread (configuration-gives o 8 (drop 8 bs)))
     (λ x.
-    let at : ℕ = 8 + containerSize x in
-    let rest : List ℕ = drop (containerSize x) (drop 8 bs) in
-    gives-wider (From 16 restNumbers) FileNumbers (readEvents tt at rest) (λ c p h. of-rest h) (events-give 16 at rest (omega arith))))
+    let at : ℕ = 8 + containerSize o x in
+    let rest : List ℕ = drop (containerSize o x) (drop 8 bs) in
+    gives-wider (From 16 restNumbers) FileNumbers (readEvents o tt at rest) (λ c p h. of-rest h) (events-give o 16 at rest (omega arith))))
   where
     spread : (c p : ℕ) → ContainerNumbers 8 configurationNumbers (recordNumbers entry) c p → FileNumbers c p
     spread c p (itself h) = of-configuration h
@@ -213,7 +213,12 @@ limit-gives P n r h = go (leb n fileLimit) refl
 
 pub file-gives : (bs : List ℕ) → Gives (FileRefusal bs) (readFile bs)
 unfolding readFile
-file-gives bs = limit-gives FileNumbers (length bs) (readParts bs) (parts-give bs)
+file-gives bs = limit-gives FileNumbers (length bs) _ (named-gives (readParts (orderOf bs) bs) (parts-give (orderOf bs) bs))
+  where
+    -- The order beside the parts refuses nothing.
+    named-gives : (r : Res Parts) → Gives FileNumbers r → Gives {A = File} FileNumbers (bind r (λ p. ok (orderOf bs, p)))
+    named-gives (ok p) h = tt
+    named-gives (bad c p) h = h
 
 -- Every refusal of a file is 1 over the limit, or 2 to 11 where the table says.
 pub file-numbers : (bs : List ℕ) (c p : ℕ) → readFile bs ≡ bad c p → FileRefusal bs c p

@@ -10,6 +10,7 @@ use lib.Dec.{leb}
 use lib.ListN.{length, drop}
 use native.Mathlib.Decide.{decLe}
 use borrow.Author.Tests.{le-leb, lt-leb, leb-true, leb-false}
+use Rattle.theory.specs.declared.Order.{Order}
 use Rattle.theory.specs.Words.{Bytes}
 use Rattle.theory.specs.Tests.{Res, ok, bad, need, bind, unless}
 use Rattle.theory.specs.Structures.{sequenceBytes}
@@ -17,7 +18,7 @@ use Rattle.theory.proofs.TestLaws.{ok-bad, ok-inj}
 use Rattle.note.specs.Limits.{fileLimit}
 use Rattle.note.specs.Records.{Record, Context, entry, event, none, behind}
 use Rattle.note.specs.Events.{Container, containerBytes, eventsBytes}
-use Rattle.note.specs.Files.{File, versionOf, configurationOf, eventsOf, headerBytes, fileBytes, readFile}
+use Rattle.note.specs.Files.{File, orderIn, versionOf, configurationOf, eventsOf, headerBytes, fileBytes, readFile}
 use Rattle.note.specs.Writers.{recordAgain, containerRewritten, fileRewritten, written, rewritten, rewriteWrote, rewriteOutput}
 use Rattle.note.proofs.KindLaws.{again-restores}
 use Rattle.demands.specs.Valid.{ValidRecord, ValidRecords, ValidEvents, Valid}
@@ -26,30 +27,30 @@ use Rattle.demands.proofs.Follows.{file-sound}
 use Rattle.demands.proofs.OutputLaws.{refusal-keeps}
 
 -- A valid record, written again from its fields, is itself.
-pub record-restored : (c : Context) (r : Record) → ValidRecord c r → recordAgain r ≡ r
+pub record-restored : (o : Order) (c : Context) (r : Record) → ValidRecord o c r → recordAgain o r ≡ r
 unfolding recordAgain
-record-restored c r v = λ i. record { kind = r .kind; body = again-restores (r .kind) (r .body) (v .body-bytes) (v .body-rule) i }
+record-restored o c r v = λ i. record { kind = r .kind; body = again-restores o (r .kind) (r .body) (v .body-bytes) (v .body-rule) i }
 
-records-restored : (c : Context) (rs : List Record) → ValidRecords c rs → map recordAgain rs ≡ rs
-records-restored c [] v = refl
-records-restored c (r ∷ rs) v =
-    ap₂ (λ (x : Record) (xs : List Record). x ∷ xs) (record-restored c r (v .0)) (records-restored (behind c (r .kind)) rs (v .1))
+records-restored : (o : Order) (c : Context) (rs : List Record) → ValidRecords o c rs → map (recordAgain o) rs ≡ rs
+records-restored o c [] v = refl
+records-restored o c (r ∷ rs) v =
+    ap₂ (λ (x : Record) (xs : List Record). x ∷ xs) (record-restored o c r (v .0)) (records-restored o (behind c (r .kind)) rs (v .1))
 
-container-restored : (c : Context) (x : Container) → ValidRecords c (x .body) → containerRewritten x ≡ containerBytes x
-container-restored c x v =
-    ap (λ (rs : List Record). containerBytes (record { kind = x .kind; body = rs })) (records-restored c (x .body) v)
+container-restored : (o : Order) (c : Context) (x : Container) → ValidRecords o c (x .body) → containerRewritten o x ≡ containerBytes o x
+container-restored o c x v =
+    ap (λ (rs : List Record). containerBytes o (record { kind = x .kind; body = rs })) (records-restored o c (x .body) v)
 
-events-restored : (es : List Container) → ValidEvents es → sequenceBytes containerRewritten es ≡ eventsBytes es
-events-restored [] v = refl
-events-restored (e ∷ es) v =
-    ap₂ (λ (a b : List ℕ). a ++ b) (container-restored (event none) e (v .0 .records-valid)) (events-restored es (v .1))
+events-restored : (o : Order) (es : List Container) → ValidEvents o es → sequenceBytes (containerRewritten o) es ≡ eventsBytes o es
+events-restored o [] v = refl
+events-restored o (e ∷ es) v =
+    ap₂ (λ (a b : List ℕ). a ++ b) (container-restored o (event none) e (v .0 .records-valid)) (events-restored o es (v .1))
 
 -- A valid tree, written again from its fields, has its own bytes.
 pub fields-restore : (f : File) → Valid f → fileRewritten f ≡ fileBytes f
 unfolding fileRewritten
 fields-restore f v =
-    ap₂ (λ (a b : List ℕ). headerBytes (versionOf f) ++ (a ++ b))
-    (container-restored entry (configurationOf f) (v .entries-valid)) (events-restored (eventsOf f) (v .events-valid))
+    ap₂ (λ (a b : List ℕ). headerBytes (orderIn f) (versionOf f) ++ (a ++ b))
+    (container-restored (orderIn f) entry (configurationOf f) (v .entries-valid)) (events-restored (orderIn f) (eventsOf f) (v .events-valid))
 
 -- So an accepted file, written again from its fields, is its bytes.
 bytes-restored : (bs : List ℕ) (f : File) → Bytes bs → readFile bs ≡ ok f → fileRewritten f ≡ bs

@@ -8,15 +8,15 @@ use mathlib.Core.List.{List, [], _∷_, _++_, map}
 use Prim.Native.Nat.{ℕ, _+_, _*_, _%_, _≤_, _<_}
 use native.Mathlib.Omega.{arith}
 use lib.ListN.{length, length-append}
+use Rattle.theory.specs.declared.Order.{Order}
 use Rattle.theory.specs.Words.{Bytes}
 use Rattle.theory.specs.Tests.{ok}
 use Rattle.theory.specs.Layout.{Row, Node, single, box, total, extents, childRows, rows, row, Tiles, Owns, OneParent}
 use Rattle.theory.proofs.StructureLaws.{length-structure}
 use Rattle.theory.proofs.LayoutLaws.{GoodChildren, Good, row-tiles, few-rows, owner, owner-one, one-parent, parent-before}
-use Rattle.note.specs.Words.{order}
 use Rattle.note.specs.Records.{Record, recordBytes, recordSize, recordsBytes, kindOf}
 use Rattle.note.specs.Events.{Container, containerBytes, containerSize, eventsBytes}
-use Rattle.note.specs.Files.{File, configurationOf, eventsOf, versionOf, headerBytes, fileBytes, readFile}
+use Rattle.note.specs.Files.{File, orderIn, configurationOf, eventsOf, versionOf, headerBytes, fileBytes, readFile}
 use Rattle.note.specs.Rows.{childOf, childrenOf, eventNode, nodesOf, rowsOf, isBox}
 use Rattle.note.proofs.BoolLaws.{either-tells, eq-tells}
 use Rattle.note.proofs.KindCases.{kind-cases}
@@ -29,71 +29,72 @@ boxes-exact k = either-tells (eq-tells k 2) (eq-tells k 5)
 
 -- ---- sizes
 
-pub record-size : (r : Record) → length (recordBytes r) ≡ recordSize r
-record-size r = length-structure order (λ (b : List ℕ). b) r
+pub record-size : (o : Order) (r : Record) → length (recordBytes o r) ≡ recordSize r
+record-size o r = length-structure o (λ (b : List ℕ). b) r
 
-pub children-total : (rs : List Record) → total (childrenOf rs) ≡ length (recordsBytes rs)
+pub children-total : (o : Order) (rs : List Record) → total (childrenOf o rs) ≡ length (recordsBytes o rs)
 unfolding childOf
-children-total [] = refl
-children-total (r ∷ rs) =
-    omega (arith, length-append (recordBytes r) (recordsBytes rs), record-size r, children-total rs)
+children-total o [] = refl
+children-total o (r ∷ rs) =
+    omega (arith, length-append (recordBytes o r) (recordsBytes o rs), record-size o r, children-total o rs)
 
-pub container-size : (c : Container) → length (containerBytes c) ≡ containerSize c
-container-size c = length-structure order recordsBytes c
+pub container-size : (o : Order) (c : Container) → length (containerBytes o c) ≡ containerSize o c
+container-size o c = length-structure o (recordsBytes o) c
 
-pub events-extents : (es : List Container) → extents (map eventNode es) ≡ length (eventsBytes es)
-events-extents [] = refl
-events-extents (e ∷ es) =
-    omega (arith, length-append (containerBytes e) (eventsBytes es), container-size e, children-total (e .body), events-extents es)
+pub events-extents : (o : Order) (es : List Container) → extents (map (eventNode o) es) ≡ length (eventsBytes o es)
+events-extents o [] = refl
+events-extents o (e ∷ es) =
+    omega (arith, length-append (containerBytes o e) (eventsBytes o es), container-size o e, children-total o (e .body), events-extents o es)
 
-pub file-length : (f : File) → length (fileBytes f) ≡ 8 + (containerSize (configurationOf f) + length (eventsBytes (eventsOf f)))
+pub file-length : (f : File) → length (fileBytes f)
+    ≡ 8 + (containerSize (orderIn f) (configurationOf f) + length (eventsBytes (orderIn f) (eventsOf f)))
 file-length f =
     omega (
       arith,
-      length-append (headerBytes (versionOf f)) (containerBytes (configurationOf f) ++ eventsBytes (eventsOf f)),
-      length-append (containerBytes (configurationOf f)) (eventsBytes (eventsOf f)),
-      headerItem .sizes (versionOf f),
-      container-size (configurationOf f),
+      length-append (headerBytes (orderIn f) (versionOf f)) (containerBytes (orderIn f) (configurationOf f) ++ eventsBytes (orderIn f) (eventsOf f)),
+      length-append (containerBytes (orderIn f) (configurationOf f)) (eventsBytes (orderIn f) (eventsOf f)),
+      headerItem (orderIn f) .sizes (versionOf f),
+      container-size (orderIn f) (configurationOf f),
     )
 
 nodes-extents : (f : File) → extents (nodesOf f) ≡ length (fileBytes f)
 unfolding nodesOf
-nodes-extents f = omega (arith, file-length f, children-total (configurationOf f .body), events-extents (eventsOf f))
+nodes-extents f = omega (arith, file-length f, children-total (orderIn f) (configurationOf f .body), events-extents (orderIn f) (eventsOf f))
 
 -- ---- the parts of which a file's rows are made
 
 -- A configuration's own row, and that of an event at the place `at`.
-abbrev pub configurationRow : Container → Row
-configurationRow c = record { kind = 2; start = 8; whole = 8 + total (childrenOf (c .body)); parent = 0; one = length (c .body); two = 0 }
+abbrev pub configurationRow : Order → Container → Row
+configurationRow o c = record { kind = 2; start = 8; whole = 8 + total (childrenOf o (c .body)); parent = 0; one = length (c .body); two = 0 }
 
-abbrev pub eventRow : ℕ → Container → Row
-eventRow at e =
-    record { kind = 5; start = at; whole = 8 + total (childrenOf (e .body)); parent = 0; one = e .kind % 65536; two = length (e .body) }
+abbrev pub eventRow : Order → ℕ → Container → Row
+eventRow o at e =
+    record { kind = 5; start = at; whole = 8 + total (childrenOf o (e .body)); parent = 0; one = e .kind % 65536; two = length (e .body) }
 
 -- Behind a container that has row number i and stands at the place `at`: the next row number, the next place.
-abbrev pub nextRow : ℕ → Container → ℕ
-nextRow i c = i + 1 + length (childrenOf (c .body))
+abbrev pub nextRow : Order → ℕ → Container → ℕ
+nextRow o i c = i + 1 + length (childrenOf o (c .body))
 
-abbrev pub nextPlace : ℕ → Container → ℕ
-nextPlace at c = at + (8 + total (childrenOf (c .body)))
+abbrev pub nextPlace : Order → ℕ → Container → ℕ
+nextPlace o at c = at + (8 + total (childrenOf o (c .body)))
 
 -- The rows of records whose parent has row number i; of events, the first of which has it; the first stands at the place `at`.
-abbrev pub recordRows : ℕ → ℕ → List Record → List Row
-recordRows i at rs = childRows i at (childrenOf rs)
+abbrev pub recordRows : Order → ℕ → ℕ → List Record → List Row
+recordRows o i at rs = childRows i at (childrenOf o rs)
 
-abbrev pub eventRows : ℕ → ℕ → List Container → List Row
-eventRows i at es = rows i at (map eventNode es)
+abbrev pub eventRows : Order → ℕ → ℕ → List Container → List Row
+eventRows o i at es = rows i at (map (eventNode o) es)
 
 -- The nodes of a file's header and of its configuration, which stand before the events'.
 abbrev pub headerNode : File → Node
 headerNode f = single (record { kind = 1; size = 8; one = versionOf f; two = 0 })
 
-abbrev pub nodesBefore : File → List Node
-nodesBefore f = headerNode f ∷ box 2 (length (configurationOf f .body)) 0 (childrenOf (configurationOf f .body)) ∷ []
+abbrev pub nodesBefore : Order → File → List Node
+nodesBefore o f = headerNode f ∷ box 2 (length (configurationOf f .body)) 0 (childrenOf o (configurationOf f .body)) ∷ []
 
 -- The rows of a file's events: behind its configuration, which has row number 2 and stands at byte 8.
-abbrev pub rowsBehind : File → List Row
-rowsBehind f = eventRows (nextRow 2 (configurationOf f)) (nextPlace 8 (configurationOf f)) (eventsOf f)
+abbrev pub rowsBehind : Order → File → List Row
+rowsBehind o f = eventRows o (nextRow o 2 (configurationOf f)) (nextPlace o 8 (configurationOf f)) (eventsOf f)
 
 -- ---- no child is a box
 
@@ -101,18 +102,18 @@ rowsBehind f = eventRows (nextRow 2 (configurationOf f)) (nextPlace 8 (configura
 pub child-kind : (k : ℕ) → isBox (kindOf k .row) ≡ false
 child-kind k = kind-cases (λ w x. isBox (x .row) ≡ false) k refl refl refl refl refl refl refl refl refl
 
-children-good : (rs : List Record) → GoodChildren isBox (childrenOf rs)
+children-good : (o : Order) (rs : List Record) → GoodChildren isBox (childrenOf o rs)
 unfolding childOf
-children-good [] = tt
-children-good (r ∷ rs) = ((child-kind (r .kind), omega arith), children-good rs)
+children-good o [] = tt
+children-good o (r ∷ rs) = ((child-kind (r .kind), omega arith), children-good o rs)
 
-events-good : (es : List Container) → Good isBox (map eventNode es)
-events-good [] = tt
-events-good (e ∷ es) = (refl, children-good (e .body), events-good es)
+events-good : (o : Order) (es : List Container) → Good isBox (map (eventNode o) es)
+events-good o [] = tt
+events-good o (e ∷ es) = (refl, children-good o (e .body), events-good o es)
 
 nodes-good : (f : File) → Good isBox (nodesOf f)
 unfolding nodesOf
-nodes-good f = ((refl, omega arith), (refl, children-good (configurationOf f .body), events-good (eventsOf f)))
+nodes-good f = ((refl, omega arith), (refl, children-good (orderIn f) (configurationOf f .body), events-good (orderIn f) (eventsOf f)))
 
 -- ---- the demands, of a tree
 

@@ -7,6 +7,7 @@ use mathlib.Core.Option.{Option, some, none}
 use Prim.Native.Nat.{ℕ, suc, _+_, _<_}
 use native.Mathlib.Omega.{arith}
 use lib.ListN.{length, length-append, length-map}
+use Rattle.theory.specs.declared.Order.{Order}
 use Rattle.theory.specs.Layout.{Row, childRows, rows, row}
 use Rattle.theory.proofs.Items.{length-encs}
 use Rattle.theory.proofs.LayoutLaws.{AllFrom, AllFrom-append, AllFrom-at, length-childRows}
@@ -14,7 +15,7 @@ use Rattle.theory.proofs.FreeLaws.{Spot, plug}
 use Rattle.note.specs.Trace.{traceKind}
 use Rattle.note.specs.Records.{Record, entry, isKind, behind, recordSize, recordsBytes, kindOf}
 use Rattle.note.specs.Events.{Container, containerSize, eventsBytes}
-use Rattle.note.specs.Files.{File, configurationOf, eventsOf}
+use Rattle.note.specs.Files.{File, orderIn, configurationOf, eventsOf}
 use Rattle.note.specs.Rows.{childOf, childrenOf, nodesOf, rowsOf}
 use Rattle.note.proofs.KindCases.{kind-cases}
 use Rattle.demands.specs.Valid.{ValidRecord, ValidRecords, Valid}
@@ -30,9 +31,9 @@ trace-kind k =
     (λ e. absurd (omega arith)) (λ e. absurd (omega arith)) (λ e. absurd (omega arith)) (λ e. absurd (omega arith))
 
 -- An entry is no trace.
-pub entry-no-trace : (r : Record) → ValidRecord entry r → kindOf (r .kind) .row ≡ 7 → ⊥
+pub entry-no-trace : (o : Order) (r : Record) → ValidRecord o entry r → kindOf (r .kind) .row ≡ 7 → ⊥
 unfolding isKind
-entry-no-trace r v e =
+entry-no-trace o r v e =
     let k : r .kind ≡ traceKind .word = trace-kind (r .kind) e in
     let f : isKind entry (traceKind .word) ≡ true = subst (λ (n : ℕ). isKind entry n ≡ true) k (v .kind-allowed) in
     mathlib.Core.Bool.false≢true f
@@ -45,8 +46,8 @@ recordsBefore c p = none ∷ (containerRecords c ++ (eventsRecords (p .before) +
 abbrev pub recordsAfter : Spot → List (Option Record)
 recordsAfter p = map some (p .right) ++ eventsRecords (p .after)
 
-abbrev pub placeOf : Container → Spot → ℕ
-placeOf c p = 8 + containerSize c + (length (eventsBytes (p .before)) + (8 + length (recordsBytes (p .left))))
+abbrev pub placeOf : Order → Container → Spot → ℕ
+placeOf o c p = 8 + containerSize o c + (length (eventsBytes o (p .before)) + (8 + length (recordsBytes o (p .left))))
 
 map-append : (xs ys : List Record) → map {B = Option Record} some (xs ++ ys) ≡ map some xs ++ map some ys
 map-append [] ys = refl
@@ -59,10 +60,10 @@ eventsRecords-append (x ∷ xs) ys =
     ∙ sym (append-assoc (containerRecords x) (eventsRecords xs) (eventsRecords ys))
 
 -- Beside the rows: what stands before the spot, the record there, what stands after it.
-pub records-split : (v : ℕ) (c : Container) (p : Spot) (t : Record)
-    → rowRecords (v, (c, plug p t)) ≡ recordsBefore c p ++ (some t ∷ recordsAfter p)
+pub records-split : (o : Order) (v : ℕ) (c : Container) (p : Spot) (t : Record)
+    → rowRecords (o, (v, (c, plug p t))) ≡ recordsBefore c p ++ (some t ∷ recordsAfter p)
 unfolding rowRecords
-records-split v c p t =
+records-split o v c p t =
     let here : List (Option Record) = none ∷ map some (p .left) in
     let rest : List (Option Record) = some t ∷ recordsAfter p in
     let box : containerRecords (record { kind = p .word; body = p .left ++ t ∷ p .right }) ++ eventsRecords (p .after) ≡ here ++ rest =
@@ -77,22 +78,27 @@ records-split v c p t =
 -- ---- from a row to its spot
 
 -- Row n is a trace: the file with that trace in its spot.
-abbrev pub Found : File → ℕ → Row → Type 0
-Found f n r = r .kind ≡ 7 → (p : Spot) × (t : Record) × (eventsOf f ≡ plug p t) × (n ≡ length (recordsBefore (configurationOf f) p))
-    × (r .start ≡ placeOf (configurationOf f) p) × (r .whole ≡ recordSize t) × (t .kind ≡ traceKind .word)
+abbrev pub Found : Order → File → ℕ → Row → Type 0
+Found o f n r = r .kind ≡ 7 → (p : Spot) × (t : Record) × (eventsOf f ≡ plug p t) × (n ≡ length (recordsBefore (configurationOf f) p))
+    × (r .start ≡ placeOf o (configurationOf f) p) × (r .whole ≡ recordSize t) × (t .kind ≡ traceKind .word)
 
 length-records : (rs : List Record) → length (map {B = Option Record} some rs) ≡ length rs
 length-records rs = length-map rs some
 
-rows-of-records : (i at : ℕ) (rs : List Record) → length (recordRows i at rs) ≡ length rs
-rows-of-records i at rs = length-childRows i at (childrenOf rs) ∙ length-map rs childOf
+rows-of-records : (o : Order) (i at : ℕ) (rs : List Record) → length (recordRows o i at rs) ≡ length rs
+rows-of-records o i at rs = length-childRows i at (childrenOf o rs) ∙ length-map rs (childOf o)
 
 module _ (f : File) where
+  -- The order of its words.
+  abbrev o : Order
+  o = orderIn f
+
   -- No entry's row is a trace's.
-  entries-none : (i at n : ℕ) (rs : List Record) → ValidRecords entry rs → AllFrom (Found f) n (recordRows i at rs)
+  entries-none : (i at n : ℕ) (rs : List Record) → ValidRecords o entry rs
+      → AllFrom (Found o f) n (recordRows o i at rs)
   unfolding childRows childOf behind
   entries-none i at n [] v = tt
-  entries-none i at n (r ∷ rs) v = ((λ k. absurd (entry-no-trace r (v .0) k)), entries-none i (at + recordSize r) (suc n) rs (v .1))
+  entries-none i at n (r ∷ rs) v = ((λ k. absurd (entry-no-trace o r (v .0) k)), entries-none i (at + recordSize r) (suc n) rs (v .1))
 
   -- An event with the given word, the events before it and after it.
   module _ (before : List Container) (word : ℕ) (after : List Container) where
@@ -116,14 +122,14 @@ module _ (f : File) where
     -- Its records: those passed, then those to come, the first of them at the place `at` and in row n.
     found-children : (left rs : List Record) (i at n : ℕ)
         → eventsOf f ≡ before ++ record { kind = word; body = left ++ rs } ∷ after
-        → at ≡ placeOf (configurationOf f) (passed left) → n ≡ length (recordsBefore (configurationOf f) (passed left))
-        → AllFrom (Found f) n (recordRows i at rs)
+        → at ≡ placeOf o (configurationOf f) (passed left) → n ≡ length (recordsBefore (configurationOf f) (passed left))
+        → AllFrom (Found o f) n (recordRows o i at rs)
     unfolding childRows childOf
     found-children left [] i at n e ea en = tt
     found-children left (r ∷ rs) i at n e ea en =
         let more : List Record = left ++ r ∷ [] in
-        let bytes-more : length (recordsBytes more) ≡ length (recordsBytes left) + recordSize r =
-        length-encs recordItem left r [] ∙ omega arith in
+        let bytes-more : length (recordsBytes o more) ≡ length (recordsBytes o left) + recordSize r =
+        length-encs (recordItem o) left r [] ∙ omega arith in
         let regroup = ap (λ (b : List Record). before ++ record { kind = word; body = b } ∷ after) (sym (append-assoc left (r ∷ []) rs)) in
         let spot : Spot = record { before = before; word = word; left = left; right = rs; after = after } in (
           (λ k. (spot, r, e, en, ea, refl, trace-kind (r .kind) k)),
@@ -133,17 +139,17 @@ module _ (f : File) where
 
   -- The events: those passed, then those to come, the first of them at the place `at` and in row n.
   found-events : (before es : List Container) (i at n : ℕ) → eventsOf f ≡ before ++ es
-      → at ≡ 8 + containerSize (configurationOf f) + length (eventsBytes before)
+      → at ≡ 8 + containerSize o (configurationOf f) + length (eventsBytes o before)
       → n ≡ suc (length (containerRecords (configurationOf f)) + length (eventsRecords before))
-      → AllFrom (Found f) n (eventRows i at es)
+      → AllFrom (Found o f) n (eventRows o i at es)
   unfolding rows
   found-events before [] i at n e ea en = tt
   found-events before (x ∷ es) i at n e ea en =
-      let kids : List Row = recordRows i (at + 8) (x .body) in
-      let size : length kids ≡ length (x .body) = rows-of-records i (at + 8) (x .body) in
+      let kids : List Row = recordRows o i (at + 8) (x .body) in
+      let size : length kids ≡ length (x .body) = rows-of-records o i (at + 8) (x .body) in
       let more : List Container = before ++ x ∷ [] in
-      let bytes-more : length (eventsBytes more) ≡ length (eventsBytes before) + containerSize x =
-      length-encs eventItem before x [] ∙ omega arith in
+      let bytes-more : length (eventsBytes o more) ≡ length (eventsBytes o before) + containerSize o x =
+      length-encs (eventItem o) before x [] ∙ omega arith in
       let rows-more : length (eventsRecords more) ≡ length (eventsRecords before) + suc (length (x .body)) =
       omega (
         arith,
@@ -154,34 +160,35 @@ module _ (f : File) where
       ) in
       let first = rows-before before (x .kind) es [] in (
         (λ k. absurd (omega arith)),
-        AllFrom-append (Found f) (suc n) kids (eventRows (nextRow i x) (nextPlace at x) es)
+        AllFrom-append (Found o f) (suc n) kids (eventRows o (nextRow o i x) (nextPlace o at x) es)
             (found-children before (x .kind) es [] (x .body) i (at + 8) (suc n) e (omega arith) (omega arith))
-            (found-events more es (nextRow i x) (nextPlace at x) (suc n + length kids)
+            (found-events more es (nextRow o i x) (nextPlace o at x) (suc n + length kids)
             (e ∙ sym (append-assoc before (x ∷ []) es))
-            (omega (arith, children-total (x .body)))
+            (omega (arith, children-total o (x .body)))
             (omega arith)),
       )
 
 -- Every trace's row has its spot.
-pub traces-found : (f : File) → Valid f → (j : ℕ) → j < length (rowsOf f) → Found f j (row (rowsOf f) j)
+pub traces-found : (f : File) → Valid f → (j : ℕ) → j < length (rowsOf f) → Found (orderIn f) f j (row (rowsOf f) j)
 unfolding rowsOf nodesOf rows
-traces-found f v j h = subst (λ (m : ℕ). Found f m (row (rowsOf f) j)) (omega arith) (AllFrom-at (Found f) 0 (rowsOf f) all j h)
+traces-found f v j h =
+    subst (λ (m : ℕ). Found (orderIn f) f m (row (rowsOf f) j)) (omega arith) (AllFrom-at (Found (orderIn f) f) 0 (rowsOf f) all j h)
   where
     c : Container
     c = configurationOf f
 
     kids : List Row
-    kids = recordRows 2 16 (c .body)
+    kids = recordRows (orderIn f) 2 16 (c .body)
 
-    all : AllFrom (Found f) 0 (rows 1 0 (nodesOf f))
+    all : AllFrom (Found (orderIn f) f) 0 (rows 1 0 (nodesOf f))
     all =
-        let size : length kids ≡ length (c .body) = rows-of-records 2 16 (c .body) in (
+        let size : length kids ≡ length (c .body) = rows-of-records (orderIn f) 2 16 (c .body) in (
           (λ k. absurd (omega arith)),
           (
             (λ k. absurd (omega arith)),
-            AllFrom-append (Found f) 2 kids (rowsBehind f)
+            AllFrom-append (Found (orderIn f) f) 2 kids (rowsBehind (orderIn f) f)
                 (entries-none f 2 16 2 (c .body) (v .entries-valid))
-                (found-events f [] (eventsOf f) (nextRow 2 c) (nextPlace 8 c) (2 + length kids) refl
-                (omega (arith, children-total (c .body))) (omega (arith, length-records (c .body)))),
+                (found-events f [] (eventsOf f) (nextRow (orderIn f) 2 c) (nextPlace (orderIn f) 8 c) (2 + length kids) refl
+                (omega (arith, children-total (orderIn f) (c .body))) (omega (arith, length-records (c .body)))),
           ),
         )

@@ -9,12 +9,13 @@ use native.Mathlib.Decide.{decLe}
 use lib.ListN.{length, take, drop, length-drop, take-append-drop, drop-of-length-le}
 use lib.Seq.{take-at, drop-drop, drop-append-le, take-nil}
 use borrow.Author.Tests.{le-leb}
+use Rattle.theory.specs.declared.Order.{Order}
 use Rattle.theory.specs.Words.{Bytes, Fits}
 use Rattle.theory.specs.Tests.{Res, ok, bad}
 use Rattle.theory.proofs.WordLaws.{Bytes-puts, Bytes-append}
 use Rattle.theory.proofs.StructureLaws.{drop-two}
 use Rattle.note.specs.Limits.{fileLimit}
-use Rattle.note.specs.Words.{order, word, words}
+use Rattle.note.specs.Words.{word, words}
 use Rattle.note.specs.Kinds.{Kind}
 use Rattle.note.specs.Phonon.{Phonon, phononKind, phononBytes}
 use Rattle.note.specs.Charge.{Charge, chargeKind, chargeBytes}
@@ -68,37 +69,37 @@ record-refused out place w c p e = refusal-keeps (recordWrote out place w) out (
 
 -- ---- the header
 
-pub header-laid : (out : List ℕ) (major minor next : ℕ) → headerWrote out ≡ ok next
-    → Laid out (headerOutput out major minor) 0 next (headerBytes (versionWord major minor))
+pub header-laid : (o : Order) (out : List ℕ) (major minor next : ℕ) → headerWrote out ≡ ok next
+    → Laid out (headerOutput o out major minor) 0 next (headerBytes o (versionWord major minor))
 unfolding headerWrote headerOutput
-header-laid out major minor next e =
+header-laid o out major minor next e =
     let g = granted (length out) 0 0 8 next e in
     let v : ℕ = versionWord major minor in
-    let eight : 8 ≡ length (headerBytes v) = headerItem .sizes v in
-    let is : 0 + length (headerBytes v) ≡ next = ap (λ (n : ℕ). 0 + n) (sym eight) ∙ g .is in
-    rw (e, ← is) (put-laid out (headerBytes v) 0 (0 + length (headerBytes v)) (omega (arith, eight, g .room)))
+    let eight : 8 ≡ length (headerBytes o v) = headerItem o .sizes v in
+    let is : 0 + length (headerBytes o v) ≡ next = ap (λ (n : ℕ). 0 + n) (sym eight) ∙ g .is in
+    rw (e, ← is) (put-laid out (headerBytes o v) 0 (0 + length (headerBytes o v)) (omega (arith, eight, g .room)))
 
-pub header-refused : (out : List ℕ) (major minor c p : ℕ) → headerWrote out ≡ bad c p → headerOutput out major minor ≡ out
+pub header-refused : (o : Order) (out : List ℕ) (major minor c p : ℕ) → headerWrote out ≡ bad c p → headerOutput o out major minor ≡ out
 unfolding headerOutput
-header-refused out major minor c p e = refusal-keeps (headerWrote out) out (headerBytes (versionWord major minor)) 0 c p e
+header-refused o out major minor c p e = refusal-keeps (headerWrote out) out (headerBytes o (versionWord major minor)) 0 c p e
 
 -- ---- any record is found
 
 -- A writer's way to write the record r: its bytes, and, where the fields have no fault, a body that follows the kind's rule.
-pub record Writes (w : Written) (r : Record) : Type 0 where
-  pub bytes-are : w .bytes ≡ recordBytes r
+pub record Writes (o : Order) (w : Written) (r : Record) : Type 0 where
+  pub bytes-are : w .bytes ≡ recordBytes o r
   pub kind-known : isKind alone (r .kind) ≡ true
   pub kind-fits : Fits 4 (r .kind)
   pub body-bytes : Bytes (r .body)
-  pub body-rule : w .fault ≡ 0 → recordRule (r .kind) (r .body) ≡ 0
+  pub body-rule : w .fault ≡ 0 → recordRule o (r .kind) (r .body) ≡ 0
 
 -- What any writer wrote, Record finds there.
-module _ (out : List ℕ) (place next : ℕ) (w : Written) (r : Record) (h : Writes w r) (e : recordWrote out place w ≡ ok next) where
-  pub written-valid : ValidRecord alone r
+module _ (o : Order) (out : List ℕ) (place next : ℕ) (w : Written) (r : Record) (h : Writes o w r) (e : recordWrote out place w ≡ ok next) where
+  pub written-valid : ValidRecord o alone r
   unfolding isAllowed
   written-valid =
       let g = record-granted out place next w e in
-      let size : length (w .bytes) ≡ 8 + length (r .body) = ap length (h .bytes-are) ∙ record-size r in
+      let size : length (w .bytes) ≡ 8 + length (r .body) = ap length (h .bytes-are) ∙ record-size o r in
       record {
         kind-allowed = h .kind-known;
         place-allowed = refl;
@@ -108,154 +109,155 @@ module _ (out : List ℕ) (place next : ℕ) (w : Written) (r : Record) (h : Wri
         body-rule = h .body-rule (g .fine);
       }
 
-  pub written-from : drop place (recordOutput out place w) ≡ recordBytes r ++ drop next out
+  pub written-from : drop place (recordOutput out place w) ≡ recordBytes o r ++ drop next out
   written-from =
       laid-from out _ place next (w .bytes) (record-laid out place next w e) ∙ ap (λ (x : List ℕ). x ++ drop next out) (h .bytes-are)
 
-  pub record-found : recordFound (recordOutput out place w) place ≡ ok r
+  pub record-found : recordFound o (recordOutput out place w) place ≡ ok r
   unfolding recordFound
   record-found =
       let g = record-granted out place next w e in
       let l = record-laid out place next w e in
       let limit : length (recordOutput out place w) ≤ fileLimit = omega (arith, l .size, g .limit) in
       rw (le-leb (length (recordOutput out place w)) fileLimit limit)
-      (ap (readRecord alone place) written-from ∙ reads-record alone r place (drop next out) written-valid)
+      (ap (readRecord o alone place) written-from ∙ reads-record o alone r place (drop next out) written-valid)
 
   -- Its body stands eight bytes further on.
   pub body-from : drop (place + 8) (recordOutput out place w) ≡ r .body ++ drop next out
   body-from =
       let rest : List ℕ = drop next out in
       sym (drop-drop 8 place (recordOutput out place w))
-      ∙ ap (drop 8) (written-from ∙ structure-apart (λ (b : List ℕ). b) r rest)
-      ∙ drop-two order (r .kind) (length (r .body)) (r .body ++ rest)
+      ∙ ap (drop 8) (written-from ∙ structure-apart o (λ (b : List ℕ). b) r rest)
+      ∙ drop-two o (r .kind) (length (r .body)) (r .body ++ rest)
 
 -- ---- the eight kinds
 
 -- A kind that its word names, around a body.
-writes : (k : Kind) (body : List ℕ) (fault : ℕ) → kindOf (k .word) ≡ k → isKind alone (k .word) ≡ true → Fits 4 (k .word)
-    → Bytes body → (fault ≡ 0 → k .rule body ≡ 0) → Writes (record { fault = fault; bytes = wrapped k body }) (ofKind k body)
-writes k body fault named known fits bytes follows = record {
+writes : (o : Order) (k : Kind) (body : List ℕ) (fault : ℕ) → kindOf (k .word) ≡ k → isKind alone (k .word) ≡ true → Fits 4 (k .word)
+    → Bytes body → (fault ≡ 0 → k .rule o body ≡ 0) → Writes o (record { fault = fault; bytes = wrapped o k body }) (ofKind k body)
+writes o k body fault named known fits bytes follows = record {
   bytes-are = refl;
   kind-known = known;
   kind-fits = fits;
   body-bytes = bytes;
-  body-rule = λ e. ap (λ (x : Kind). x .rule body) named ∙ follows e;
+  body-rule = λ e. ap (λ (x : Kind). x .rule o body) named ∙ follows e;
 }
 
-section-bytes : (s : Section) → SectionFits s → Bytes (sectionBytes s)
+section-bytes : (o : Order) (s : Section) → SectionFits s → Bytes (sectionBytes o s)
 unfolding sectionBytes
-section-bytes s h =
-    Bytes-append (words (s .count ∷ [])) _ (Bytes-puts order 4 (s .count ∷ []))
+section-bytes o s h =
+    Bytes-append (words o (s .count ∷ [])) _ (Bytes-puts o 4 (s .count ∷ []))
     (Bytes-append (s .times) _ (h .0)
-    (Bytes-append (words (s .width ∷ [])) _ (Bytes-puts order 4 (s .width ∷ [])) (h .1)))
+    (Bytes-append (words o (s .width ∷ [])) _ (Bytes-puts o 4 (s .width ∷ [])) (h .1)))
 
-pub piece-writes : (p : Piece) → PieceFits p → Writes (writtenOf p) (recordOf p)
+pub piece-writes : (o : Order) (p : Piece) → PieceFits p → Writes o (writtenOf o p) (recordOf o p)
 unfolding writtenOf recordOf PieceFits kindOf isKind
     phononWritten chargeWritten administrativeWritten traceWritten historyWritten gpsWritten triggerWritten tlbWritten
     phononBytes chargeBytes administrativeBytes traceBytes historyBytes gpsBytes triggerBytes tlbBytes
-piece-writes (phonon f) h = writes phononKind (phononBytes f) _ refl refl (omega arith) (Bytes-puts order 4 _) (λ e. phonon-read-back f h e .0)
-piece-writes (charge f) h = writes chargeKind (chargeBytes f) _ refl refl (omega arith) (Bytes-puts order 4 _) (λ e. charge-read-back f h e .0)
-piece-writes (administrative f) h =
-    writes administrativeKind (administrativeBytes f) _ refl refl (omega arith) (Bytes-puts order 4 _)
-    (λ e. administrative-read-back f h e .0)
-piece-writes (trace f) h =
-    writes traceKind (traceBytes f) _ refl refl (omega arith)
-    (Bytes-append (words (traceWords f)) (f .samples) (Bytes-puts order 4 _) (h .1)) (λ e. trace-read-back f (h .0) e .0)
-piece-writes (history f) h =
-    writes historyKind (historyBytes f) _ refl refl (omega arith)
-    (Bytes-append (sectionBytes (f .veto)) _ (section-bytes (f .veto) (h .0)) (section-bytes (f .trigger) (h .1))) (λ e. history-read-back f e .0)
-piece-writes (gps f) h = writes gpsKind (gpsBytes f) _ refl refl (omega arith) (Bytes-puts order 4 _) (λ e. gps-read-back f e .0)
-piece-writes (trigger f) h = writes triggerKind (triggerBytes f) _ refl refl (omega arith) (Bytes-puts order 4 _) (λ e. trigger-read-back f h .0)
-piece-writes (tlb f) h = writes tlbKind (tlbBytes f) _ refl refl (omega arith) (Bytes-puts order 4 _) (λ e. tlb-read-back f h e .0)
+piece-writes o (phonon f) h = writes o phononKind (phononBytes o f) _ refl refl (omega arith) (Bytes-puts o 4 _) (λ e. phonon-read-back o f h e .0)
+piece-writes o (charge f) h = writes o chargeKind (chargeBytes o f) _ refl refl (omega arith) (Bytes-puts o 4 _) (λ e. charge-read-back o f h e .0)
+piece-writes o (administrative f) h =
+    writes o administrativeKind (administrativeBytes o f) _ refl refl (omega arith) (Bytes-puts o 4 _)
+    (λ e. administrative-read-back o f h e .0)
+piece-writes o (trace f) h =
+    writes o traceKind (traceBytes o f) _ refl refl (omega arith)
+    (Bytes-append (words o (traceWords f)) (f .samples) (Bytes-puts o 4 _) (h .1)) (λ e. trace-read-back o f (h .0) e .0)
+piece-writes o (history f) h =
+    writes o historyKind (historyBytes o f) _ refl refl (omega arith)
+    (Bytes-append (sectionBytes o (f .veto)) _ (section-bytes o (f .veto) (h .0)) (section-bytes o (f .trigger) (h .1)))
+    (λ e. history-read-back o f e .0)
+piece-writes o (gps f) h = writes o gpsKind (gpsBytes o f) _ refl refl (omega arith) (Bytes-puts o 4 _) (λ e. gps-read-back o f e .0)
+piece-writes o (trigger f) h = writes o triggerKind (triggerBytes o f) _ refl refl (omega arith) (Bytes-puts o 4 _) (λ e. trigger-read-back o f h .0)
+piece-writes o (tlb f) h = writes o tlbKind (tlbBytes o f) _ refl refl (omega arith) (Bytes-puts o 4 _) (λ e. tlb-read-back o f h e .0)
 
 -- ---- their fields
 
 -- A section's part of the answer, from the section that stands at p of the body.
-section-answer : (from p : ℕ) (b : List ℕ) (s : Section) → sectionOf p b ≡ s → sectionValues from p b ≡ sectionAnswer (from + p) s
+section-answer : (o : Order) (from p : ℕ) (b : List ℕ) (s : Section) → sectionOf o p b ≡ s → sectionValues o from p b ≡ sectionAnswer (from + p) s
 unfolding sectionValues sectionOf widthAt
-section-answer from p b s e =
-    let counted : word p b ≡ s .count = ap (λ (x : Section). x .count) e in
-    let wide : widthOf p b ≡ s .width = ap (λ (x : Section). x .width) e in
+section-answer o from p b s e =
+    let counted : word o p b ≡ s .count = ap (λ (x : Section). x .count) e in
+    let wide : widthOf o p b ≡ s .width = ap (λ (x : Section). x .width) e in
     let times : from + (p + 4) ≡ from + p + 4 = omega arith in
-    let masks : from + (p + 4 + 4 * word p b + 4) ≡ from + p + 8 + 4 * s .count = omega arith in
+    let masks : from + (p + 4 + 4 * word o p b + 4) ≡ from + p + 8 + 4 * s .count = omega arith in
     λ i. counted i ∷ times i ∷ wide i ∷ masks i ∷ []
 
-after-section : (p : ℕ) (b : List ℕ) (s : Section) → sectionOf p b ≡ s → after p b ≡ p + sectionSize s
+after-section : (o : Order) (p : ℕ) (b : List ℕ) (s : Section) → sectionOf o p b ≡ s → after o p b ≡ p + sectionSize s
 unfolding after sectionOf widthAt
-after-section p b s e =
-    let counted : word p b ≡ s .count = ap (λ (x : Section). x .count) e in
-    let wide : widthOf p b ≡ s .width = ap (λ (x : Section). x .width) e in
+after-section o p b s e =
+    let counted : word o p b ≡ s .count = ap (λ (x : Section). x .count) e in
+    let wide : widthOf o p b ≡ s .width = ap (λ (x : Section). x .width) e in
     rw (counted, wide) (omega arith)
 
 -- The two sections of the body of a history without fault at the place: what they are, and where they stand.
-module _ (place : ℕ) (f : History) (e : historyFault f ≡ 0) where
-  veto-is : sectionOf 0 (historyBytes f) ≡ f .veto
+module _ (o : Order) (place : ℕ) (f : History) (e : historyFault f ≡ 0) where
+  veto-is : sectionOf o 0 (historyBytes o f) ≡ f .veto
   unfolding historyOf
-  veto-is = ap (λ (g : History). g .veto) (history-read-back f e .1)
+  veto-is = ap (λ (g : History). g .veto) (history-read-back o f e .1)
 
-  trigger-is : sectionOf (triggerAt (historyBytes f)) (historyBytes f) ≡ f .trigger
+  trigger-is : sectionOf o (triggerAt o (historyBytes o f)) (historyBytes o f) ≡ f .trigger
   unfolding historyOf
-  trigger-is = ap (λ (g : History). g .trigger) (history-read-back f e .1)
+  trigger-is = ap (λ (g : History). g .trigger) (history-read-back o f e .1)
 
   veto-place : place + 8 + 0 ≡ vetoFrom place f
   veto-place = omega arith
 
-  trigger-place : place + 8 + triggerAt (historyBytes f) ≡ triggerFrom place f
-  trigger-place = omega (arith, after-section 0 (historyBytes f) (f .veto) veto-is)
+  trigger-place : place + 8 + triggerAt o (historyBytes o f) ≡ triggerFrom place f
+  trigger-place = omega (arith, after-section o 0 (historyBytes o f) (f .veto) veto-is)
 
-  pub history-answer : historyKind .values place (historyBytes f)
+  pub history-answer : historyKind .values o place (historyBytes o f)
       ≡ counts (sectionAnswer (vetoFrom place f) (f .veto) ++ sectionAnswer (triggerFrom place f) (f .trigger))
   history-answer =
-      let b : List ℕ = historyBytes f in
+      let b : List ℕ = historyBytes o f in
       ap₂ (λ (x y : List ℕ). counts (x ++ y))
-      (section-answer (place + 8) 0 b (f .veto) veto-is ∙ ap (λ (n : ℕ). sectionAnswer n (f .veto)) veto-place)
-      (section-answer (place + 8) (triggerAt b) b (f .trigger) trigger-is ∙ ap (λ (n : ℕ). sectionAnswer n (f .trigger)) trigger-place)
+      (section-answer o (place + 8) 0 b (f .veto) veto-is ∙ ap (λ (n : ℕ). sectionAnswer n (f .veto)) veto-place)
+      (section-answer o (place + 8) (triggerAt o b) b (f .trigger) trigger-is ∙ ap (λ (n : ℕ). sectionAnswer n (f .trigger)) trigger-place)
 
 -- The fields of the body of fields are the fields.
-fields-are : (place : ℕ) (p : Piece) → PieceFits p → writtenOf p .fault ≡ 0 → recordGiven place (ok (recordOf p)) ≡ answerOf place p
+fields-are : (o : Order) (place : ℕ) (p : Piece) → PieceFits p → writtenOf o p .fault ≡ 0 → recordGiven o place (ok (recordOf o p)) ≡ answerOf place p
 unfolding writtenOf recordOf PieceFits answerOf kindOf
     phononWritten chargeWritten administrativeWritten traceWritten historyWritten gpsWritten triggerWritten tlbWritten
-fields-are place (phonon f) h e = ap (λ (g : Phonon). answerOf place (phonon g)) (phonon-read-back f h e .1)
-fields-are place (charge f) h e = ap (λ (g : Charge). answerOf place (charge g)) (charge-read-back f h e .1)
-fields-are place (administrative f) h e = ap (λ (g : Administrative). answerOf place (administrative g)) (administrative-read-back f h e .1)
-fields-are place (trace f) h e = ap (λ (g : Trace). answerOf place (trace g)) (trace-read-back f (h .0) e .1)
-fields-are place (history f) h e = ap (λ (vs : List Value). accepted (count 8 ∷ vs)) (history-answer place f e)
-fields-are place (gps f) h e = ap (λ (g : Gps). answerOf place (gps g)) (gps-read-back f e .1)
-fields-are place (trigger f) h e = ap (λ (g : Trigger). answerOf place (trigger g)) (trigger-read-back f h .1)
-fields-are place (tlb f) h e = ap (λ (g : Tlb). answerOf place (tlb g)) (tlb-read-back f h e .1)
+fields-are o place (phonon f) h e = ap (λ (g : Phonon). answerOf place (phonon g)) (phonon-read-back o f h e .1)
+fields-are o place (charge f) h e = ap (λ (g : Charge). answerOf place (charge g)) (charge-read-back o f h e .1)
+fields-are o place (administrative f) h e = ap (λ (g : Administrative). answerOf place (administrative g)) (administrative-read-back o f h e .1)
+fields-are o place (trace f) h e = ap (λ (g : Trace). answerOf place (trace g)) (trace-read-back o f (h .0) e .1)
+fields-are o place (history f) h e = ap (λ (vs : List Value). accepted (count 8 ∷ vs)) (history-answer o place f e)
+fields-are o place (gps f) h e = ap (λ (g : Gps). answerOf place (gps g)) (gps-read-back o f e .1)
+fields-are o place (trigger f) h e = ap (λ (g : Trigger). answerOf place (trigger g)) (trigger-read-back o f h .1)
+fields-are o place (tlb f) h e = ap (λ (g : Tlb). answerOf place (tlb g)) (tlb-read-back o f h e .1)
 
-module _ (out : List ℕ) (place next : ℕ) where
+module _ (o : Order) (out : List ℕ) (place next : ℕ) where
   -- For every kind: what the writer wrote, Record reads back the same, at that place.
-  pub piece-reads : (p : Piece) → PieceFits p → recordWrote out place (writtenOf p) ≡ ok next
-      → recordAt (recordOutput out place (writtenOf p)) place ≡ answerOf place p
+  pub piece-reads : (p : Piece) → PieceFits p → recordWrote out place (writtenOf o p) ≡ ok next
+      → recordAt o (recordOutput out place (writtenOf o p)) place ≡ answerOf place p
   unfolding recordAt
   piece-reads p h e =
-      ap (recordGiven place) (record-found out place next (writtenOf p) (recordOf p) (piece-writes p h) e)
-      ∙ fields-are place p h (record-granted out place next (writtenOf p) e .fine)
+      ap (recordGiven o place) (record-found o out place next (writtenOf o p) (recordOf o p) (piece-writes o p h) e)
+      ∙ fields-are o place p h (record-granted out place next (writtenOf o p) e .fine)
 
   -- A trace's samples, which Samples finds.
-  pub samples-read : (f : Trace) → PieceFits (trace f) → recordWrote out place (traceWritten f) ≡ ok next
-      → samplesAt (recordOutput out place (traceWritten f)) place ≡ f .samples
+  pub samples-read : (f : Trace) → PieceFits (trace f) → recordWrote out place (traceWritten o f) ≡ ok next
+      → samplesAt o (recordOutput out place (traceWritten o f)) place ≡ f .samples
   unfolding writtenOf recordOf PieceFits traceWritten traceOf samplesAt samplesPart
   samples-read f h e =
-      let w : Written = traceWritten f in
+      let w : Written = traceWritten o f in
       let new : List ℕ = recordOutput out place w in
-      let body : List ℕ = traceBytes f in
+      let body : List ℕ = traceBytes o f in
       let rest : List ℕ = drop next out in
       let r : Record = ofKind traceKind body in
-      let made : Writes w r = piece-writes (trace f) h in
-      let (rule, fields) = trace-read-back f (h .0) (record-granted out place next w e .fine) in
+      let made : Writes o w r = piece-writes o (trace f) h in
+      let (rule, fields) = trace-read-back o f (h .0) (record-granted out place next w e .fine) in
       let same : drop 48 body ≡ f .samples = ap (λ (g : Trace). g .samples) fields in
-      let long : 48 ≤ length body = omega (arith, trace-length body rule .0) in
+      let long : 48 ≤ length body = omega (arith, trace-length o body rule .0) in
       let size : length (f .samples) ≡ length body - 48 = sym (ap length same) ∙ length-drop 48 body in
       let at : place + 8 + 48 ≡ place + 56 = omega arith in
       let from : drop (place + 56) new ≡ f .samples ++ rest =
       ap (λ (n : ℕ). drop n new) (sym at)
       ∙ sym (drop-drop 48 (place + 8) new)
-      ∙ ap (drop 48) (body-from out place next w r made e)
+      ∙ ap (drop 48) (body-from o out place next w r made e)
       ∙ drop-append-le 48 body rest long
       ∙ ap (λ (x : List ℕ). x ++ rest) same in
-      ap (λ (x : Res Record). take (partGiven place x .1) (drop (partGiven place x .0) new)) (record-found out place next w r made e)
+      ap (λ (x : Res Record). take (partGiven place x .1) (drop (partGiven place x .0) new)) (record-found o out place next w r made e)
       ∙ ap (take (length body - 48)) from
       ∙ take-at (f .samples) rest (length body - 48) size
 
@@ -273,7 +275,7 @@ part-within b rest x q n e = elim (decLe q (length b)) [ yes l ↦ inside l | no
     beyond : length b ≤ q → take (length x) (drop q (b ++ rest)) ≡ x
     beyond l = let none : x ≡ [] = sym e ∙ ap (take n) (drop-of-length-le b l) ∙ take-nil n in rw none
 
-module _ (bs b rest : List ℕ) (from p : ℕ) (s : Section) (stands : drop from bs ≡ b ++ rest) (is : sectionOf p b ≡ s) where
+module _ (o : Order) (bs b rest : List ℕ) (from p : ℕ) (s : Section) (stands : drop from bs ≡ b ++ rest) (is : sectionOf o p b ≡ s) where
   -- A section of a body that stands at `from`: its lists stand where the answer says.
   section-stands : SectionStands bs (from + p) s
   unfolding sectionOf widthAt
@@ -282,29 +284,29 @@ module _ (bs b rest : List ℕ) (from p : ℕ) (s : Section) (stands : drop from
       λ q n at x here e.
       ap (λ (m : ℕ). take (length x) (drop m bs)) (sym here)
       ∙ ap (take (length x)) (sym (drop-drop q from bs) ∙ ap (drop q) stands) ∙ part-within b rest x q n e in
-      let counted : word p b ≡ s .count = ap (λ (x : Section). x .count) is in
+      let counted : word o p b ≡ s .count = ap (λ (x : Section). x .count) is in
       let times : from + (p + 4) ≡ timesFrom (from + p) s = omega arith in
-      let masks : from + (p + 4 + 4 * word p b + 4) ≡ masksFrom (from + p) s = omega arith in
+      let masks : from + (p + 4 + 4 * word o p b + 4) ≡ masksFrom (from + p) s = omega arith in
       record {
-        times = part (p + 4) (4 * word p b) _ (s .times) times (ap (λ (x : Section). x .times) is);
-        masks = part (p + 4 + 4 * word p b + 4) (4 * (word p b * widthOf p b)) _ (s .masks) masks (ap (λ (x : Section). x .masks) is);
+        times = part (p + 4) (4 * word o p b) _ (s .times) times (ap (λ (x : Section). x .times) is);
+        masks = part (p + 4 + 4 * word o p b + 4) (4 * (word o p b * widthOf o p b)) _ (s .masks) masks (ap (λ (x : Section). x .masks) is);
       }
 
 -- A history's lists stand where Record's answer says.
-pub lists-stand : (out : List ℕ) (place next : ℕ) (f : History) → PieceFits (history f)
-    → recordWrote out place (historyWritten f) ≡ ok next
-    → SectionStands (recordOutput out place (historyWritten f)) (vetoFrom place f) (f .veto)
-    × SectionStands (recordOutput out place (historyWritten f)) (triggerFrom place f) (f .trigger)
+pub lists-stand : (o : Order) (out : List ℕ) (place next : ℕ) (f : History) → PieceFits (history f)
+    → recordWrote out place (historyWritten o f) ≡ ok next
+    → SectionStands (recordOutput out place (historyWritten o f)) (vetoFrom place f) (f .veto)
+    × SectionStands (recordOutput out place (historyWritten o f)) (triggerFrom place f) (f .trigger)
 unfolding writtenOf recordOf PieceFits historyWritten
-lists-stand out place next f h e =
-    let w : Written = historyWritten f in
-    let b : List ℕ = historyBytes f in
+lists-stand o out place next f h e =
+    let w : Written = historyWritten o f in
+    let b : List ℕ = historyBytes o f in
     let rest : List ℕ = drop next out in
     let new : List ℕ = recordOutput out place w in
     let fine : historyFault f ≡ 0 = record-granted out place next w e .fine in
-    let from : drop (place + 8) new ≡ b ++ rest = body-from out place next w (ofKind historyKind b) (piece-writes (history f) h) e in (
-      subst (λ (n : ℕ). SectionStands new n (f .veto)) (veto-place place f fine)
-          (section-stands new b rest (place + 8) 0 (f .veto) from (veto-is place f fine)),
-      subst (λ (n : ℕ). SectionStands new n (f .trigger)) (trigger-place place f fine)
-          (section-stands new b rest (place + 8) (triggerAt b) (f .trigger) from (trigger-is place f fine)),
+    let from : drop (place + 8) new ≡ b ++ rest = body-from o out place next w (ofKind historyKind b) (piece-writes o (history f) h) e in (
+      subst (λ (n : ℕ). SectionStands new n (f .veto)) (veto-place o place f fine)
+          (section-stands o new b rest (place + 8) 0 (f .veto) from (veto-is o place f fine)),
+      subst (λ (n : ℕ). SectionStands new n (f .trigger)) (trigger-place o place f fine)
+          (section-stands o new b rest (place + 8) (triggerAt o b) (f .trigger) from (trigger-is o place f fine)),
     )

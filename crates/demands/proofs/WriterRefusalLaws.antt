@@ -10,6 +10,7 @@ use native.Mathlib.Decide.{decLe}
 use lib.Dec.{leb}
 use lib.ListN.{length}
 use borrow.Author.Tests.{leb-true, leb-false, le-leb}
+use Rattle.theory.specs.declared.Order.{Order}
 use Rattle.theory.specs.Tests.{Res, ok, bad, need, bind, unless, first}
 use Rattle.theory.proofs.TestLaws.{ok-bad, bad-ok, ok-inj, need-ok, most-passed, most-passes}
 use Rattle.note.specs.Limits.{fileLimit}
@@ -127,14 +128,14 @@ ended-bad end (bad d q) c p = (
 )
 
 -- Any container: its own tests, and what they ask.
-module _ (c : Context) (Own : ℕ → Type 0) (cs : List ℕ) (given : Gives cs Own) (out : List ℕ) (place end n p : ℕ) where
+module _ (o : Order) (c : Context) (Own : ℕ → Type 0) (cs : List ℕ) (given : Gives cs Own) (out : List ℕ) (place end n p : ℕ) where
   inner : Res ℕ
-  inner = ended end (readRecords c (place + 8) (contentsOf out place end))
+  inner = ended end (readRecords o c (place + 8) (contentsOf out place end))
 
   behind-tests : Res ℕ
   behind-tests = need (first cs) place inner
 
-  own-refused : Lies out place end → behind-tests ≡ bad n p → ClosingRefused c Own out place end n p
+  own-refused : Lies out place end → behind-tests ≡ bad n p → ClosingRefused o c Own out place end n p
   unfolding inner behind-tests
   own-refused l e =
       ⊎-elim
@@ -142,7 +143,7 @@ module _ (c : Context) (Own : ℕ → Type 0) (cs : List ℕ) (given : Gives cs 
       (λ h. contents l (given .exactly 0 .0 (h .0)) (ended-bad end _ n p .0 (h .1)))
       (need-bad (first cs) place inner n p .0 e)
 
-  closing-refused : (within (length out) place end behind-tests ≡ bad n p) ↔ ClosingRefused c Own out place end n p
+  closing-refused : (within (length out) place end behind-tests ≡ bad n p) ↔ ClosingRefused o c Own out place end n p
   unfolding inner behind-tests
   closing-refused =
       let low = bound-bad {A = ℕ} (place + 8) end 12 place behind-tests n p in
@@ -173,25 +174,25 @@ module _ (c : Context) (Own : ℕ → Type 0) (cs : List ℕ) (given : Gives cs 
                     (λ a. inl (omega arith, e, q))),
               ))
               | own-word l o d q ↦ inside l (own .1 (let e = given .exactly n .1 o in inl (λ z. d (sym e ∙ z), sym e, q)))
-              | contents l o e ↦ inside l (own .1 (inr (given .exactly 0 .1 o, ended-bad end _ n p .1 e)))
+              | contents l h e ↦ inside l (own .1 (inr (given .exactly 0 .1 h, ended-bad end _ n p .1 e)))
             ],
       )
 
 -- A configuration's word is given, so its closing asks nothing of its own.
-pub configuration-refused-exact : (out : List ℕ) (place end n p : ℕ)
-    → (configurationClosed out place end ≡ bad n p) ↔ ClosingRefused entry fine out place end n p
+pub configuration-refused-exact : (o : Order) (out : List ℕ) (place end n p : ℕ)
+    → (configurationClosed o out place end ≡ bad n p) ↔ ClosingRefused o entry fine out place end n p
 unfolding configurationClosed first inner behind-tests
-configuration-refused-exact out place end n p = closing-refused entry fine [] no-more out place end n p
+configuration-refused-exact o out place end n p = closing-refused o entry fine [] no-more out place end n p
 
 -- An event's closing asks for class, category and type, then for contents.
-pub event-refused-exact : (out : List ℕ) (place end class category type n p : ℕ)
-    → (eventClosed out place end class category type ≡ bad n p)
-    ↔ ClosingRefused (event none) (EventAsked class category type (asks (place + 9 ≤ end) 9 fine)) out place end n p
+pub event-refused-exact : (o : Order) (out : List ℕ) (place end class category type n p : ℕ)
+    → (eventClosed o out place end class category type ≡ bad n p)
+    ↔ ClosingRefused o (event none) (EventAsked class category type (asks (place + 9 ≤ end) 9 fine)) out place end n p
 unfolding eventClosed inner behind-tests
-event-refused-exact out place end class category type n p =
+event-refused-exact o out place end class category type n p =
     let tests : List ℕ = eventFault class category type ∷ unless (leb (place + 9) end) 9 ∷ [] in
-    let rest : Res ℕ = ended end (readRecords (event none) (place + 8) (contentsOf out place end)) in
+    let rest : Res ℕ = ended end (readRecords o (event none) (place + 8) (contentsOf out place end)) in
     let chain : need (eventFault class category type) place (need (unless (leb (place + 9) end) 9) place rest) ≡ need (first tests) place rest =
     gate _ place _ rest (last-gate _ place rest) in
     rw chain (
-    closing-refused (event none) _ tests (event-gives class category type (asked (le-tells (place + 9) end) no-more)) out place end n p)
+    closing-refused o (event none) _ tests (event-gives class category type (asked (le-tells (place + 9) end) no-more)) out place end n p)

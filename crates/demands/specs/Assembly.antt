@@ -5,6 +5,7 @@ use mathlib.Core.Path.{_≡_}
 use mathlib.Core.Bool.{true}
 use mathlib.Core.List.{List, [], _∷_, map}
 use lib.ListN.{length, take, drop}
+use Rattle.theory.specs.declared.Order.{Order}
 use Rattle.theory.specs.Tests.{Res, ok, bind}
 use Rattle.note.specs.Records.{Context, entry, event, none, isKind, isAllowed, behind}
 use Rattle.note.specs.Events.{Container, eventWord, eventFault}
@@ -46,50 +47,50 @@ pub record FileFits (f : FilePieces) : Type 0 where
 
 -- "Writers: 1, then fields in word order": the fields of each piece are without fault, and so are an event's class, category and type. The
 -- tree's words alone don't say so: a number may be larger than its bits.
-abbrev pub AllFaultless : List Piece → Type 0
-AllFaultless [] = Unit {0}
-AllFaultless (p ∷ ps) = (writtenOf p .fault ≡ 0) × AllFaultless ps
+abbrev pub AllFaultless : Order → List Piece → Type 0
+AllFaultless o [] = Unit {0}
+AllFaultless o (p ∷ ps) = (writtenOf o p .fault ≡ 0) × AllFaultless o ps
 
-pub record EventFaultless (e : EventPieces) : Type 0 where
+pub record EventFaultless (o : Order) (e : EventPieces) : Type 0 where
   pub word : eventFault (e .class) (e .category) (e .type) ≡ 0
-  pub records : AllFaultless (e .records)
+  pub records : AllFaultless o (e .records)
 
-abbrev pub EventsFaultless : List EventPieces → Type 0
-EventsFaultless [] = Unit {0}
-EventsFaultless (e ∷ es) = EventFaultless e × EventsFaultless es
+abbrev pub EventsFaultless : Order → List EventPieces → Type 0
+EventsFaultless o [] = Unit {0}
+EventsFaultless o (e ∷ es) = EventFaultless o e × EventsFaultless o es
 
-pub record FileFaultless (f : FilePieces) : Type 0 where
-  pub entries : AllFaultless (f .entries)
-  pub events : EventsFaultless (f .events)
+pub record FileFaultless (o : Order) (f : FilePieces) : Type 0 where
+  pub entries : AllFaultless o (f .entries)
+  pub events : EventsFaultless o (f .events)
 
 -- A container's contents "are checked by the reading rules": what these ask beyond the fields is that each kind is one of this container's
 -- and stands where it may, and that no event is empty.
-abbrev pub AllPlaced : Context → List Piece → Type 0
-AllPlaced c [] = Unit {0}
-AllPlaced c (p ∷ ps) =
-    (isKind c (recordOf p .kind) ≡ true) × (isAllowed c (recordOf p .kind) ≡ true) × AllPlaced (behind c (recordOf p .kind)) ps
+abbrev pub AllPlaced : Order → Context → List Piece → Type 0
+AllPlaced o c [] = Unit {0}
+AllPlaced o c (p ∷ ps) =
+    (isKind c (recordOf o p .kind) ≡ true) × (isAllowed c (recordOf o p .kind) ≡ true) × AllPlaced o (behind c (recordOf o p .kind)) ps
 
-pub record EventPlaced (e : EventPieces) : Type 0 where
+pub record EventPlaced (o : Order) (e : EventPieces) : Type 0 where
   pub some : 1 ≤ length (e .records)
-  pub records : AllPlaced (event none) (e .records)
+  pub records : AllPlaced o (event none) (e .records)
 
-abbrev pub EventsPlaced : List EventPieces → Type 0
-EventsPlaced [] = Unit {0}
-EventsPlaced (e ∷ es) = EventPlaced e × EventsPlaced es
+abbrev pub EventsPlaced : Order → List EventPieces → Type 0
+EventsPlaced o [] = Unit {0}
+EventsPlaced o (e ∷ es) = EventPlaced o e × EventsPlaced o es
 
-pub record FilePlaced (f : FilePieces) : Type 0 where
-  pub entries : AllPlaced entry (f .entries)
-  pub events : EventsPlaced (f .events)
+pub record FilePlaced (o : Order) (f : FilePieces) : Type 0 where
+  pub entries : AllPlaced o entry (f .entries)
+  pub events : EventsPlaced o (f .events)
 
 -- The tree that they make.
-abbrev pub containerOf : ℕ → List Piece → Container
-containerOf word ps = record { kind = word; body = map recordOf ps }
+abbrev pub containerOf : Order → ℕ → List Piece → Container
+containerOf o word ps = record { kind = word; body = map (recordOf o) ps }
 
-abbrev pub eventOf : EventPieces → Container
-eventOf e = containerOf (eventWord (e .class) (e .category) (e .type)) (e .records)
+abbrev pub eventOf : Order → EventPieces → Container
+eventOf o e = containerOf o (eventWord (e .class) (e .category) (e .type)) (e .records)
 
-unfoldable pub fileOf : FilePieces → File
-fileOf f = (versionWord (f .major) (f .minor), (containerOf configurationWord (f .entries), map eventOf (f .events)))
+unfoldable pub fileOf : Order → FilePieces → File
+fileOf o f = (o, (versionWord (f .major) (f .minor), (containerOf o configurationWord (f .entries), map (eventOf o) (f .events))))
 
 -- ---- the calls in their order
 
@@ -99,46 +100,46 @@ pub record Built : Type 0 where
   pub out : List ℕ
 
 -- Records one after the other; the first refusal ends it.
-unfoldable pub recordsAssembled : Built → List Piece → Res Built
-recordsAssembled b [] = ok b
-recordsAssembled b (p ∷ ps) =
-    bind (recordWrote (b .out) (b .next) (writtenOf p)) (λ next.
-    recordsAssembled (record { next = next; out = recordOutput (b .out) (b .next) (writtenOf p) }) ps)
+unfoldable pub recordsAssembled : Order → Built → List Piece → Res Built
+recordsAssembled o b [] = ok b
+recordsAssembled o b (p ∷ ps) =
+    bind (recordWrote (b .out) (b .next) (writtenOf o p)) (λ next.
+    recordsAssembled o (record { next = next; out = recordOutput (b .out) (b .next) (writtenOf o p) }) ps)
 
 -- "Over contents already written after eight free bytes": the contents, then a closing, with its answer and its output.
-unfoldable pub containerAssembled : (List ℕ → ℕ → ℕ → Res ℕ) → (List ℕ → ℕ → ℕ → List ℕ)
+unfoldable pub containerAssembled : Order → (List ℕ → ℕ → ℕ → Res ℕ) → (List ℕ → ℕ → ℕ → List ℕ)
     → Built → List Piece → Res Built
-containerAssembled closed output b ps =
-    bind (recordsAssembled (record { next = b .next + 8; out = b .out }) ps) (λ filled.
+containerAssembled o closed output b ps =
+    bind (recordsAssembled o (record { next = b .next + 8; out = b .out }) ps) (λ filled.
     bind (closed (filled .out) (b .next) (filled .next)) (λ next.
     ok (record { next = next; out = output (filled .out) (b .next) (filled .next) })))
 
-abbrev pub configurationAssembled : Built → List Piece → Res Built
-configurationAssembled = containerAssembled configurationClosed configurationOutput
+abbrev pub configurationAssembled : Order → Built → List Piece → Res Built
+configurationAssembled o = containerAssembled o (configurationClosed o) (configurationOutput o)
 
-abbrev pub eventAssembled : Built → EventPieces → Res Built
-eventAssembled b e =
-    containerAssembled
-    (λ out place end. eventClosed out place end (e .class) (e .category) (e .type))
-    (λ out place end. eventOutput out place end (e .class) (e .category) (e .type)) b (e .records)
+abbrev pub eventAssembled : Order → Built → EventPieces → Res Built
+eventAssembled o b e =
+    containerAssembled o
+    (λ out place end. eventClosed o out place end (e .class) (e .category) (e .type))
+    (λ out place end. eventOutput o out place end (e .class) (e .category) (e .type)) b (e .records)
 
-unfoldable pub eventsAssembled : Built → List EventPieces → Res Built
-eventsAssembled b [] = ok b
-eventsAssembled b (e ∷ es) = bind (eventAssembled b e) (λ after. eventsAssembled after es)
+unfoldable pub eventsAssembled : Order → Built → List EventPieces → Res Built
+eventsAssembled o b [] = ok b
+eventsAssembled o b (e ∷ es) = bind (eventAssembled o b e) (λ after. eventsAssembled o after es)
 
 -- The header, whose writer "starts at byte 0"; the configuration; the events.
-unfoldable pub fileAssembled : List ℕ → FilePieces → Res Built
-fileAssembled out f =
+unfoldable pub fileAssembled : Order → List ℕ → FilePieces → Res Built
+fileAssembled o out f =
     bind (headerWrote out) (λ next.
-    bind (configurationAssembled (record { next = next; out = headerOutput out (f .major) (f .minor) }) (f .entries)) (λ b.
-    eventsAssembled b (f .events)))
+    bind (configurationAssembled o (record { next = next; out = headerOutput o out (f .major) (f .minor) }) (f .entries)) (λ b.
+    eventsAssembled o b (f .events)))
 
 -- ---- what then stands in the output
 
 -- The bytes from byte 0 up to the last next place are accepted as the file of the pieces, and so with its rows; the rest of the output
 -- stays.
-pub record Assembled (out : List ℕ) (f : FilePieces) (b : Built) : Type 0 where
-  pub accepted : readFile (take (b .next) (b .out)) ≡ ok (fileOf f)
+pub record Assembled (o : Order) (out : List ℕ) (f : FilePieces) (b : Built) : Type 0 where
+  pub accepted : readFile (take (b .next) (b .out)) ≡ ok (fileOf o f)
   pub whole : length (take (b .next) (b .out)) ≡ b .next
   pub behind : drop (b .next) (b .out) ≡ drop (b .next) out
   pub size : length (b .out) ≡ length out

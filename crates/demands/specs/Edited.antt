@@ -7,8 +7,10 @@ use mathlib.Core.Bool.{Bool, true, false}
 use mathlib.Core.List.{List, [], _∷_}
 use lib.Dec.{eqb}
 use lib.ListN.{length, take, drop, getD, set}
+use Rattle.theory.specs.declared.Order.{Order}
 use Rattle.theory.specs.Tests.{ok}
 use Rattle.theory.specs.Layout.{row, own}
+use Rattle.note.specs.Words.{byteAt}
 use Rattle.note.specs.Answers.{accepted, counts}
 use Rattle.note.specs.Files.{File, readFile}
 use Rattle.note.specs.Rows.{rowsOf, isBox}
@@ -24,18 +26,23 @@ startOf f k = row (rowsOf f) k .start
 abbrev pub offset : ℕ → ℕ → ℕ
 offset start i = i - (start + 56)
 
+-- Which byte that is where each word's bytes are counted from its lowest up, as the samples of a word are.
+abbrev pub counted : Order → ℕ → ℕ → ℕ
+counted o start i = byteAt o (offset start i)
+
 -- The number, from 1, of the sample that holds byte i.
-abbrev pub holder : ℕ → ℕ → ℕ
-holder start i = offset start i / 2 + 1
+abbrev pub holder : Order → ℕ → ℕ → ℕ
+holder o start i = counted o start i / 2 + 1
 
--- The number that two bytes spell, from byte p on, the lower one first; and that of the two bytes of the sample that holds byte i.
-abbrev pub pair : List ℕ → ℕ → ℕ
-pair bs p = getD bs p 0 + 256 * getD bs (p + 1) 0
+-- The number that the two bytes of sample k spell, the lower one first, of samples from byte p on; and of the sample that holds byte i.
+abbrev pub pair : Order → List ℕ → ℕ → ℕ → ℕ
+pair o bs p k = getD bs (p + byteAt o (2 * (k - 1))) 0 + 256 * getD bs (p + byteAt o (2 * (k - 1) + 1)) 0
 
-abbrev pub held : List ℕ → ℕ → ℕ → ℕ
-held bs start i = pair bs (start + 56 + 2 * (holder start i - 1))
+abbrev pub held : Order → List ℕ → ℕ → ℕ → ℕ
+held o bs start i = pair o bs (start + 56) (holder o start i)
 
--- A sample s with its lower byte (true) or its upper byte replaced by x, the other one kept; at an even offset it is the lower.
+-- A sample s with its lower byte (true) or its upper byte replaced by x, the other one kept; of a byte that counts as
+-- an even one it is the lower.
 abbrev pub halfReplaced : Bool → ℕ → ℕ → ℕ
 halfReplaced true x s = s / 256 * 256 + x
 halfReplaced false x s = x * 256 + s % 256
@@ -46,14 +53,14 @@ replaced m x s = halfReplaced (eqb (m % 2) 0) x s
 -- Of the trace that begins at `start` and is `whole` bytes long, byte i, inside its samples, becomes x. The sample that holds it is given
 -- before and after; a different byte makes a different sample. Samples gives all the trace's bytes behind the first 56, the same part
 -- before and after, its bytes with that one replaced.
-pub record SampleEdited (bs : List ℕ) (start whole i x : ℕ) : Type 0 where
-  pub before : sampleAt bs start (holder start i) ≡ accepted (counts (held bs start i ∷ []))
-  pub after : sampleAt (set bs i x) start (holder start i) ≡ accepted (counts (replaced (offset start i) x (held bs start i) ∷ []))
-  pub differs : x ≢ getD bs i 0 → replaced (offset start i) x (held bs start i) ≢ held bs start i
-  pub part : samplesPart bs start ≡ (start + 56, whole - 56)
-  pub bytes : samplesAt bs start ≡ take (whole - 56) (drop (start + 56) bs)
-  pub part-stays : samplesPart (set bs i x) start ≡ samplesPart bs start
-  pub part-bytes : samplesAt (set bs i x) start ≡ set (samplesAt bs start) (offset start i) x
+pub record SampleEdited (o : Order) (bs : List ℕ) (start whole i x : ℕ) : Type 0 where
+  pub before : sampleAt o bs start (holder o start i) ≡ accepted (counts (held o bs start i ∷ []))
+  pub after : sampleAt o (set bs i x) start (holder o start i) ≡ accepted (counts (replaced (counted o start i) x (held o bs start i) ∷ []))
+  pub differs : x ≢ getD bs i 0 → replaced (counted o start i) x (held o bs start i) ≢ held o bs start i
+  pub part : samplesPart o bs start ≡ (start + 56, whole - 56)
+  pub bytes : samplesAt o bs start ≡ take (whole - 56) (drop (start + 56) bs)
+  pub part-stays : samplesPart o (set bs i x) start ≡ samplesPart o bs start
+  pub part-bytes : samplesAt o (set bs i x) start ≡ set (samplesAt o bs start) (offset start i) x
 
 -- ---- what stays
 
@@ -64,25 +71,25 @@ SameSection bs bs′ n t w m =
     (take (4 * n) (drop t bs′) ≡ take (4 * n) (drop t bs)) × (take (4 * (n * w)) (drop m bs′) ≡ take (4 * (n * w)) (drop m bs))
 
 -- Where Record finds a history at `start`: veto and trigger section.
-abbrev pub SameLists : List ℕ → List ℕ → ℕ → Type 0
-SameLists bs bs′ start = (n t w m n′ t′ w′ m′ : ℕ)
-    → recordAt bs start ≡ accepted (counts (8 ∷ n ∷ t ∷ w ∷ m ∷ n′ ∷ t′ ∷ w′ ∷ m′ ∷ []))
+abbrev pub SameLists : Order → List ℕ → List ℕ → ℕ → Type 0
+SameLists o bs bs′ start = (n t w m n′ t′ w′ m′ : ℕ)
+    → recordAt o bs start ≡ accepted (counts (8 ∷ n ∷ t ∷ w ∷ m ∷ n′ ∷ t′ ∷ w′ ∷ m′ ∷ []))
     → SameSection bs bs′ n t w m × SameSection bs bs′ n′ t′ w′ m′
 
--- In the accepted file f of the bytes bs, row j is a trace, and byte i, inside its samples, becomes x.
-pub record Edited (bs : List ℕ) (f : File) (j i x : ℕ) : Type 0 where
+-- In the accepted file f of the bytes bs, row j is a trace, and byte i, inside its samples, becomes x. Calls by place are given the order o.
+pub record Edited (o : Order) (bs : List ℕ) (f : File) (j i x : ℕ) : Type 0 where
   pub file : File
   pub accepted : readFile (set bs i x) ≡ ok file
   pub same-rows : rowsOf file ≡ rowsOf f
-  pub sample-changes : SampleEdited bs (startOf f j) (row (rowsOf f) j .whole) i x
-  pub other-samples-stay : (k n : ℕ) → k < length (rowsOf f) → ((k ≡ j) × (n ≡ holder (startOf f j) i) → ⊥)
-      → sampleAt (set bs i x) (startOf f k) n ≡ sampleAt bs (startOf f k) n
+  pub sample-changes : SampleEdited o bs (startOf f j) (row (rowsOf f) j .whole) i x
+  pub other-samples-stay : (k n : ℕ) → k < length (rowsOf f) → ((k ≡ j) × (n ≡ holder o (startOf f j) i) → ⊥)
+      → sampleAt o (set bs i x) (startOf f k) n ≡ sampleAt o bs (startOf f k) n
   pub other-parts-stay : (k : ℕ) → k < length (rowsOf f) → k ≢ j
-      → (samplesPart (set bs i x) (startOf f k) ≡ samplesPart bs (startOf f k))
-      × (samplesAt (set bs i x) (startOf f k) ≡ samplesAt bs (startOf f k))
-  pub fields-stay : (k : ℕ) → k < length (rowsOf f) → recordAt (set bs i x) (startOf f k) ≡ recordAt bs (startOf f k)
-  pub lists-stay : (k : ℕ) → k < length (rowsOf f) → SameLists bs (set bs i x) (startOf f k)
-  pub settings-stay : (k : ℕ) → k < length (rowsOf f) → settingAt (set bs i x) (startOf f k) ≡ settingAt bs (startOf f k)
+      → (samplesPart o (set bs i x) (startOf f k) ≡ samplesPart o bs (startOf f k))
+      × (samplesAt o (set bs i x) (startOf f k) ≡ samplesAt o bs (startOf f k))
+  pub fields-stay : (k : ℕ) → k < length (rowsOf f) → recordAt o (set bs i x) (startOf f k) ≡ recordAt o bs (startOf f k)
+  pub lists-stay : (k : ℕ) → k < length (rowsOf f) → SameLists o bs (set bs i x) (startOf f k)
+  pub settings-stay : (k : ℕ) → k < length (rowsOf f) → settingAt o (set bs i x) (startOf f k) ≡ settingAt o bs (startOf f k)
   pub other-rows-stay : (k n : ℕ) → k < length (rowsOf f) → k ≢ j → n < own isBox (row (rowsOf f) k)
       → getD (set bs i x) (startOf f k + n) 0 ≡ getD bs (startOf f k + n) 0
   pub same-length : length (set bs i x) ≡ length bs

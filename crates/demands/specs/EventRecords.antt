@@ -2,6 +2,7 @@
 -- reader, and nothing that one keeps in mind from record to record.
 use Prim.Native.Nat.{ℕ}
 use mathlib.Core.List.{List, [], _∷_, map}
+use Rattle.theory.specs.declared.Order.{Order}
 use Rattle.note.specs.Records.{Record, alone}
 use Rattle.note.specs.EventKinds.{IsEntryKind, IsRecordKind, EventKinds}
 use Rattle.demands.specs.Valid.{ValidRecord}
@@ -11,15 +12,15 @@ abbrev pub kindsOf : List Record → List ℕ
 kindsOf rs = map (λ (r : Record). r .kind) rs
 
 -- Each is valid by itself, as Record reads it, and is of such a kind.
-abbrev pub EachValid : (ℕ → Type 0) → List Record → Type 0
-EachValid Kind [] = Unit {0}
-EachValid Kind (r ∷ rs) = (Kind (r .kind) × ValidRecord alone r) × EachValid Kind rs
+abbrev pub EachValid : Order → (ℕ → Type 0) → List Record → Type 0
+EachValid o Kind [] = Unit {0}
+EachValid o Kind (r ∷ rs) = (Kind (r .kind) × ValidRecord o alone r) × EachValid o Kind rs
 
 -- An event: records; the first administrative, each kind but trace at most once.
-pub record EventRecords (rs : List Record) : Type 0 where
+pub record EventRecords (o : Order) (rs : List Record) : Type 0 where
   pub kinds : EventKinds (kindsOf rs)
-  pub each : EachValid IsRecordKind rs
+  pub each : EachValid o IsRecordKind rs
 
 -- A configuration: entries, in any order and number.
-abbrev pub ConfigurationEntries : List Record → Type 0
-ConfigurationEntries rs = EachValid IsEntryKind rs
+abbrev pub ConfigurationEntries : Order → List Record → Type 0
+ConfigurationEntries o rs = EachValid o IsEntryKind rs

@@ -4,6 +4,7 @@ use Prim.Native.Nat.{ℕ, _+_, _-_, _≤_, _<_}
 use mathlib.Core.Path.{_≡_}
 use mathlib.Core.List.{List}
 use lib.ListN.{length, take, drop}
+use Rattle.theory.specs.declared.Order.{Order}
 use Rattle.theory.specs.Tests.{Res, ok, bad}
 use Rattle.note.specs.Limits.{fileLimit}
 use Rattle.note.specs.History.{Section}
@@ -34,13 +35,13 @@ HasRoom n place end = (place + 8 ≤ end) × (end ≤ n) × (n ≤ fileLimit)
 -- "A container is closed from a given place to a given end, which is the next place, over contents already written after eight free bytes:
 -- they are checked by the reading rules, then the eight bytes are written"; "a container's contents, stay". From the place up to the end
 -- then stands the container with that first word and the records or entries read from the contents, and there it is read.
-pub record Closed (read : Unit {0} → ℕ → List ℕ → Res Container) (c : Context)
+pub record Closed (o : Order) (read : Unit {0} → ℕ → List ℕ → Res Container) (c : Context)
     (old new : List ℕ) (place end next word : ℕ) : Type 0 where
   pub records : List Record
-  pub contents : readRecords c (place + 8) (contentsOf old place end) ≡ ok records
+  pub contents : readRecords o c (place + 8) (contentsOf old place end) ≡ ok records
   pub ends : next ≡ end
   pub reads : read tt place (take (end - place) (drop place new)) ≡ ok (record { kind = word; body = records })
-  pub stands : Laid old new place end (containerBytes (record { kind = word; body = records }))
+  pub stands : Laid old new place end (containerBytes o (record { kind = word; body = records }))
   pub contents-stay : drop (place + 8) new ≡ drop (place + 8) old
 
 -- "Rewrite ..: 1 for either buffer, the file's refusal, then 13": the output over the limit, 1 at place 0; the file's own refusal, 1 where it

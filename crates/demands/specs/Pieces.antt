@@ -1,6 +1,7 @@
 -- Document 01, 'Rows and calls', of writers: what is handed to a record's writer, and the record that it makes.
 use Prim.Native.Nat.{ℕ, _+_, _*_}
 use mathlib.Core.List.{List, [], _∷_, _++_}
+use Rattle.theory.specs.declared.Order.{Order}
 use Rattle.theory.specs.Words.{Bytes, AllFit}
 use Rattle.note.specs.Words.{AllSigned}
 use Rattle.note.specs.Answers.{Given, accepted, whole, count, counts, wholes}
@@ -29,29 +30,29 @@ pub data Piece : Type 0 where
   tlb : Tlb → Piece
 
 -- What its writer makes of them: the first fault, and the bytes.
-unfoldable pub writtenOf : Piece → Written
-writtenOf (phonon f) = phononWritten f
-writtenOf (charge f) = chargeWritten f
-writtenOf (administrative f) = administrativeWritten f
-writtenOf (trace f) = traceWritten f
-writtenOf (history f) = historyWritten f
-writtenOf (gps f) = gpsWritten f
-writtenOf (trigger f) = triggerWritten f
-writtenOf (tlb f) = tlbWritten f
+unfoldable pub writtenOf : Order → Piece → Written
+writtenOf o (phonon f) = phononWritten o f
+writtenOf o (charge f) = chargeWritten o f
+writtenOf o (administrative f) = administrativeWritten o f
+writtenOf o (trace f) = traceWritten o f
+writtenOf o (history f) = historyWritten o f
+writtenOf o (gps f) = gpsWritten o f
+writtenOf o (trigger f) = triggerWritten o f
+writtenOf o (tlb f) = tlbWritten o f
 
 -- The record or entry that these fields are: the kind's word around the body of the fields.
 abbrev pub ofKind : Kind → List ℕ → Record
 ofKind k body = record { kind = k .word; body = body }
 
-unfoldable pub recordOf : Piece → Record
-recordOf (phonon f) = ofKind phononKind (phononBytes f)
-recordOf (charge f) = ofKind chargeKind (chargeBytes f)
-recordOf (administrative f) = ofKind administrativeKind (administrativeBytes f)
-recordOf (trace f) = ofKind traceKind (traceBytes f)
-recordOf (history f) = ofKind historyKind (historyBytes f)
-recordOf (gps f) = ofKind gpsKind (gpsBytes f)
-recordOf (trigger f) = ofKind triggerKind (triggerBytes f)
-recordOf (tlb f) = ofKind tlbKind (tlbBytes f)
+unfoldable pub recordOf : Order → Piece → Record
+recordOf o (phonon f) = ofKind phononKind (phononBytes o f)
+recordOf o (charge f) = ofKind chargeKind (chargeBytes o f)
+recordOf o (administrative f) = ofKind administrativeKind (administrativeBytes o f)
+recordOf o (trace f) = ofKind traceKind (traceBytes o f)
+recordOf o (history f) = ofKind historyKind (historyBytes o f)
+recordOf o (gps f) = ofKind gpsKind (gpsBytes o f)
+recordOf o (trigger f) = ofKind triggerKind (triggerBytes o f)
+recordOf o (tlb f) = ofKind tlbKind (tlbBytes o f)
 
 -- "All words are 32 bits"; "samples and history lists are handed over .., each as a part of bytes". A caller's types say no less; of a
 -- GPS record's numbers nothing is asked, since the writer's own tests bound them.

@@ -4,44 +4,47 @@ use mathlib.Core.Path.{_≡_}
 use mathlib.Core.Bool.{true}
 use mathlib.Core.List.{List, [], _∷_}
 use lib.ListN.{length}
+use Rattle.theory.specs.declared.Order.{Order}
+use Rattle.theory.specs.declared.Order.the-variants.{Little}
 use Rattle.theory.specs.Words.{Bytes, Fits}
 use Rattle.note.specs.Limits.{fileLimit}
 use Rattle.note.specs.Records.{Record, Context, entry, event, none, isKind, isAllowed, behind, recordRule, recordsBytes}
 use Rattle.note.specs.Events.{Container, eventWordRule}
-use Rattle.note.specs.Files.{File, versionOf, configurationOf, eventsOf, configurationWord, versionRule, fileBytes}
+use Rattle.note.specs.Files.{File, orderIn, versionOf, configurationOf, eventsOf, configurationWord, versionRule, fileBytes}
 
 -- A record: of a kind that is allowed here, placed as an event asks, its body bytes that its kind's rule admits, its two words words.
-pub record ValidRecord (c : Context) (r : Record) : Type 0 where
+pub record ValidRecord (o : Order) (c : Context) (r : Record) : Type 0 where
   pub kind-allowed : isKind c (r .kind) ≡ true
   pub place-allowed : isAllowed c (r .kind) ≡ true
   pub kind-fits : Fits 4 (r .kind)
   pub length-fits : Fits 4 (length (r .body))
   pub body-bytes : Bytes (r .body)
-  pub body-rule : recordRule (r .kind) (r .body) ≡ 0
+  pub body-rule : recordRule o (r .kind) (r .body) ≡ 0
 
 -- Records one after the other, each with those before it in mind.
-abbrev pub ValidRecords : Context → List Record → Type 0
-ValidRecords c [] = Unit {0}
-ValidRecords c (r ∷ rs) = ValidRecord c r × ValidRecords (behind c (r .kind)) rs
+abbrev pub ValidRecords : Order → Context → List Record → Type 0
+ValidRecords o c [] = Unit {0}
+ValidRecords o c (r ∷ rs) = ValidRecord o c r × ValidRecords o (behind c (r .kind)) rs
 
 -- An event: its first word as admitted, not empty, its records valid.
-pub record ValidEvent (e : Container) : Type 0 where
+pub record ValidEvent (o : Order) (e : Container) : Type 0 where
   pub word-rule : eventWordRule (e .kind) ≡ 0
   pub word-fits : Fits 4 (e .kind)
-  pub not-empty : 1 ≤ length (recordsBytes (e .body))
-  pub length-fits : Fits 4 (length (recordsBytes (e .body)))
-  pub records-valid : ValidRecords (event none) (e .body)
+  pub not-empty : 1 ≤ length (recordsBytes o (e .body))
+  pub length-fits : Fits 4 (length (recordsBytes o (e .body)))
+  pub records-valid : ValidRecords o (event none) (e .body)
 
-abbrev pub ValidEvents : List Container → Type 0
-ValidEvents [] = Unit {0}
-ValidEvents (e ∷ es) = ValidEvent e × ValidEvents es
+abbrev pub ValidEvents : Order → List Container → Type 0
+ValidEvents o [] = Unit {0}
+ValidEvents o (e ∷ es) = ValidEvent o e × ValidEvents o es
 
--- A file: format 2.0; one configuration of valid entries; valid events; at most 16,777,216 bytes.
+-- A file: little-endian; format 2.0; one configuration of valid entries; valid events; at most 16,777,216 bytes.
 pub record Valid (f : File) : Type 0 where
+  pub byte-order : orderIn f ≡ Little
   pub version-rule : versionRule (versionOf f) ≡ 0
   pub version-fits : Fits 4 (versionOf f)
   pub configuration-word : configurationOf f .kind ≡ configurationWord
-  pub configuration-fits : Fits 4 (length (recordsBytes (configurationOf f .body)))
-  pub entries-valid : ValidRecords entry (configurationOf f .body)
-  pub events-valid : ValidEvents (eventsOf f)
+  pub configuration-fits : Fits 4 (length (recordsBytes (orderIn f) (configurationOf f .body)))
+  pub entries-valid : ValidRecords (orderIn f) entry (configurationOf f .body)
+  pub events-valid : ValidEvents (orderIn f) (eventsOf f)
   pub within-limit : length (fileBytes f) ≤ fileLimit

@@ -5,6 +5,7 @@ use mathlib.Core.Path.{_≡_}
 use mathlib.Core.Logic.{_⊎_, _≢_}
 use mathlib.Core.List.{List}
 use lib.ListN.{length, take, drop}
+use Rattle.theory.specs.declared.Order.{Order}
 use Rattle.theory.specs.Tests.{bad}
 use Rattle.note.specs.Records.{Context, readRecords}
 
@@ -29,10 +30,10 @@ pub record Lies (out : List ℕ) (place end : ℕ) : Type 0 where
   pub end-inside : end ≤ length out
   pub eight : place + 8 ≤ end
 
-pub data ClosingRefused (c : Context) (Own : ℕ → Type 0) (out : List ℕ) (place end n p : ℕ) : Type 0 where
-  closing-over : 16777216 < length out → n ≡ 1 → p ≡ 0 → ClosingRefused c Own out place end n p
+pub data ClosingRefused (o : Order) (c : Context) (Own : ℕ → Type 0) (out : List ℕ) (place end n p : ℕ) : Type 0 where
+  closing-over : 16777216 < length out → n ≡ 1 → p ≡ 0 → ClosingRefused o c Own out place end n p
   closing-room : length out ≤ 16777216 → (length out < place) ⊎ ((length out < end) ⊎ (end < place + 8)) → n ≡ 13 → p ≡ place
-      → ClosingRefused c Own out place end n p
-  own-word : Lies out place end → Own n → n ≢ 0 → p ≡ place → ClosingRefused c Own out place end n p
+      → ClosingRefused o c Own out place end n p
+  own-word : Lies out place end → Own n → n ≢ 0 → p ≡ place → ClosingRefused o c Own out place end n p
   contents : Lies out place end → Own 0
-      → readRecords c (place + 8) (take (end - (place + 8)) (drop (place + 8) out)) ≡ bad n p → ClosingRefused c Own out place end n p
+      → readRecords o c (place + 8) (take (end - (place + 8)) (drop (place + 8) out)) ≡ bad n p → ClosingRefused o c Own out place end n p

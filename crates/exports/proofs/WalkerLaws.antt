@@ -9,17 +9,18 @@ use native.Mathlib.Omega.{arith}
 use lib.Dec.{leb, ltb, eqb}
 use lib.ListN.{length}
 use borrow.Author.Tests.{leb-true}
+use Rattle.theory.specs.declared.Order.{Order}
 use Rattle.theory.specs.Words.{Bytes}
 use Rattle.theory.specs.Tests.{Res, ok, bad}
 use Rattle.note.specs.Limits.{fileLimit}
 use Rattle.note.specs.Words.{word}
 use Rattle.note.specs.Answers.{givenYield}
-use Rattle.note.specs.Files.{File, readFile}
+use Rattle.note.specs.Files.{File, orderOf, readFile}
 use Rattle.note.specs.Rows.{yieldAt}
 use Rattle.rows.specs.Values.{hasValues}
 use Rattle.demands.proofs.RefusalLaws.{refusal-is-small}
 use Rattle.walk.specs.declared.Spot.{Spot}
-use Rattle.walk.specs.Steps.{stands, bodyIn, stayed, ended, headerStep, recordStep, containerStep, usable, stepOf}
+use Rattle.walk.specs.Steps.{stands, bodyIn, stayed, ended, headerStep, recordStep, containerStep, usable, stepIn, stepOf}
 use Rattle.walk.specs.Steps.{startGiven, startOf, openedOf, stepsFrom}
 use Rattle.walk.proofs.WalkLaws.{walk-yields, steps-more}
 use Rattle.exports.specs.Walkers.{numbersOf, narrow, spotOf, walkerAfter}
@@ -30,7 +31,7 @@ Narrow at = (at .number < 4294967296) × (at .parent < 4294967296) × (at .rows 
 
 -- A step does not ask what was yielded last.
 last-unasked : (bs : List ℕ) (at : Spot) → stepOf bs (ended at) ≡ stepOf bs at
-unfolding stepOf usable stayed headerStep recordStep containerStep
+unfolding stepOf stepIn usable stayed headerStep recordStep containerStep
 last-unasked bs at = refl
 
 narrow-is : (n : ℕ) → n < 4294967296 → narrow n ≡ n
@@ -52,29 +53,29 @@ usable-rows bs at u =
     let rest = and-eq-true-iff (leb (length bs) fileLimit) _ .0 u .1 in
     leb-true (at .rows) fileLimit (and-eq-true-iff (leb (at .rows) fileLimit) _ .0 rest .0)
 
-module _ (at : Spot) (h : Narrow at) (r : at .rows ≤ fileLimit) where
-  header-narrow : (bs : List ℕ) → Narrow (headerStep bs at)
+module _ (o : Order) (at : Spot) (h : Narrow at) (r : at .rows ≤ fileLimit) where
+  header-narrow : (bs : List ℕ) → Narrow (headerStep o bs at)
   unfolding headerStep stayed
   header-narrow bs = both Narrow (leb 8 (length bs)) _ _ (λ l. (h .0, omega arith, omega (arith, r))) h
 
-  record-narrow : (bs : List ℕ) → Narrow (recordStep bs at)
+  record-narrow : (bs : List ℕ) → Narrow (recordStep o bs at)
   unfolding recordStep stayed
   record-narrow bs =
-      both Narrow (stands bs) _ _
-      (λ s. both Narrow (hasValues (word 0 bs) (bodyIn bs)) _ _ (λ v. (h .0, h .1, omega (arith, r))) h) h
+      both Narrow (stands o bs) _ _
+      (λ s. both Narrow (hasValues o (word o 0 bs) (bodyIn o bs)) _ _ (λ v. (h .0, h .1, omega (arith, r))) h) h
 
-  container-narrow : (bs : List ℕ) → Narrow (containerStep bs at)
+  container-narrow : (bs : List ℕ) → Narrow (containerStep o bs at)
   unfolding containerStep stayed
-  container-narrow bs = both Narrow (stands bs) _ _ (λ s. (h .0, omega (arith, r), omega (arith, r))) h
+  container-narrow bs = both Narrow (stands o bs) _ _ (λ s. (h .0, omega (arith, r), omega (arith, r))) h
 
 step-narrow : (bs : List ℕ) (at : Spot) → Narrow at → Narrow (stepOf bs at)
-unfolding stepOf stayed
+unfolding stepOf stepIn stayed
 step-narrow bs at h =
     both Narrow (eqb (at .number) 0) _ _ (λ z.
     both Narrow (usable bs at) _ _ (λ u.
     let r = usable-rows bs at u in
-    both Narrow (eqb (at .place) 0) _ _ (λ p. header-narrow at h r bs)
-    (both Narrow (ltb (at .place) (at .end)) _ _ (λ i. record-narrow at h r _) (container-narrow at h r _))) h) h
+    both Narrow (eqb (at .place) 0) _ _ (λ p. header-narrow (orderOf bs) at h r bs)
+    (both Narrow (ltb (at .place) (at .end)) _ _ (λ i. record-narrow (orderOf bs) at h r _) (container-narrow (orderOf bs) at h r _))) h) h
 
 steps-narrow : (bs : List ℕ) (k : ℕ) (at : Spot) → Narrow at → Narrow (stepsFrom bs k at)
 unfolding stepsFrom

@@ -9,6 +9,7 @@ use note::WalkerYield;
 use walk::Spot;
 ghost use mathlib.Core.Path.{_≡_};
 ghost use lib.ListN.{length};
+ghost use Rattle.theory.specs.declared.Order.the-variants.{Little};
 ghost use Rattle.note.specs.Answers.{givenYield};
 ghost use Rattle.note.specs.Calls.{recordAt, settingAt, samplesPart, sampleAt, findAt};
 ghost use Rattle.note.specs.Channels.{channelAnswer, codeAnswer};
@@ -40,9 +41,9 @@ pub extern "C" fn dwj_record(
     values: &mut [i64; 12],
     refusal: &mut u64,
 ) -> u32
-    ensures number { λ r. ⌜ r ≡ numberOf (recordAt (now (file .entry)) place) ⌝ }
-    ensures values { λ _. ⌜ now (values .exit) ≡ wholesAfter 12 (now (values .entry)) (recordAt (now (file .entry)) place) ⌝ }
-    ensures refusal { λ _. ⌜ now (refusal .exit) ≡ placeAfter (now (refusal .entry)) (recordAt (now (file .entry)) place) ⌝ }
+    ensures number { λ r. ⌜ r ≡ numberOf (recordAt Little (now (file .entry)) place) ⌝ }
+    ensures values { λ _. ⌜ now (values .exit) ≡ wholesAfter 12 (now (values .entry)) (recordAt Little (now (file .entry)) place) ⌝ }
+    ensures refusal { λ _. ⌜ now (refusal .exit) ≡ placeAfter (now (refusal .entry)) (recordAt Little (now (file .entry)) place) ⌝ }
 {
     match dwejrasq::record(file, place) {
         RecordAnswer::Phonon {
@@ -263,10 +264,10 @@ pub extern "C" fn dwj_setting(
     units: &mut [f64; 4],
     refusal: &mut u64,
 ) -> u32
-    ensures number { λ r. ⌜ r ≡ numberOf (settingAt (now (file .entry)) place) ⌝ }
-    ensures whole { λ _. ⌜ now (whole .exit) ≡ wholesAfter 8 (now (whole .entry)) (settingAt (now (file .entry)) place) ⌝ }
-    ensures units { λ _. ⌜ now (units .exit) ≡ floatsAfter 4 (now (units .entry)) (settingAt (now (file .entry)) place) ⌝ }
-    ensures refusal { λ _. ⌜ now (refusal .exit) ≡ placeAfter (now (refusal .entry)) (settingAt (now (file .entry)) place) ⌝ }
+    ensures number { λ r. ⌜ r ≡ numberOf (settingAt Little (now (file .entry)) place) ⌝ }
+    ensures whole { λ _. ⌜ now (whole .exit) ≡ wholesAfter 8 (now (whole .entry)) (settingAt Little (now (file .entry)) place) ⌝ }
+    ensures units { λ _. ⌜ now (units .exit) ≡ floatsAfter 4 (now (units .entry)) (settingAt Little (now (file .entry)) place) ⌝ }
+    ensures refusal { λ _. ⌜ now (refusal .exit) ≡ placeAfter (now (refusal .entry)) (settingAt Little (now (file .entry)) place) ⌝ }
 {
     match dwejrasq::setting(file, place) {
         SettingAnswer::Phonon {
@@ -328,8 +329,8 @@ pub extern "C" fn dwj_setting(
 /// Samples: where the samples of the trace at a place stand in the file, and how many bytes they are; both 0 where Record finds none.
 #[no_mangle]
 pub extern "C" fn dwj_samples(file: &[u8], place: usize, offset: &mut u64, size: &mut u64)
-    ensures offset { λ _. ⌜ now (offset .exit) ≡ samplesPart (now (file .entry)) place .0 ⌝ }
-    ensures size { λ _. ⌜ now (size .exit) ≡ samplesPart (now (file .entry)) place .1 ⌝ }
+    ensures offset { λ _. ⌜ now (offset .exit) ≡ samplesPart Little (now (file .entry)) place .0 ⌝ }
+    ensures size { λ _. ⌜ now (size .exit) ≡ samplesPart Little (now (file .entry)) place .1 ⌝ }
 {
     let n = dwejrasq::samples(file, place).len();
     *size = n as u64;
@@ -349,9 +350,9 @@ pub extern "C" fn dwj_sample(
     value: &mut u32,
     refusal: &mut u64,
 ) -> u32
-    ensures number { λ r. ⌜ r ≡ numberOf (sampleAt (now (file .entry)) place number) ⌝ }
-    ensures value { λ _. ⌜ NumberAfter (now (value .entry)) (sampleAt (now (file .entry)) place number) (now (value .exit)) ⌝ }
-    ensures refusal { λ _. ⌜ now (refusal .exit) ≡ placeAfter (now (refusal .entry)) (sampleAt (now (file .entry)) place number) ⌝ }
+    ensures number { λ r. ⌜ r ≡ numberOf (sampleAt Little (now (file .entry)) place number) ⌝ }
+    ensures value { λ _. ⌜ NumberAfter (now (value .entry)) (sampleAt Little (now (file .entry)) place number) (now (value .exit)) ⌝ }
+    ensures refusal { λ _. ⌜ now (refusal .exit) ≡ placeAfter (now (refusal .entry)) (sampleAt Little (now (file .entry)) place number) ⌝ }
 {
     match dwejrasq::sample(file, place, number) {
         SampleAnswer::Sample { value: found } => {

@@ -5,6 +5,7 @@ use mathlib.Core.Path.{_≡_, refl, sym}
 use mathlib.Core.List.{List, [], _∷_, _++_}
 use lib.Dec.{eqb}
 use lib.ListN.{length}
+use Rattle.theory.specs.declared.Order.{Order}
 use Rattle.theory.specs.Tests.{unless, first}
 use Rattle.theory.proofs.TestLaws.{first-of-part}
 use Rattle.note.specs.Words.{word}
@@ -16,7 +17,7 @@ unfolding first
 first-of-parts zero cs ds = first-of-part cs ds
 first-of-parts (suc b) cs ds = refl
 
-pub gps-rule-in-parts : (b : List ℕ)
-    → gpsRule b ≡ first (unless (eqb (length b) 12) 6 ∷ gpsDigitsFault (word 0 b) (word 4 b) (word 8 b) ∷ gpsFault (gpsOf b) ∷ [])
+pub gps-rule-in-parts : (o : Order) (b : List ℕ)
+    → gpsRule o b ≡ first (unless (eqb (length b) 12) 6 ∷ gpsDigitsFault (word o 0 b) (word o 4 b) (word o 8 b) ∷ gpsFault (gpsOf o b) ∷ [])
 unfolding gpsRule gpsDigitsFault
-gps-rule-in-parts b = sym (first-of-parts _ _ _)
+gps-rule-in-parts o b = sym (first-of-parts _ _ _)

@@ -4,6 +4,8 @@ use containers::Count;
 use containers::check;
 use note::FindAnswer;
 use rules::TRACE;
+use theory::Order;
+use words::order_of;
 use words::word_at;
 ghost use mathlib.Core.Path.{_≡_};
 ghost use Rattle.note.specs.Answers.{accepted, counts, givenFind};
@@ -14,26 +16,27 @@ ghost use Rattle.find.specs.Search.{Searchable, tracesRead};
 // The first trace among the events that fill a part whose first byte stands at `from`. The part was checked, so an event's first
 // record is its administrative one, and a record's kind and length words say what stands there. Document 01 names the form: a loop
 // over events, one over records, left by a label.
-fn search(part: &[u8], from: usize, number: u32, code: u32) -> FindAnswer
-    requires { ⌜ Searchable from (now part) ⌝ }
-    ensures { λ r. ⌜ givenFind r ≡ accepted (counts (firstMatch number code (tracesRead from (readEvents tt from (now (part .entry)))))) ⌝ }
+fn search(part: &[u8], from: usize, number: u32, code: u32, order: Order) -> FindAnswer
+    requires { ⌜ Searchable order from (now part) ⌝ }
+    ensures { λ r. ⌜ givenFind r
+        ≡ accepted (counts (firstMatch number code (tracesRead order from (readEvents order tt from (now (part .entry)))))) ⌝ }
 {
     let mut found = FindAnswer::Nothing;
     let mut rest = part;
     let mut at = from;
     'events: while 0 < rest.len() {
-        let size = 8 + word_at(rest, 4) as usize;
-        if word_at(rest, 24) == number {
+        let size = 8 + word_at(rest, 4, order) as usize;
+        if word_at(rest, 24, order) == number {
             let mut records = &rest[8..size];
             let mut place = at + 8;
             while 0 < records.len() {
-                if word_at(records, 0) == TRACE {
-                    if word_at(records, 24) == code {
+                if word_at(records, 0, order) == TRACE {
+                    if word_at(records, 24, order) == code {
                         found = FindAnswer::Found { place };
                         break 'events;
                     }
                 }
-                let length = 8 + word_at(records, 4) as usize;
+                let length = 8 + word_at(records, 4, order) as usize;
                 records = &records[length..];
                 place = place + length;
             }
@@ -58,8 +61,9 @@ pub fn find(file: &[u8], number: u32, code: u32) -> FindAnswer
             place,
         },
         Count::Good { count: _ } => {
-            let from = 16 + word_at(file, 12) as usize;
-            search(&file[from..], from, number, code)
+            let order = order_of(file);
+            let from = 16 + word_at(file, 12, order) as usize;
+            search(&file[from..], from, number, code, order)
         }
     }
 }

@@ -16,7 +16,7 @@ use Rattle.note.specs.Trigger.{triggerOf, triggerBytes, triggerRule}
 use Rattle.note.specs.Tlb.{tlbOf, tlbBytes, isTower, tlbFault, tlbRule, zipSet}
 use Rattle.note.specs.Records.{kindOf, isKind, isPlaced, isAllowed, noted, behind, readRecord, readRecords}
 use Rattle.note.specs.Events.{eventFault, eventWordRule, readEvent, readEvents}
-use Rattle.note.specs.Files.{readHeader, readConfiguration, readParts, readFile}
+use Rattle.note.specs.Files.{readHeader, readConfiguration, readParts, orderOf, readFile}
 use Rattle.note.specs.Rows.{childOf, nodesOf, rowsOf, flat, tableAnswer, tableBuffer, yieldAt}
 use Rattle.note.specs.Calls.{recordFound, recordAt, hundredth, phononSetting, chargeSetting, settingAt}
 use Rattle.note.specs.Calls.{samplesPart, samplesAt, sampleAt, tracesIn, tracesFrom, tracesOf, firstMatch, findAt}
@@ -39,7 +39,7 @@ unfolding
     areDigits decimal bcd gpsOf gpsBytes gpsFault gpsRule triggerOf triggerBytes triggerRule
     tlbOf tlbBytes isTower tlbFault tlbRule zipSet
     kindOf isKind isPlaced isAllowed noted behind readRecord readRecords
-    eventFault eventWordRule readEvent readEvents readHeader readConfiguration readParts readFile
+    eventFault eventWordRule readEvent readEvents readHeader readConfiguration readParts orderOf readFile
     childOf nodesOf rowsOf flat tableAnswer tableBuffer yieldAt
     recordFound recordAt hundredth phononSetting chargeSetting settingAt samplesPart samplesAt sampleAt tracesIn tracesFrom tracesOf firstMatch findAt
     rowLines listing digitsOf decimalText lineText linesText listingText

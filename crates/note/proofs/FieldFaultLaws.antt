@@ -7,6 +7,7 @@ use mathlib.Core.Bool.{Bool, true, false}
 use mathlib.Core.List.{List, [], _∷_}
 use lib.Dec.{eqb}
 use lib.ListN.{length}
+use Rattle.theory.specs.declared.Order.{Order}
 use Rattle.theory.specs.Tests.{unless}
 use Rattle.note.specs.Asked.{asks, fine, Divides}
 use Rattle.note.specs.Words.{unsigned}
@@ -33,25 +34,26 @@ use Rattle.note.proofs.TlbLaws.{tower-word}
 -- ---- what a writer asks of its fields
 
 -- A field's fault, of which the round trips speak, is the writer's.
-module _ (f : Phonon) (g : Charge) (a : Administrative) (t : Trace) (h : History) (c : Gps) (m : Tlb) where
-  pub faults-of-writers : (phononWritten f .fault ≡ phononFault (unsigned (f .code))) × (chargeWritten g .fault ≡ chargeFault (unsigned (g .code)))
-      × (administrativeWritten a .fault ≡ administrativeFault (a .date) (a .clock)) × (traceWritten t .fault ≡ traceFault t)
-      × (historyWritten h .fault ≡ historyFault h) × (gpsWritten c .fault ≡ gpsFault c) × (tlbWritten m .fault ≡ tlbFault m)
+module _ (o : Order) (f : Phonon) (g : Charge) (a : Administrative) (t : Trace) (h : History) (c : Gps) (m : Tlb) where
+  pub faults-of-writers : (phononWritten o f .fault ≡ phononFault (unsigned (f .code)))
+      × (chargeWritten o g .fault ≡ chargeFault (unsigned (g .code)))
+      × (administrativeWritten o a .fault ≡ administrativeFault (a .date) (a .clock)) × (traceWritten o t .fault ≡ traceFault t)
+      × (historyWritten o h .fault ≡ historyFault h) × (gpsWritten o c .fault ≡ gpsFault c) × (tlbWritten o m .fault ≡ tlbFault m)
   unfolding phononWritten chargeWritten administrativeWritten traceWritten historyWritten gpsWritten tlbWritten
   faults-of-writers = (refl, refl, refl, refl, refl, refl, refl)
 
-pub phonon-fault-exact : (f : Phonon) (c : ℕ) → (phononWritten f .fault ≡ c) ↔ asks (CodeOf phononLines (unsigned (f .code))) 10 fine c
+pub phonon-fault-exact : (o : Order) (f : Phonon) (c : ℕ) → (phononWritten o f .fault ≡ c) ↔ asks (CodeOf phononLines (unsigned (f .code))) 10 fine c
 unfolding phononWritten phononFault
-phonon-fault-exact f = alone-gives (asked (phonon-code-is-listed (unsigned (f .code))) no-more)
+phonon-fault-exact o f = alone-gives (asked (phonon-code-is-listed (unsigned (f .code))) no-more)
 
-pub charge-fault-exact : (f : Charge) (c : ℕ) → (chargeWritten f .fault ≡ c) ↔ asks (CodeOf chargeLines (unsigned (f .code))) 10 fine c
+pub charge-fault-exact : (o : Order) (f : Charge) (c : ℕ) → (chargeWritten o f .fault ≡ c) ↔ asks (CodeOf chargeLines (unsigned (f .code))) 10 fine c
 unfolding chargeWritten chargeFault
-charge-fault-exact f = alone-gives (asked (charge-code-is-listed (unsigned (f .code))) no-more)
+charge-fault-exact o f = alone-gives (asked (charge-code-is-listed (unsigned (f .code))) no-more)
 
-pub administrative-fault-exact : (f : Administrative) (c : ℕ)
-    → (administrativeWritten f .fault ≡ c) ↔ asks (SeriesDate (f .date)) 10 (asks (ClockTime (f .clock)) 10 fine) c
+pub administrative-fault-exact : (o : Order) (f : Administrative) (c : ℕ)
+    → (administrativeWritten o f .fault ≡ c) ↔ asks (SeriesDate (f .date)) 10 (asks (ClockTime (f .clock)) 10 fine) c
 unfolding administrativeWritten administrativeFault
-administrative-fault-exact f = asked (series-is-date (f .date)) (asked (clock-is-time (f .clock)) no-more) .exactly
+administrative-fault-exact o f = asked (series-is-date (f .date)) (asked (clock-is-time (f .clock)) no-more) .exactly
 
 -- A trace: digitizer channel, code, delta t, n, then the part of the samples.
 abbrev pub TraceFieldsAsked : Trace → ℕ → Type 0
@@ -65,9 +67,9 @@ TraceFieldsAsked f =
     asks (length (f .samples) ≡ 2 * f .n) 6
     fine))))))
 
-pub trace-fault-exact : (f : Trace) (c : ℕ) → (traceWritten f .fault ≡ c) ↔ TraceFieldsAsked f c
+pub trace-fault-exact : (o : Order) (f : Trace) (c : ℕ) → (traceWritten o f .fault ≡ c) ↔ TraceFieldsAsked f c
 unfolding traceWritten traceFault countFault
-trace-fault-exact f =
+trace-fault-exact o f =
     asked (both-tell (le-tells 1 (f .channel)) (le-tells (f .channel) 8)) (
     asked (code-is-listed (f .code)) (
     asked (le-tells 1 (f .delta)) (
@@ -104,21 +106,21 @@ section trigger s given =
     asked (eq-tells (length (s .masks)) (4 * (s .count * s .width)))
     given))))
 
-pub history-fault-exact : (f : History) (c : ℕ)
-    → (historyWritten f .fault ≡ c) ↔ SectionFieldsAsked VetoWidth (f .veto) (SectionFieldsAsked TriggerWidth (f .trigger) fine) c
+pub history-fault-exact : (o : Order) (f : History) (c : ℕ)
+    → (historyWritten o f .fault ≡ c) ↔ SectionFieldsAsked VetoWidth (f .veto) (SectionFieldsAsked TriggerWidth (f .trigger) fine) c
 unfolding historyWritten historyFault sectionFault
-history-fault-exact f =
+history-fault-exact o f =
     asked-of-part (_ ∷ _ ∷ _ ∷ _ ∷ _ ∷ []) (section false (f .veto) (
     asked-of-part (_ ∷ _ ∷ _ ∷ _ ∷ _ ∷ []) (section true (f .trigger)
     no-more))) .exactly
 
 -- GPS: seven numbers, each 10.
-pub gps-fault-exact : (f : Gps) (c : ℕ)
-    → (gpsWritten f .fault ≡ c)
+pub gps-fault-exact : (o : Order) (f : Gps) (c : ℕ)
+    → (gpsWritten o f .fault ≡ c)
     ↔ asks ((f .year ≤ 9999) × (DayOfYear (f .year) (f .day) × ((f .status ≤ 15) × ((f .hour ≤ 23) × ((f .minute ≤ 59)
     × ((f .second ≤ 59) × (f .tenths ≤ 9999999))))))) 10 fine c
 unfolding gpsWritten gpsFault
-gps-fault-exact f =
+gps-fault-exact o f =
     asked-too (le-tells (f .year) 9999) (
     asked-too (day-tells (f .year) (f .day)) (
     asked-too (le-tells (f .status) 15) (
@@ -129,16 +131,16 @@ gps-fault-exact f =
     no-more)))))) .exactly
 
 -- A trigger's masks are free.
-pub trigger-faultless : (f : Trigger) → triggerWritten f .fault ≡ 0
+pub trigger-faultless : (o : Order) (f : Trigger) → triggerWritten o f .fault ≡ 0
 unfolding triggerWritten
-trigger-faultless f = refl
+trigger-faultless o f = refl
 
-pub tlb-fault-exact : (f : Tlb) (c : ℕ)
-    → (tlbWritten f .fault ≡ c)
+pub tlb-fault-exact : (o : Order) (f : Tlb) (c : ℕ)
+    → (tlbWritten o f .fault ≡ c)
     ↔ asks (TowerWord 1 (f .tower1)) 10 (asks (TowerWord 2 (f .tower2)) 10 (asks (TowerWord 3 (f .tower3)) 10 (
     asks (TowerWord 4 (f .tower4)) 10 (asks (TowerWord 5 (f .tower5)) 10 (asks (TowerWord 6 (f .tower6)) 10 fine))))) c
 unfolding tlbWritten tlbFault
-tlb-fault-exact f =
+tlb-fault-exact o f =
     asked (tower-word 1 (f .tower1)) (
     asked (tower-word 2 (f .tower2)) (
     asked (tower-word 3 (f .tower3)) (

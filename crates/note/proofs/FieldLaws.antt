@@ -7,11 +7,12 @@ use native.Mathlib.Omega.{arith}
 use lib.Dec.{eqb}
 use lib.IntN.{ℤ, pos}
 use lib.ListN.{length, getD}
+use Rattle.theory.specs.declared.Order.{Order}
 use Rattle.theory.specs.Words.{Bytes, wordsAt, AllFit}
 use Rattle.theory.specs.Tests.{first, unless}
 use Rattle.theory.proofs.TestLaws.{Passed, first-at, first-passes, equal-passed, equal-passes}
 use Rattle.theory.proofs.WordLaws.{words-of-puts, puts-fill, words-fit, length-puts}
-use Rattle.note.specs.Words.{order, word, words, signed, unsigned, AllSigned}
+use Rattle.note.specs.Words.{word, words, signed, unsigned, AllSigned}
 use Rattle.note.specs.Phonon.{Phonon, phononWords, phononOf, phononBytes, phononFault, phononRule}
 use Rattle.note.specs.Charge.{Charge, chargeWords, chargeOf, chargeBytes, chargeFault, chargeRule}
 use Rattle.note.specs.Administrative.{Administrative, administrativeWords, administrativeOf, administrativeBytes}
@@ -23,8 +24,8 @@ use Rattle.note.proofs.SignedLaws.{all-signed-again, all-unsigned-again
 -- ---- any k words
 
 -- The k words of a body, and a rule that asks for k words before its other tests.
-abbrev pub read : ℕ → List ℕ → List ℕ
-read k b = wordsAt order 4 k 0 b
+abbrev pub read : Order → ℕ → List ℕ → List ℕ
+read o k b = wordsAt o 4 k 0 b
 
 abbrev pub rule : ℕ → List ℕ → List ℕ → ℕ
 rule k b tests = first (unless (eqb (length b) (k * 4)) 6 ∷ tests)
@@ -33,20 +34,20 @@ rule k b tests = first (unless (eqb (length b) (k * 4)) 6 ∷ tests)
 pub sized : (k : ℕ) (b tests : List ℕ) → rule k b tests ≡ 0 → length b ≡ k * 4
 sized k b tests e = equal-passed (length b) (k * 4) 5 (first-at _ e 0)
 
-pub restored : (k : ℕ) (b tests : List ℕ) → Bytes b → rule k b tests ≡ 0 → words (read k b) ≡ b
-restored k b tests h e = puts-fill order 4 k b h (sized k b tests e)
+pub restored : (o : Order) → (k : ℕ) (b tests : List ℕ) → Bytes b → rule k b tests ≡ 0 → words o (read o k b) ≡ b
+restored o k b tests h e = puts-fill o 4 k b h (sized k b tests e)
 
-signed-restored : (k : ℕ) (b tests : List ℕ) → Bytes b → rule k b tests ≡ 0 → words (map unsigned (map signed (read k b))) ≡ b
-signed-restored k b tests h e =
+signed-restored : (o : Order) → (k : ℕ) (b tests : List ℕ) → Bytes b → rule k b tests ≡ 0 → words o (map unsigned (map signed (read o k b))) ≡ b
+signed-restored o k b tests h e =
     let l : length b ≡ k * 4 = sized k b tests e in
-    ap words (all-signed-again (read k b) (words-fit order 4 k 0 b h (omega arith))) ∙ restored k b tests h e
+    ap (words o) (all-signed-again (read o k b) (words-fit o 4 k 0 b h (omega arith))) ∙ restored o k b tests h e
 
 -- Numbers written as words and read back.
-abbrev pub reread : List ℕ → List ℕ
-reread ns = read (length ns) (words ns)
+abbrev pub reread : Order → List ℕ → List ℕ
+reread o ns = read o (length ns) (words o ns)
 
-pub words-read : (ns : List ℕ) → AllFit 4 ns → reread ns ≡ ns
-words-read ns h = ap (read (length ns)) (sym (append-nil (words ns))) ∙ words-of-puts order 4 ns [] h
+pub words-read : (o : Order) → (ns : List ℕ) → AllFit 4 ns → reread o ns ≡ ns
+words-read o ns h = ap (read o (length ns)) (sym (append-nil (words o ns))) ∙ words-of-puts o 4 ns [] h
 
 -- Number j of a list, as a field is found in it; lists that are the same have the same.
 abbrev at : List ℕ → ℕ → ℕ
@@ -59,30 +60,30 @@ abbrev signedAt : List ℤ → ℕ → ℤ
 signedAt zs j = getD zs j (pos 0)
 
 -- The tests and the fields are functions of the words.
-module _ {F : Type 0} (tests : List ℕ → List ℕ) where
+module _ (o : Order) {F : Type 0} (tests : List ℕ → List ℕ) where
   pub read-back : (fields : List ℕ → F) (ns : List ℕ) → AllFit 4 ns → Passed (tests ns)
-      → (rule (length ns) (words ns) (tests (reread ns)) ≡ 0) × (fields (reread ns) ≡ fields ns)
+      → (rule (length ns) (words o ns) (tests (reread o ns)) ≡ 0) × (fields (reread o ns) ≡ fields ns)
   read-back fields ns h e =
-      let r : reread ns ≡ ns = words-read ns h in
-      (first-passes _ (equal-passes 6 (length-puts order 4 ns), rw r e), ap fields r)
+      let r : reread o ns ≡ ns = words-read o ns h in
+      (first-passes _ (equal-passes 6 (length-puts o 4 ns), rw r e), ap fields r)
 
   signed-read-back : (fields : List ℤ → F) (zs : List ℤ) → AllSigned zs → Passed (tests (map unsigned zs))
-      → (rule (length (map unsigned zs)) (words (map unsigned zs)) (tests (reread (map unsigned zs))) ≡ 0)
-      × (fields (map signed (reread (map unsigned zs))) ≡ fields zs)
+      → (rule (length (map unsigned zs)) (words o (map unsigned zs)) (tests (reread o (map unsigned zs))) ≡ 0)
+      × (fields (map signed (reread o (map unsigned zs))) ≡ fields zs)
   signed-read-back fields zs h e =
       let r = read-back (λ ns. fields (map signed ns)) (map unsigned zs) (all-unsigned-fit zs h) e in
       (r .0, r .1 ∙ ap fields (all-unsigned-again zs h))
 
 -- ---- phonon
 
-pub phonon-restored : (b : List ℕ) → Bytes b → phononRule b ≡ 0 → phononBytes (phononOf b) ≡ b
+pub phonon-restored : (o : Order) → (b : List ℕ) → Bytes b → phononRule o b ≡ 0 → phononBytes o (phononOf o b) ≡ b
 unfolding phononRule phononBytes phononOf wordsAt
-phonon-restored b h e = signed-restored 11 b _ h e
+phonon-restored o b h e = signed-restored o 11 b _ h e
 
-pub phonon-read-back : (f : Phonon) → AllSigned (phononWords f) → phononFault (unsigned (f .code)) ≡ 0
-    → (phononRule (phononBytes f) ≡ 0) × (phononOf (phononBytes f) ≡ f)
+pub phonon-read-back : (o : Order) → (f : Phonon) → AllSigned (phononWords f) → phononFault (unsigned (f .code)) ≡ 0
+    → (phononRule o (phononBytes o f) ≡ 0) × (phononOf o (phononBytes o f) ≡ f)
 unfolding phononRule phononBytes phononOf wordsAt
-phonon-read-back f h e = signed-read-back (λ ns. phononFault (at ns 0) ∷ []) (λ zs. record {
+phonon-read-back o f h e = signed-read-back o (λ ns. phononFault (at ns 0) ∷ []) (λ zs. record {
   code = signedAt zs 0;
   tower = signedAt zs 1;
   gain = signedAt zs 2;
@@ -98,14 +99,14 @@ phonon-read-back f h e = signed-read-back (λ ns. phononFault (at ns 0) ∷ []) 
 
 -- ---- charge
 
-pub charge-restored : (b : List ℕ) → Bytes b → chargeRule b ≡ 0 → chargeBytes (chargeOf b) ≡ b
+pub charge-restored : (o : Order) → (b : List ℕ) → Bytes b → chargeRule o b ≡ 0 → chargeBytes o (chargeOf o b) ≡ b
 unfolding chargeRule chargeBytes chargeOf wordsAt
-charge-restored b h e = signed-restored 8 b _ h e
+charge-restored o b h e = signed-restored o 8 b _ h e
 
-pub charge-read-back : (f : Charge) → AllSigned (chargeWords f) → chargeFault (unsigned (f .code)) ≡ 0
-    → (chargeRule (chargeBytes f) ≡ 0) × (chargeOf (chargeBytes f) ≡ f)
+pub charge-read-back : (o : Order) → (f : Charge) → AllSigned (chargeWords f) → chargeFault (unsigned (f .code)) ≡ 0
+    → (chargeRule o (chargeBytes o f) ≡ 0) × (chargeOf o (chargeBytes o f) ≡ f)
 unfolding chargeRule chargeBytes chargeOf wordsAt
-charge-read-back f h e = signed-read-back (λ ns. chargeFault (at ns 0) ∷ []) (λ zs. record {
+charge-read-back o f h e = signed-read-back o (λ ns. chargeFault (at ns 0) ∷ []) (λ zs. record {
   code = signedAt zs 0;
   tower = signedAt zs 1;
   gain = signedAt zs 2;
@@ -118,14 +119,14 @@ charge-read-back f h e = signed-read-back (λ ns. chargeFault (at ns 0) ∷ []) 
 
 -- ---- administrative
 
-pub administrative-restored : (b : List ℕ) → Bytes b → administrativeRule b ≡ 0 → administrativeBytes (administrativeOf b) ≡ b
+pub administrative-restored : (o : Order) → (b : List ℕ) → Bytes b → administrativeRule o b ≡ 0 → administrativeBytes o (administrativeOf o b) ≡ b
 unfolding administrativeRule administrativeBytes administrativeOf wordsAt
-administrative-restored b h e = restored 6 b _ h e
+administrative-restored o b h e = restored o 6 b _ h e
 
-pub administrative-read-back : (f : Administrative) → AllFit 4 (administrativeWords f) → administrativeFault (f .date) (f .clock) ≡ 0
-    → (administrativeRule (administrativeBytes f) ≡ 0) × (administrativeOf (administrativeBytes f) ≡ f)
+pub administrative-read-back : (o : Order) → (f : Administrative) → AllFit 4 (administrativeWords f) → administrativeFault (f .date) (f .clock) ≡ 0
+    → (administrativeRule o (administrativeBytes o f) ≡ 0) × (administrativeOf o (administrativeBytes o f) ≡ f)
 unfolding administrativeRule administrativeBytes administrativeOf wordsAt
-administrative-read-back f h e = read-back (λ ns. administrativeFault (at ns 0) (at ns 1) ∷ []) (λ ns. record {
+administrative-read-back o f h e = read-back o (λ ns. administrativeFault (at ns 0) (at ns 1) ∷ []) (λ ns. record {
   date = at ns 0;
   clock = at ns 1;
   number = at ns 2;
@@ -136,15 +137,16 @@ administrative-read-back f h e = read-back (λ ns. administrativeFault (at ns 0)
 
 -- ---- trigger
 
-pub trigger-restored : (b : List ℕ) → Bytes b → triggerRule b ≡ 0 → triggerBytes (triggerOf b) ≡ b
+pub trigger-restored : (o : Order) → (b : List ℕ) → Bytes b → triggerRule o b ≡ 0 → triggerBytes o (triggerOf o b) ≡ b
 unfolding triggerRule triggerBytes triggerOf wordsAt
-trigger-restored b h e =
-    let z : word 0 b ≡ 0 = equal-passed (word 0 b) 0 9 (first-at _ e 1) in
-    ap (λ (t : ℕ). words (t ∷ triggerMasks (triggerOf b))) (sym z) ∙ restored 7 b _ h e
+trigger-restored o b h e =
+    let z : word o 0 b ≡ 0 = equal-passed (word o 0 b) 0 9 (first-at _ e 1) in
+    ap (λ (t : ℕ). words o (t ∷ triggerMasks (triggerOf o b))) (sym z) ∙ restored o 7 b _ h e
 
-pub trigger-read-back : (f : Trigger) → AllFit 4 (triggerMasks f) → (triggerRule (triggerBytes f) ≡ 0) × (triggerOf (triggerBytes f) ≡ f)
+pub trigger-read-back : (o : Order) → (f : Trigger) → AllFit 4 (triggerMasks f)
+    → (triggerRule o (triggerBytes o f) ≡ 0) × (triggerOf o (triggerBytes o f) ≡ f)
 unfolding triggerRule triggerBytes triggerOf wordsAt
-trigger-read-back f h = read-back (λ ns. unless (eqb (at ns 0) 0) 10 ∷ []) (λ ns. record {
+trigger-read-back o f h = read-back o (λ ns. unless (eqb (at ns 0) 0) 10 ∷ []) (λ ns. record {
   mask1 = at ns 1;
   mask2 = at ns 2;
   mask3 = at ns 3;
@@ -155,9 +157,9 @@ trigger-read-back f h = read-back (λ ns. unless (eqb (at ns 0) 0) 10 ∷ []) (�
 
 -- ---- tlb
 
-pub tlb-restored : (b : List ℕ) → Bytes b → tlbRule b ≡ 0 → tlbBytes (tlbOf b) ≡ b
+pub tlb-restored : (o : Order) → (b : List ℕ) → Bytes b → tlbRule o b ≡ 0 → tlbBytes o (tlbOf o b) ≡ b
 unfolding tlbRule tlbBytes tlbOf wordsAt
-tlb-restored b h e = restored 6 b _ h e
+tlb-restored o b h e = restored o 6 b _ h e
 
 abbrev tlbFrom : List ℕ → Tlb
 tlbFrom ns = record {
@@ -169,6 +171,6 @@ tlbFrom ns = record {
   tower6 = at ns 5;
 }
 
-pub tlb-read-back : (f : Tlb) → AllFit 4 (tlbWords f) → tlbFault f ≡ 0 → (tlbRule (tlbBytes f) ≡ 0) × (tlbOf (tlbBytes f) ≡ f)
+pub tlb-read-back : (o : Order) → (f : Tlb) → AllFit 4 (tlbWords f) → tlbFault f ≡ 0 → (tlbRule o (tlbBytes o f) ≡ 0) × (tlbOf o (tlbBytes o f) ≡ f)
 unfolding tlbRule tlbBytes tlbOf wordsAt
-tlb-read-back f h e = read-back (λ ns. tlbFault (tlbFrom ns) ∷ []) tlbFrom (tlbWords f) h (e, tt)
+tlb-read-back o f h e = read-back o (λ ns. tlbFault (tlbFrom ns) ∷ []) tlbFrom (tlbWords f) h (e, tt)

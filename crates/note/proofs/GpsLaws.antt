@@ -11,11 +11,13 @@ use lib.Arith.{digits-div, digits-mod, digits-lt, mod-mul}
 use lib.Dec.{leb, eqb}
 use lib.ListN.{length, getD}
 use borrow.Author.Tests.{leb-true, le-leb, eqb-true, eq-eqb}
+use Rattle.theory.specs.declared.Order.{Order}
+use Rattle.theory.specs.declared.Order.the-variants.{Little}
 use Rattle.theory.specs.Words.{Bytes, AllFit, wordsAt}
 use Rattle.theory.specs.Tests.{first}
 use Rattle.theory.proofs.TestLaws.{holds-at}
 use Rattle.theory.proofs.WordLaws.{word-fits, puts-fill, length-puts}
-use Rattle.note.specs.Words.{order, word, words}
+use Rattle.note.specs.Words.{word, words}
 use Rattle.note.specs.Gps.{Gps, areDigits, decimal, bcd, gpsOf, gpsWords, gpsBytes, isLeap, daysOfYear, gpsFault, gpsTests, gpsRule}
 use Rattle.note.proofs.FieldLaws.{read, words-read, number-at}
 use Rattle.note.proofs.Sweep.{all-at}
@@ -156,7 +158,7 @@ days-at-most true = omega arith
 days-at-most false = omega arith
 
 -- Fields without a fault: each fits its digits, the words that they make fit, and each is read where it was written.
-module _ (f : Gps) (fine : gpsFault f ≡ 0) where
+module _ (o : Order) (f : Gps) (fine : gpsFault f ≡ 0) where
   record Bounds : Type 0 where
     year : (f .year < 10000) × (bcd 4 (f .year) < 65536)
     day : (f .day < 10000) × (bcd 4 (f .day) < 65536)
@@ -184,27 +186,27 @@ module _ (f : Gps) (fine : gpsFault f ≡ 0) where
   fit : AllFit 4 (gpsWords f)
   fit = let b = bounds in (omega arith, (omega arith, (omega arith, tt)))
 
-  read-words : read 3 (gpsBytes f) ≡ gpsWords f
+  read-words : read o 3 (gpsBytes o f) ≡ gpsWords f
   unfolding gpsBytes
-  read-words = words-read (gpsWords f) fit
+  read-words = words-read o (gpsWords f) fit
 
   record Read : Type 0 where
-    year : (areDigits 4 (word 0 (gpsBytes f) / 65536) ≡ true) × (decimal 4 (word 0 (gpsBytes f) / 65536) ≡ f .year)
-    day : (areDigits 4 (word 0 (gpsBytes f)) ≡ true) × (decimal 4 (word 0 (gpsBytes f)) ≡ f .day)
-    status : (word 4 (gpsBytes f) / 16777216 % 16 ≡ 0) × (word 4 (gpsBytes f) / 268435456 ≡ f .status)
-    hour : (areDigits 2 (word 4 (gpsBytes f) / 65536) ≡ true) × (decimal 2 (word 4 (gpsBytes f) / 65536) ≡ f .hour)
-    minute : (areDigits 2 (word 4 (gpsBytes f) / 256) ≡ true) × (decimal 2 (word 4 (gpsBytes f) / 256) ≡ f .minute)
-    second : (areDigits 2 (word 4 (gpsBytes f)) ≡ true) × (decimal 2 (word 4 (gpsBytes f)) ≡ f .second)
-    tenths : (areDigits 8 (word 8 (gpsBytes f)) ≡ true) × (decimal 8 (word 8 (gpsBytes f)) ≡ f .tenths)
+    year : (areDigits 4 (word o 0 (gpsBytes o f) / 65536) ≡ true) × (decimal 4 (word o 0 (gpsBytes o f) / 65536) ≡ f .year)
+    day : (areDigits 4 (word o 0 (gpsBytes o f)) ≡ true) × (decimal 4 (word o 0 (gpsBytes o f)) ≡ f .day)
+    status : (word o 4 (gpsBytes o f) / 16777216 % 16 ≡ 0) × (word o 4 (gpsBytes o f) / 268435456 ≡ f .status)
+    hour : (areDigits 2 (word o 4 (gpsBytes o f) / 65536) ≡ true) × (decimal 2 (word o 4 (gpsBytes o f) / 65536) ≡ f .hour)
+    minute : (areDigits 2 (word o 4 (gpsBytes o f) / 256) ≡ true) × (decimal 2 (word o 4 (gpsBytes o f) / 256) ≡ f .minute)
+    second : (areDigits 2 (word o 4 (gpsBytes o f)) ≡ true) × (decimal 2 (word o 4 (gpsBytes o f)) ≡ f .second)
+    tenths : (areDigits 8 (word o 8 (gpsBytes o f)) ≡ true) × (decimal 8 (word o 8 (gpsBytes o f)) ≡ f .tenths)
 
   fields-read : Read
   unfolding wordsAt
   fields-read =
       let b = bounds in
-      let at : (j : ℕ) → getD (read 3 (gpsBytes f)) j 0 ≡ getD (gpsWords f) j 0 = number-at read-words in
-      let date : word 0 (gpsBytes f) ≡ bcd 4 (f .year) * 65536 + bcd 4 (f .day) = at 0 in
-      let time : word 4 (gpsBytes f) ≡ f .status * 268435456 + bcd 2 (f .hour) * 65536 + bcd 2 (f .minute) * 256 + bcd 2 (f .second) = at 1 in
-      let part : word 8 (gpsBytes f) ≡ bcd 8 (f .tenths) = at 2 in
+      let at : (j : ℕ) → getD (read o 3 (gpsBytes o f)) j 0 ≡ getD (gpsWords f) j 0 = number-at read-words in
+      let date : word o 0 (gpsBytes o f) ≡ bcd 4 (f .year) * 65536 + bcd 4 (f .day) = at 0 in
+      let time : word o 4 (gpsBytes o f) ≡ f .status * 268435456 + bcd 2 (f .hour) * 65536 + bcd 2 (f .minute) * 256 + bcd 2 (f .second) = at 1 in
+      let part : word o 8 (gpsBytes o f) ≡ bcd 8 (f .tenths) = at 2 in
       record {
         year = field-read-back 4 0 (f .year) _ (b .year .0) (omega arith);
         day = field-read-back 4 (bcd 4 (f .year)) (f .day) _ (b .day .0) date;
@@ -215,7 +217,7 @@ module _ (f : Gps) (fine : gpsFault f ≡ 0) where
         tenths = field-read-back 8 0 (f .tenths) _ (b .tenths .0) (omega arith);
       }
 
-  fields-back : gpsOf (gpsBytes f) ≡ f
+  fields-back : gpsOf o (gpsBytes o f) ≡ f
   unfolding gpsOf
   fields-back =
       let r = fields-read in
@@ -229,17 +231,17 @@ module _ (f : Gps) (fine : gpsFault f ≡ 0) where
         tenths = r .tenths .1 i;
       }
 
-  rule-holds : gpsRule (gpsBytes f) ≡ 0
+  rule-holds : gpsRule o (gpsBytes o f) ≡ 0
   unfolding gpsRule gpsBytes first
   rule-holds =
       let r = fields-read in
-      let w : ℕ = word 4 (gpsBytes f) in
+      let w : ℕ = word o 4 (gpsBytes o f) in
       let q : w / 256 / 256 ≡ w / 65536 = omega arith in
       let time : areDigits 6 w ≡ true =
       digits-split 2 4 w .1 (r .second .0, digits-split 2 2 (w / 256) .1 (r .minute .0, rw q (r .hour .0))) in
       rw (
-        eq-eqb (length (gpsBytes f)) 12 (length-puts order 4 (gpsWords f)),
-        digits-split 4 4 (word 0 (gpsBytes f)) .1 (r .day .0, r .year .0),
+        eq-eqb (length (gpsBytes o f)) 12 (length-puts o 4 (gpsWords f)),
+        digits-split 4 4 (word o 0 (gpsBytes o f)) .1 (r .day .0, r .year .0),
         eq-eqb (w / 16777216 % 16) 0 (r .status .0),
         time,
         r .tenths .0,
@@ -248,8 +250,8 @@ module _ (f : Gps) (fine : gpsFault f ≡ 0) where
       )
 
 -- What a writer accepts is read back: its body passes the rule, and its fields are those that were written.
-pub gps-read-back : (f : Gps) → gpsFault f ≡ 0 → (gpsRule (gpsBytes f) ≡ 0) × (gpsOf (gpsBytes f) ≡ f)
-gps-read-back f fine = (rule-holds f fine, fields-back f fine)
+pub gps-read-back : (o : Order) → (f : Gps) → gpsFault f ≡ 0 → (gpsRule o (gpsBytes o f) ≡ 0) × (gpsOf o (gpsBytes o f) ≡ f)
+gps-read-back o f fine = (rule-holds o f fine, fields-back o f fine)
 
 -- The second word from its parts, where its seventh digit is 0.
 parts-of-time : (w : ℕ) → w / 16777216 % 16 ≡ 0 → w / 268435456 * 268435456 + w / 65536 % 256 * 65536 + w / 256 % 256 * 256 + w % 256 ≡ w
@@ -260,29 +262,30 @@ parts-of-time w e =
     omega arith
 
 -- What the rule accepts is written again as it was.
-pub gps-restored : (b : List ℕ) → Bytes b → gpsRule b ≡ 0 → gpsBytes (gpsOf b) ≡ b
+pub gps-restored : (o : Order) → (b : List ℕ) → Bytes b → gpsRule o b ≡ 0 → gpsBytes o (gpsOf o b) ≡ b
 unfolding gpsRule gpsOf gpsBytes wordsAt
-gps-restored b bytes fine =
-    let at = holds-at (gpsTests b) fine in
+gps-restored o b bytes fine =
+    let at = holds-at (gpsTests o b) fine in
     let size = eqb-true (length b) 12 (at 0 _ 5 refl) in
-    let gap = eqb-true (word 4 b / 16777216 % 16) 0 (at 2 _ 9 refl) in
-    let inDate = digits-split 4 4 (word 0 b) .0 (at 1 _ 9 refl) in
-    let inTime = digits-split 2 4 (word 4 b) .0 (at 3 _ 9 refl) in
-    let inHours = digits-split 2 2 (word 4 b / 256) .0 (inTime .1) in
-    let q : word 4 b / 256 / 256 ≡ word 4 b / 65536 = omega arith in
-    let year : bcd 4 (gpsOf b .year) ≡ word 0 b / 65536 % 65536 = digits-restored 4 (word 0 b / 65536) (inDate .1) in
-    let day : bcd 4 (gpsOf b .day) ≡ word 0 b % 65536 = digits-restored 4 (word 0 b) (inDate .0) in
-    let hour : bcd 2 (gpsOf b .hour) ≡ word 4 b / 65536 % 256 = digits-restored 2 (word 4 b / 65536) (rw q at inHours .1) in
-    let minute : bcd 2 (gpsOf b .minute) ≡ word 4 b / 256 % 256 = digits-restored 2 (word 4 b / 256) (inHours .0) in
-    let second : bcd 2 (gpsOf b .second) ≡ word 4 b % 256 = digits-restored 2 (word 4 b) (inTime .0) in
-    let fit : word 0 b < 4294967296 = word-fits order 4 0 b bytes (omega arith) in
-    let date : bcd 4 (gpsOf b .year) * 65536 + bcd 4 (gpsOf b .day) ≡ word 0 b = omega arith in
-    let time : gpsOf b .status * 268435456 + bcd 2 (gpsOf b .hour) * 65536 + bcd 2 (gpsOf b .minute) * 256 + bcd 2 (gpsOf b .second) ≡ word 4 b =
-    rw (hour, minute, second) (parts-of-time (word 4 b) gap) in
-    let part : bcd 8 (gpsOf b .tenths) ≡ word 8 b = word-restored 8 (word 8 b) (word-fits order 4 8 b bytes (omega arith)) (at 4 _ 9 refl) in
-    ap words (λ i. date i ∷ time i ∷ part i ∷ []) ∙ puts-fill order 4 3 b bytes size
+    let gap = eqb-true (word o 4 b / 16777216 % 16) 0 (at 2 _ 9 refl) in
+    let inDate = digits-split 4 4 (word o 0 b) .0 (at 1 _ 9 refl) in
+    let inTime = digits-split 2 4 (word o 4 b) .0 (at 3 _ 9 refl) in
+    let inHours = digits-split 2 2 (word o 4 b / 256) .0 (inTime .1) in
+    let q : word o 4 b / 256 / 256 ≡ word o 4 b / 65536 = omega arith in
+    let year : bcd 4 (gpsOf o b .year) ≡ word o 0 b / 65536 % 65536 = digits-restored 4 (word o 0 b / 65536) (inDate .1) in
+    let day : bcd 4 (gpsOf o b .day) ≡ word o 0 b % 65536 = digits-restored 4 (word o 0 b) (inDate .0) in
+    let hour : bcd 2 (gpsOf o b .hour) ≡ word o 4 b / 65536 % 256 = digits-restored 2 (word o 4 b / 65536) (rw q at inHours .1) in
+    let minute : bcd 2 (gpsOf o b .minute) ≡ word o 4 b / 256 % 256 = digits-restored 2 (word o 4 b / 256) (inHours .0) in
+    let second : bcd 2 (gpsOf o b .second) ≡ word o 4 b % 256 = digits-restored 2 (word o 4 b) (inTime .0) in
+    let fit : word o 0 b < 4294967296 = word-fits o 4 0 b bytes (omega arith) in
+    let date : bcd 4 (gpsOf o b .year) * 65536 + bcd 4 (gpsOf o b .day) ≡ word o 0 b = omega arith in
+    let f : Gps = gpsOf o b in
+    let time : f .status * 268435456 + bcd 2 (f .hour) * 65536 + bcd 2 (f .minute) * 256 + bcd 2 (f .second) ≡ word o 4 b =
+    rw (hour, minute, second) (parts-of-time (word o 4 b) gap) in
+    let part : bcd 8 (gpsOf o b .tenths) ≡ word o 8 b = word-restored 8 (word o 8 b) (word-fits o 4 8 b bytes (omega arith)) (at 4 _ 9 refl) in
+    ap (words o) (λ i. date i ∷ time i ∷ part i ∷ []) ∙ puts-fill o 4 3 b bytes size
 
 -- Day 366 is none in the year 1900 and is one in 2000.
-pub century-years : (gpsRule (words (0x19000366 ∷ 0 ∷ 0 ∷ [])) ≡ 10) × (gpsRule (words (0x20000366 ∷ 0 ∷ 0 ∷ [])) ≡ 0)
+pub century-years : (gpsRule Little (words Little (0x19000366 ∷ 0 ∷ 0 ∷ [])) ≡ 10) × (gpsRule Little (words Little (0x20000366 ∷ 0 ∷ 0 ∷ [])) ≡ 0)
 unfolding computing
 century-years = (refl, refl)

@@ -10,6 +10,7 @@ use native.Mathlib.Decide.{decLe}
 use native.Mathlib.Nat.{zero-add, suc-add, pow-zero, pow-suc, pow-succ', div-one, div-div-eq-div-mul, mul-assoc}
 use lib.Dec.{leb, eqb}
 use lib.ListN.{length}
+use Rattle.theory.specs.declared.Order.{Order}
 use Rattle.note.specs.Asked.{asks, fine, Divides}
 use Rattle.note.specs.Words.{word}
 use Rattle.note.specs.Gps.{Gps, areDigits, decimal, gpsOf, isLeap, daysOfYear, gpsFault, gpsRule}
@@ -27,11 +28,11 @@ abbrev pub DayOfYear : ℕ → ℕ → Type 0
 DayOfYear y d = (1 ≤ d) × ((d ≤ 365) ⊎ ((d ≡ 366) × Leap y))
 
 -- The words are the digits yyyydddd; a status digit, a zero digit, hhmmss; tenths. And these numbers are a time.
-pub record GpsMeans (b : List ℕ) (f : Gps) : Type 0 where
-  pub date : Spelled 8 (word 0 b) (f .year * 10000 + f .day)
-  pub time : (low : ℕ) × (word 4 b ≡ f .status * 16 ^ 7 + low) × (low < 16 ^ 6)
+pub record GpsMeans (o : Order) (b : List ℕ) (f : Gps) : Type 0 where
+  pub date : Spelled 8 (word o 0 b) (f .year * 10000 + f .day)
+  pub time : (low : ℕ) × (word o 4 b ≡ f .status * 16 ^ 7 + low) × (low < 16 ^ 6)
       × Spelled 6 low (f .hour * 10000 + f .minute * 100 + f .second)
-  pub part : Spelled 8 (word 8 b) (f .tenths)
+  pub part : Spelled 8 (word o 8 b) (f .tenths)
   pub day : DayOfYear (f .year) (f .day)
   pub status : f .status ≤ 15
   pub hour : f .hour ≤ 23
@@ -39,8 +40,8 @@ pub record GpsMeans (b : List ℕ) (f : Gps) : Type 0 where
   pub second : f .second ≤ 59
   pub tenths : f .tenths < 10000000
 
-abbrev pub GpsAsked : List ℕ → ℕ → Type 0
-GpsAsked b = asks (length b ≡ 12) 6 (asks ((f : Gps) × GpsMeans b f) 10 fine)
+abbrev pub GpsAsked : Order → List ℕ → ℕ → Type 0
+GpsAsked o b = asks (length b ≡ 12) 6 (asks ((f : Gps) × GpsMeans o b f) 10 fine)
 
 -- ---- the tests
 
@@ -72,31 +73,31 @@ decimal-split (suc n) m w =
     rw (suc-add, decimal-split n m (w / 16), q, t) (omega arith)
 
 -- Each test tells this much of the body.
-abbrev Tested : List ℕ → Type 0
-Tested b =
-    (areDigits 8 (word 0 b) ≡ true) × ((word 4 b / 16777216 % 16 ≡ 0) × ((areDigits 6 (word 4 b) ≡ true) × ((areDigits 8 (word 8 b) ≡ true)
-    × ((gpsOf b .year ≤ 9999) × (DayOfYear (gpsOf b .year) (gpsOf b .day) × ((gpsOf b .status ≤ 15) × ((gpsOf b .hour ≤ 23)
-    × ((gpsOf b .minute ≤ 59) × ((gpsOf b .second ≤ 59) × (gpsOf b .tenths ≤ 9999999))))))))))
+abbrev Tested : Order → List ℕ → Type 0
+Tested o b =
+    (areDigits 8 (word o 0 b) ≡ true) × ((word o 4 b / 16777216 % 16 ≡ 0) × ((areDigits 6 (word o 4 b) ≡ true) × ((areDigits 8 (word o 8 b) ≡ true)
+    × ((gpsOf o b .year ≤ 9999) × (DayOfYear (gpsOf o b .year) (gpsOf o b .day) × ((gpsOf o b .status ≤ 15) × ((gpsOf o b .hour ≤ 23)
+    × ((gpsOf o b .minute ≤ 59) × ((gpsOf o b .second ≤ 59) × (gpsOf o b .tenths ≤ 9999999))))))))))
 
-module _ (b : List ℕ) where
+module _ (o : Order) (b : List ℕ) where
   -- The digits of a body that passed spell its fields.
-  tested-means : Tested b → GpsMeans b (gpsOf b)
+  tested-means : Tested o b → GpsMeans o b (gpsOf o b)
   unfolding gpsOf
   tested-means (date, (gap, (time, (part, (year, (day, (status, (hour, (minute, (second, tenths)))))))))) =
-      let w : ℕ = word 4 b in
+      let w : ℕ = word o 4 b in
       let low : ℕ = w % 16777216 in
       let split : w ≡ w / 16777216 * 16 ^ 6 + low = omega arith in
       let digits : areDigits 6 low ≡ true = sym (digits-above 6 (w / 16777216) low) ∙ ap (areDigits 6) (sym split) ∙ time in
       let same : decimal 6 w ≡ decimal 6 low = ap (decimal 6) split ∙ decimal-above 6 (w / 16777216) low in
-      let days : decimal 8 (word 0 b) ≡ decimal 4 (word 0 b / 65536) * 10000 + decimal 4 (word 0 b) = decimal-split 4 4 (word 0 b) in
+      let days : decimal 8 (word o 0 b) ≡ decimal 4 (word o 0 b / 65536) * 10000 + decimal 4 (word o 0 b) = decimal-split 4 4 (word o 0 b) in
       let seconds : decimal 6 w ≡ decimal 4 (w / 256) * 100 + decimal 2 w = decimal-split 2 4 w in
       let minutes : decimal 4 (w / 256) ≡ decimal 2 (w / 256 / 256) * 100 + decimal 2 (w / 256) = decimal-split 2 2 (w / 256) in
       let q : w / 256 / 256 ≡ w / 65536 = omega arith in
       let hours : decimal 2 (w / 256 / 256) ≡ decimal 2 (w / 65536) = ap (decimal 2) q in
       record {
-        date = digits-are-decimal 8 (word 0 b) _ .0 (date, days);
+        date = digits-are-decimal 8 (word o 0 b) _ .0 (date, days);
         time = (low, omega arith, omega arith, digits-are-decimal 6 low _ .0 (digits, omega arith));
-        part = digits-are-decimal 8 (word 8 b) _ .0 (part, refl);
+        part = digits-are-decimal 8 (word o 8 b) _ .0 (part, refl);
         day = day;
         status = status;
         hour = hour;
@@ -106,20 +107,20 @@ module _ (b : List ℕ) where
       }
 
   -- And what the digits spell are the body's fields, which then pass.
-  module _ (f : Gps) (m : GpsMeans b f) where
+  module _ (f : Gps) (m : GpsMeans o b f) where
     record Same : Type 0 where
-      date : areDigits 8 (word 0 b) ≡ true
-      gap : word 4 b / 16777216 % 16 ≡ 0
-      time : areDigits 6 (word 4 b) ≡ true
-      part : areDigits 8 (word 8 b) ≡ true
-      years : gpsOf b .year ≤ 9999
-      year : gpsOf b .year ≡ f .year
-      day : gpsOf b .day ≡ f .day
-      status : gpsOf b .status ≡ f .status
-      hour : gpsOf b .hour ≡ f .hour
-      minute : gpsOf b .minute ≡ f .minute
-      second : gpsOf b .second ≡ f .second
-      tenths : gpsOf b .tenths ≡ f .tenths
+      date : areDigits 8 (word o 0 b) ≡ true
+      gap : word o 4 b / 16777216 % 16 ≡ 0
+      time : areDigits 6 (word o 4 b) ≡ true
+      part : areDigits 8 (word o 8 b) ≡ true
+      years : gpsOf o b .year ≤ 9999
+      year : gpsOf o b .year ≡ f .year
+      day : gpsOf o b .day ≡ f .day
+      status : gpsOf o b .status ≡ f .status
+      hour : gpsOf o b .hour ≡ f .hour
+      minute : gpsOf o b .minute ≡ f .minute
+      second : gpsOf o b .second ≡ f .second
+      tenths : gpsOf o b .tenths ≡ f .tenths
 
     day-most : f .day ≤ 366
     day-most = ⊎-elim (λ l. omega arith) (λ l. omega arith) (m .day .1)
@@ -128,23 +129,23 @@ module _ (b : List ℕ) where
     unfolding gpsOf
     spelled-same =
         let (low, is, small, spelled) = m .time in
-        let w : ℕ = word 4 b in
+        let w : ℕ = word o 4 b in
         let split : w ≡ f .status * 16 * 16 ^ 6 + low = omega arith in
-        let (date, days) = digits-are-decimal 8 (word 0 b) _ .1 (m .date) in
+        let (date, days) = digits-are-decimal 8 (word o 0 b) _ .1 (m .date) in
         let (digits, clock) = digits-are-decimal 6 low _ .1 spelled in
-        let (part, tenths) = digits-are-decimal 8 (word 8 b) _ .1 (m .part) in
+        let (part, tenths) = digits-are-decimal 8 (word o 8 b) _ .1 (m .part) in
         let time : areDigits 6 w ≡ true = ap (areDigits 6) split ∙ digits-above 6 (f .status * 16) low ∙ digits in
         let same : decimal 6 w ≡ decimal 6 low = ap (decimal 6) split ∙ decimal-above 6 (f .status * 16) low in
-        let inDate = digits-split 4 4 (word 0 b) .0 date in
+        let inDate = digits-split 4 4 (word o 0 b) .0 date in
         let inTime = digits-split 2 4 w .0 time in
         let inHours = digits-split 2 2 (w / 256) .0 (inTime .1) in
-        let ofDate : decimal 8 (word 0 b) ≡ decimal 4 (word 0 b / 65536) * 10000 + decimal 4 (word 0 b) = decimal-split 4 4 (word 0 b) in
+        let ofDate : decimal 8 (word o 0 b) ≡ decimal 4 (word o 0 b / 65536) * 10000 + decimal 4 (word o 0 b) = decimal-split 4 4 (word o 0 b) in
         let ofTime : decimal 6 w ≡ decimal 4 (w / 256) * 100 + decimal 2 w = decimal-split 2 4 w in
         let ofHours : decimal 4 (w / 256) ≡ decimal 2 (w / 256 / 256) * 100 + decimal 2 (w / 256) = decimal-split 2 2 (w / 256) in
         let q : w / 256 / 256 ≡ w / 65536 = omega arith in
         let hours : decimal 2 (w / 256 / 256) ≡ decimal 2 (w / 65536) = ap (decimal 2) q in
-        let yearFits : decimal 4 (word 0 b / 65536) < 10000 = decimal-fits 4 (word 0 b / 65536) (inDate .1) in
-        let dayFits : decimal 4 (word 0 b) < 10000 = decimal-fits 4 (word 0 b) (inDate .0) in
+        let yearFits : decimal 4 (word o 0 b / 65536) < 10000 = decimal-fits 4 (word o 0 b / 65536) (inDate .1) in
+        let dayFits : decimal 4 (word o 0 b) < 10000 = decimal-fits 4 (word o 0 b) (inDate .0) in
         let minuteFits : decimal 2 (w / 256) < 100 = decimal-fits 2 (w / 256) (inHours .0) in
         let secondFits : decimal 2 w < 100 = decimal-fits 2 w (inTime .0) in
         let most = day-most in
@@ -165,7 +166,7 @@ module _ (b : List ℕ) where
           tenths = tenths;
         }
 
-    pub means-fields : gpsOf b ≡ f
+    pub means-fields : gpsOf o b ≡ f
     means-fields =
         let s = spelled-same in
         λ i. record {
@@ -178,7 +179,7 @@ module _ (b : List ℕ) where
           tenths = s .tenths i;
         }
 
-    means-tested : Tested b
+    means-tested : Tested o b
     means-tested =
         let s = spelled-same in
         let e = means-fields in
@@ -209,16 +210,16 @@ module _ (b : List ℕ) where
         )
 
   -- The rule gives what is asked of digits and numbers.
-  pub gps-rule-exact : (c : ℕ) → (gpsRule b ≡ c) ↔ GpsAsked b c
+  pub gps-rule-exact : (c : ℕ) → (gpsRule o b ≡ c) ↔ GpsAsked o b c
   unfolding gpsRule gpsFault
   gps-rule-exact =
-      let f : Gps = gpsOf b in
-      let same : Tested b ↔ ((f : Gps) × GpsMeans b f) = (λ t. (gpsOf b, tested-means t), λ h. means-tested (h .0) (h .1)) in
-      let digits : (n p : ℕ) → Tells (areDigits n (word p b)) (areDigits n (word p b) ≡ true) = λ n p. (λ e. e, λ e. e) in
+      let f : Gps = gpsOf o b in
+      let same : Tested o b ↔ ((f : Gps) × GpsMeans o b f) = (λ t. (gpsOf o b, tested-means t), λ h. means-tested (h .0) (h .1)) in
+      let digits : (n p : ℕ) → Tells (areDigits n (word o p b)) (areDigits n (word o p b) ≡ true) = λ n p. (λ e. e, λ e. e) in
       asked (eq-tells (length b) 12) (
       said-so same (
       asked-too (digits 8 0) (
-      asked-too (eq-tells (word 4 b / 16777216 % 16) 0) (
+      asked-too (eq-tells (word o 4 b / 16777216 % 16) 0) (
       asked-too (digits 6 4) (
       asked-too (digits 8 8) (
       asked-of-part (_ ∷ _ ∷ _ ∷ _ ∷ _ ∷ _ ∷ _ ∷ []) (
@@ -232,8 +233,8 @@ module _ (b : List ℕ) where
       no-more))))))))))))) .exactly
 
   -- The fields of an accepted body are the numbers that its digits spell, and no others.
-  pub gps-fields-spelled : gpsRule b ≡ 0 → GpsMeans b (gpsOf b)
+  pub gps-fields-spelled : gpsRule o b ≡ 0 → GpsMeans o b (gpsOf o b)
   gps-fields-spelled e = ⊎-elim (λ h. ⊎-elim meant (λ g. absurd (omega arith)) (h .1)) (λ h. absurd (omega arith)) (gps-rule-exact 0 .0 e)
     where
-      meant : ((f : Gps) × GpsMeans b f) × (_≡_ {A = ℕ} 0 0) → GpsMeans b (gpsOf b)
-      meant h = subst (GpsMeans b) (sym (means-fields (h .0 .0) (h .0 .1))) (h .0 .1)
+      meant : ((f : Gps) × GpsMeans o b f) × (_≡_ {A = ℕ} 0 0) → GpsMeans o b (gpsOf o b)
+      meant h = subst (GpsMeans o b) (sym (means-fields (h .0 .0) (h .0 .1))) (h .0 .1)

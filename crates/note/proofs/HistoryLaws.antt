@@ -10,10 +10,11 @@ use borrow.Author.Tests.{eqb-true, eqb-false, eq-eqb, ne-eqb, not-true}
 use lib.Dec.{eqb, eqb·suc-zero}
 use lib.ListN.{length, take, drop, length-append, length-drop, take-append-drop, drop-of-length-le}
 use lib.Seq.{length-take-le, drop-drop, drop-at, take-at}
+use Rattle.theory.specs.declared.Order.{Order}
 use Rattle.theory.specs.Words.{Bytes, wordsAt}
 use Rattle.theory.proofs.TestLaws.{first-at, first-passes, holds-at, unless-holds, equal-passed, equal-passes, most-passed, most-passes}
 use Rattle.theory.proofs.WordLaws.{words-of-puts, puts-of-words, length-puts, word-past}
-use Rattle.note.specs.Words.{order, word, words, greatestSigned}
+use Rattle.note.specs.Words.{word, words, greatestSigned}
 use Rattle.note.specs.History.{Section, History, widthAt, widthOf, after, triggerAt, sectionOf, historyOf}
 use Rattle.note.specs.History.{sectionBytes, historyBytes, isWidth, sectionRule, historyRule, sectionFault, historyFault}
 use Rattle.note.proofs.FieldLaws.{number-at}
@@ -70,142 +71,143 @@ module _ (trigger : Bool) (s : Section) where
 -- ---- a section at place p of a body
 
 -- The rule at p is the rule of the section read there, where its masks end within the body.
-module _ (trigger : Bool) (p : ℕ) (b : List ℕ) (room : after p b ≤ length b) where
-  rule-whole : sectionRule trigger p b ≡ 0 → Whole trigger (sectionOf p b)
+module _ (o : Order) (trigger : Bool) (p : ℕ) (b : List ℕ) (room : after o p b ≤ length b) where
+  rule-whole : sectionRule o trigger p b ≡ 0 → Whole trigger (sectionOf o p b)
   unfolding sectionRule sectionOf after widthAt
   rule-whole e =
       let l : (n q : ℕ) → q + n ≤ length b → length (take n (drop q b)) ≡ n =
       λ n q h. length-take-le n (drop q b) (omega (arith, length-drop q b)) in
       record {
-        count = most-passed (word p b) greatestSigned 9 (first-at _ e 1);
-        times = l (4 * word p b) (p + 4) (omega arith);
-        width = most-passed (widthOf p b) greatestSigned 9 (first-at _ e 3);
-        widths = width-means trigger (word p b) (widthOf p b) (holds-at _ e 4 (isWidth trigger (word p b) (widthOf p b)) 9 refl);
-        masks = l (4 * (word p b * widthOf p b)) (p + 4 + 4 * word p b + 4) (omega arith);
+        count = most-passed (word o p b) greatestSigned 9 (first-at _ e 1);
+        times = l (4 * word o p b) (p + 4) (omega arith);
+        width = most-passed (widthOf o p b) greatestSigned 9 (first-at _ e 3);
+        widths = width-means trigger (word o p b) (widthOf o p b) (holds-at _ e 4 (isWidth trigger (word o p b) (widthOf o p b)) 9 refl);
+        masks = l (4 * (word o p b * widthOf o p b)) (p + 4 + 4 * word o p b + 4) (omega arith);
       }
 
-  whole-rule : Whole trigger (sectionOf p b) → sectionRule trigger p b ≡ 0
+  whole-rule : Whole trigger (sectionOf o p b) → sectionRule o trigger p b ≡ 0
   unfolding sectionRule sectionOf after widthAt
   whole-rule h =
       let counted : p + 4 ≤ length b = omega arith in
-      let wide : p + 4 + 4 * word p b + 4 ≤ length b = omega arith in
-      let widths = unless-holds _ 10 (means-width trigger (word p b) (widthOf p b) (h .widths)) in
+      let wide : p + 4 + 4 * word o p b + 4 ≤ length b = omega arith in
+      let widths = unless-holds _ 10 (means-width trigger (word o p b) (widthOf o p b) (h .widths)) in
       first-passes _ (most-passes 6 counted, (most-passes 10 (h .count), (most-passes 6 wide, (most-passes 10 (h .width), (widths, tt)))))
 
 -- Written again it restores its bytes.
-section-restored : (p : ℕ) (b : List ℕ) → after p b ≤ length b → Bytes b → sectionBytes (sectionOf p b) ++ drop (after p b) b ≡ drop p b
+section-restored : (o : Order) (p : ℕ) (b : List ℕ) → after o p b ≤ length b → Bytes b
+    → sectionBytes o (sectionOf o p b) ++ drop (after o p b) b ≡ drop p b
 unfolding sectionBytes sectionOf after widthOf widthAt wordsAt
-section-restored p b room h =
-    let one : (q : ℕ) → q + 4 ≤ length b → words (word q b ∷ []) ++ drop (q + 4) b ≡ drop q b = λ q l. puts-of-words order 4 1 q b h l in
+section-restored o p b room h =
+    let one : (q : ℕ) → q + 4 ≤ length b → words o (word o q b ∷ []) ++ drop (q + 4) b ≡ drop q b = λ q l. puts-of-words o 4 1 q b h l in
     let part : (q n : ℕ) → take n (drop q b) ++ drop (q + n) b ≡ drop q b =
     λ q n. ap (λ (r : List ℕ). take n (drop q b) ++ r) (sym (drop-drop n q b)) ∙ take-append-drop n (drop q b) in
-    let w : ℕ = p + 4 + 4 * word p b in
-    simp (append-assoc, part (w + 4) (4 * (word p b * word w b)), one w (omega arith), part (p + 4) (4 * word p b)) (one p (omega arith))
+    let w : ℕ = p + 4 + 4 * word o p b in
+    simp (append-assoc, part (w + 4) (4 * (word o p b * word o w b)), one w (omega arith), part (p + 4) (4 * word o p b)) (one p (omega arith))
 
 -- What stands behind a part of that length is read there: a word, and a list.
-module _ (b pre rest : List ℕ) (p : ℕ) (l : length pre ≡ p) where
-  word-behind : (n : ℕ) → n ≤ greatestSigned → b ≡ pre ++ (words (n ∷ []) ++ rest) → word p b ≡ n
+module _ (o : Order) (b pre rest : List ℕ) (p : ℕ) (l : length pre ≡ p) where
+  word-behind : (n : ℕ) → n ≤ greatestSigned → b ≡ pre ++ (words o (n ∷ []) ++ rest) → word o p b ≡ n
   unfolding wordsAt
   word-behind n f e =
       let q : p ≡ length pre + 0 = omega arith in
-      ap₂ word q e
-      ∙ word-past order 4 0 pre (words (n ∷ []) ++ rest)
-      ∙ number-at (words-of-puts order 4 (n ∷ []) rest (omega arith)) 0
+      ap₂ (word o) q e
+      ∙ word-past o 4 0 pre (words o (n ∷ []) ++ rest)
+      ∙ number-at (words-of-puts o 4 (n ∷ []) rest (omega arith)) 0
 
   part-behind : (x : List ℕ) (n : ℕ) → length x ≡ n → b ≡ pre ++ (x ++ rest) → take n (drop p b) ≡ x
   part-behind x n k e = ap (λ (r : List ℕ). take n (drop p r)) e ∙ ap (take n) (drop-at pre (x ++ rest) p l) ∙ take-at x rest n k
 
 -- Read back it is the same.
-module _ (trigger : Bool) (s : Section) (h : Whole trigger s) where
-  section-size : length (sectionBytes s) ≡ 8 + 4 * s .count + 4 * (s .count * s .width)
+module _ (o : Order) (trigger : Bool) (s : Section) (h : Whole trigger s) where
+  section-size : length (sectionBytes o s) ≡ 8 + 4 * s .count + 4 * (s .count * s .width)
   unfolding sectionBytes
-  section-size = simp length-append (omega (arith, length-puts order 4 (s .count ∷ []), length-puts order 4 (s .width ∷ [])))
+  section-size = simp length-append (omega (arith, length-puts o 4 (s .count ∷ []), length-puts o 4 (s .width ∷ [])))
 
-  module _ (p : ℕ) (b pre rest : List ℕ) (l : length pre ≡ p) (e : b ≡ pre ++ (sectionBytes s ++ rest)) where
-    section-read : (sectionOf p b ≡ s) × (after p b ≡ p + length (sectionBytes s))
+  module _ (p : ℕ) (b pre rest : List ℕ) (l : length pre ≡ p) (e : b ≡ pre ++ (sectionBytes o s ++ rest)) where
+    section-read : (sectionOf o p b ≡ s) × (after o p b ≡ p + length (sectionBytes o s))
     unfolding sectionBytes sectionOf after widthOf widthAt
     section-read =
-        let c : List ℕ = words (s .count ∷ []) in
-        let w : List ℕ = words (s .width ∷ []) in
+        let c : List ℕ = words o (s .count ∷ []) in
+        let w : List ℕ = words o (s .width ∷ []) in
         let t : List ℕ = s .times in
         let m : List ℕ = s .masks in
         let flat : b ≡ pre ++ (c ++ (t ++ (w ++ (m ++ rest)))) = e ∙ simp append-assoc in
-        let lc : length c ≡ 4 = length-puts order 4 (s .count ∷ []) in
-        let lw : length w ≡ 4 = length-puts order 4 (s .width ∷ []) in
+        let lc : length c ≡ 4 = length-puts o 4 (s .count ∷ []) in
+        let lw : length w ≡ 4 = length-puts o 4 (s .width ∷ []) in
         let at : ℕ = p + 4 + 4 * s .count in
-        let count : word p b ≡ s .count = word-behind b pre (t ++ (w ++ (m ++ rest))) p l (s .count) (h .count) flat in
+        let count : word o p b ≡ s .count = word-behind o b pre (t ++ (w ++ (m ++ rest))) p l (s .count) (h .count) flat in
         let times : take (4 * s .count) (drop (p + 4) b) ≡ t =
-        part-behind b (pre ++ c) (w ++ (m ++ rest)) (p + 4) (simp length-append (omega arith))
+        part-behind o b (pre ++ c) (w ++ (m ++ rest)) (p + 4) (simp length-append (omega arith))
         t (4 * s .count) (h .times) (flat ∙ sym (simp append-assoc)) in
-        let width : word at b ≡ s .width =
-        word-behind b (pre ++ (c ++ t)) (m ++ rest) at (simp length-append (omega arith))
+        let width : word o at b ≡ s .width =
+        word-behind o b (pre ++ (c ++ t)) (m ++ rest) at (simp length-append (omega arith))
         (s .width) (h .width) (flat ∙ sym (simp append-assoc)) in
         let masks : take (4 * (s .count * s .width)) (drop (at + 4) b) ≡ m =
-        part-behind b (pre ++ (c ++ (t ++ w))) rest (at + 4) (simp length-append (omega arith))
+        part-behind o b (pre ++ (c ++ (t ++ w))) rest (at + 4) (simp length-append (omega arith))
         m (4 * (s .count * s .width)) (h .masks) (flat ∙ sym (simp append-assoc)) in
         rw (count, width) (λ i. record { count = s .count; times = times i; width = s .width; masks = masks i }, omega (arith, section-size))
 
 -- ---- the whole body
 
-after-past : (p : ℕ) (b : List ℕ) → p ≤ after p b
+after-past : (o : Order) (p : ℕ) (b : List ℕ) → p ≤ after o p b
 unfolding after widthAt
-after-past p b = omega arith
+after-past o p b = omega arith
 
 -- In an accepted body both sections have room, and the second ends with the body.
-pub history-ends : (b : List ℕ) → historyRule b ≡ 0 → (triggerAt b ≤ length b) × (length b ≡ after (triggerAt b) b)
+pub history-ends : (o : Order) (b : List ℕ) → historyRule o b ≡ 0 → (triggerAt o b ≤ length b) × (length b ≡ after o (triggerAt o b) b)
 unfolding historyRule
-history-ends b e =
-    let end : length b ≡ after (triggerAt b) b = equal-passed (length b) (after (triggerAt b) b) 5 (first-at _ e 4) in
-    (omega (arith, after-past (triggerAt b) b), end)
+history-ends o b e =
+    let end : length b ≡ after o (triggerAt o b) b = equal-passed (length b) (after o (triggerAt o b) b) 5 (first-at _ e 4) in
+    (omega (arith, after-past o (triggerAt o b) b), end)
 
 -- An accepted body is its fields, written.
-pub history-restored : (b : List ℕ) → Bytes b → historyRule b ≡ 0 → historyBytes (historyOf b) ≡ b
+pub history-restored : (o : Order) (b : List ℕ) → Bytes b → historyRule o b ≡ 0 → historyBytes o (historyOf o b) ≡ b
 unfolding historyBytes historyOf
-history-restored b h e =
-    let (first, end) = history-ends b e in
-    let past : length b ≤ after (triggerAt b) b = omega arith in
-    let second : sectionBytes (sectionOf (triggerAt b) b) ++ [] ≡ drop (triggerAt b) b =
-    rw (← drop-of-length-le b past) (section-restored (triggerAt b) b (omega arith) h) in
-    ap (λ (r : List ℕ). sectionBytes (sectionOf 0 b) ++ r) (sym (append-nil _) ∙ second) ∙ section-restored 0 b first h
+history-restored o b h e =
+    let (first, end) = history-ends o b e in
+    let past : length b ≤ after o (triggerAt o b) b = omega arith in
+    let second : sectionBytes o (sectionOf o (triggerAt o b) b) ++ [] ≡ drop (triggerAt o b) b =
+    rw (← drop-of-length-le b past) (section-restored o (triggerAt o b) b (omega arith) h) in
+    ap (λ (r : List ℕ). sectionBytes o (sectionOf o 0 b) ++ r) (sym (append-nil _) ∙ second) ∙ section-restored o 0 b first h
 
 -- The fields of an accepted body have no fault.
-pub history-faultless : (b : List ℕ) → historyRule b ≡ 0 → historyFault (historyOf b) ≡ 0
+pub history-faultless : (o : Order) (b : List ℕ) → historyRule o b ≡ 0 → historyFault (historyOf o b) ≡ 0
 unfolding historyRule historyFault historyOf
-history-faultless b e =
-    let (room, end) = history-ends b e in
+history-faultless o b e =
+    let (room, end) = history-ends o b e in
     first-passes _ (
-      whole-fault false (sectionOf 0 b) (rule-whole false 0 b room (first-at _ e 2)),
-      (whole-fault true (sectionOf (triggerAt b) b) (rule-whole true (triggerAt b) b (omega arith) (first-at _ e 3)), tt),
+      whole-fault false (sectionOf o 0 b) (rule-whole o false 0 b room (first-at _ e 2)),
+      (whole-fault true (sectionOf o (triggerAt o b) b) (rule-whole o true (triggerAt o b) b (omega arith) (first-at _ e 3)), tt),
     )
 
 -- What a writer accepts is read back: its body passes the rule, and its fields are those that were written.
-pub history-read-back : (f : History) → historyFault f ≡ 0 → (historyRule (historyBytes f) ≡ 0) × (historyOf (historyBytes f) ≡ f)
+pub history-read-back : (o : Order) (f : History) → historyFault f ≡ 0 → (historyRule o (historyBytes o f) ≡ 0) × (historyOf o (historyBytes o f) ≡ f)
 unfolding historyFault historyRule historyBytes historyOf
-history-read-back f e =
-    let b : List ℕ = historyBytes f in
-    let one : List ℕ = sectionBytes (f .veto) in
-    let two : List ℕ = sectionBytes (f .trigger) in
+history-read-back o f e =
+    let b : List ℕ = historyBytes o f in
+    let one : List ℕ = sectionBytes o (f .veto) in
+    let two : List ℕ = sectionBytes o (f .trigger) in
     let v : Whole false (f .veto) = fault-whole false (f .veto) (first-at _ e 0) in
     let t : Whole true (f .trigger) = fault-whole true (f .trigger) (first-at _ e 1) in
-    let veto = section-read false (f .veto) v 0 b [] two refl refl in
-    let at : length one ≡ triggerAt b = omega arith in
+    let veto = section-read o false (f .veto) v 0 b [] two refl refl in
+    let at : length one ≡ triggerAt o b = omega arith in
     let last : b ≡ one ++ (two ++ []) = ap (λ (r : List ℕ). one ++ r) (sym (append-nil two)) in
-    let trigger = section-read true (f .trigger) t (triggerAt b) b one [] at last in
+    let trigger = section-read o true (f .trigger) t (triggerAt o b) b one [] at last in
     let size : length b ≡ length one + length two = length-append one two in
-    let sv = section-size false (f .veto) v in
-    let st = section-size true (f .trigger) t in
+    let sv = section-size o false (f .veto) v in
+    let st = section-size o true (f .trigger) t in
     let least : 16 ≤ length b = omega arith in
     let fours : length b % 4 ≡ 0 = omega arith in
-    let end : length b ≡ after (triggerAt b) b = omega arith in
-    let first : sectionRule false 0 b ≡ 0 = whole-rule false 0 b (omega arith) (rw (veto .0) v) in
-    let second : sectionRule true (triggerAt b) b ≡ 0 = whole-rule true (triggerAt b) b (omega arith) (rw (trigger .0) t) in
-    let rule : historyRule b ≡ 0 = first-passes _ (most-passes 6 least, (equal-passes 6 fours, (first, (second, (equal-passes 6 end, tt))))) in
+    let end : length b ≡ after o (triggerAt o b) b = omega arith in
+    let first : sectionRule o false 0 b ≡ 0 = whole-rule o false 0 b (omega arith) (rw (veto .0) v) in
+    let second : sectionRule o true (triggerAt o b) b ≡ 0 = whole-rule o true (triggerAt o b) b (omega arith) (rw (trigger .0) t) in
+    let rule : historyRule o b ≡ 0 = first-passes _ (most-passes 6 least, (equal-passes 6 fours, (first, (second, (equal-passes 6 end, tt))))) in
     (rule, λ i. record { veto = veto .0 i; trigger = trigger .0 i })
 
 -- ---- the rule said a second time
 
 -- A body that is a veto section and a trigger section and nothing else.
-pub record Fills (b : List ℕ) : Type 0 where
+pub record Fills (o : Order) (b : List ℕ) : Type 0 where
   pub nvt : ℕ
   pub nvw : ℕ
   pub ntt : ℕ
@@ -214,22 +216,22 @@ pub record Fills (b : List ℕ) : Type 0 where
   pub vetoMasks : List ℕ
   pub triggerTimes : List ℕ
   pub triggerMasks : List ℕ
-  pub filled : b ≡ words (nvt ∷ []) ++ (vetoTimes ++ (words (nvw ∷ []) ++ (vetoMasks
-      ++ (words (ntt ∷ []) ++ (triggerTimes ++ (words (ntw ∷ []) ++ triggerMasks))))))
+  pub filled : b ≡ words o (nvt ∷ []) ++ (vetoTimes ++ (words o (nvw ∷ []) ++ (vetoMasks
+      ++ (words o (ntt ∷ []) ++ (triggerTimes ++ (words o (ntw ∷ []) ++ triggerMasks))))))
   pub lengths : (length vetoTimes ≡ 4 * nvt) × (length vetoMasks ≡ 4 * (nvt * nvw))
       × (length triggerTimes ≡ 4 * ntt) × (length triggerMasks ≡ 4 * (ntt * ntw))
   pub counts : (nvt ≤ 0x7FFFFFFF) × (nvw ≤ 0x7FFFFFFF) × (ntt ≤ 0x7FFFFFFF) × (ntw ≤ 0x7FFFFFFF)
   pub missing : (nvt ≡ 0) ↔ (nvw ≡ 0)
   pub six : ((ntt ≡ 0) × (ntw ≡ 0)) ⊎ ((0 < ntt) × (ntw ≡ 6))
 
-accepted-fills : (b : List ℕ) → Bytes b → historyRule b ≡ 0 → Fills b
+accepted-fills : (o : Order) (b : List ℕ) → Bytes b → historyRule o b ≡ 0 → Fills o b
 unfolding historyRule historyBytes historyOf sectionBytes
-accepted-fills b h e =
-    let (room, end) = history-ends b e in
-    let veto : Section = sectionOf 0 b in
-    let trigger : Section = sectionOf (triggerAt b) b in
-    let v : Whole false veto = rule-whole false 0 b room (first-at _ e 2) in
-    let t : Whole true trigger = rule-whole true (triggerAt b) b (omega arith) (first-at _ e 3) in
+accepted-fills o b h e =
+    let (room, end) = history-ends o b e in
+    let veto : Section = sectionOf o 0 b in
+    let trigger : Section = sectionOf o (triggerAt o b) b in
+    let v : Whole false veto = rule-whole o false 0 b room (first-at _ e 2) in
+    let t : Whole true trigger = rule-whole o true (triggerAt o b) b (omega arith) (first-at _ e 3) in
     record {
       nvt = veto .count;
       nvw = veto .width;
@@ -239,16 +241,16 @@ accepted-fills b h e =
       vetoMasks = veto .masks;
       triggerTimes = trigger .times;
       triggerMasks = trigger .masks;
-      filled = sym (history-restored b h e) ∙ simp append-assoc;
+      filled = sym (history-restored o b h e) ∙ simp append-assoc;
       lengths = (v .times, v .masks, t .times, t .masks);
       counts = (v .count, v .width, t .count, t .width);
       missing = v .widths;
       six = t .widths;
     }
 
-fills-accepted : (b : List ℕ) → Fills b → historyRule b ≡ 0
+fills-accepted : (o : Order) (b : List ℕ) → Fills o b → historyRule o b ≡ 0
 unfolding historyFault historyBytes sectionBytes
-fills-accepted b f =
+fills-accepted o b f =
     let veto : Section = record { count = f .nvt; times = f .vetoTimes; width = f .nvw; masks = f .vetoMasks } in
     let trigger : Section = record { count = f .ntt; times = f .triggerTimes; width = f .ntw; masks = f .triggerMasks } in
     let v : Whole false veto = record {
@@ -266,9 +268,9 @@ fills-accepted b f =
       masks = f .lengths .3;
     } in
     let g : History = record { veto = veto; trigger = trigger } in
-    let same : historyBytes g ≡ b = simp append-assoc (sym (f .filled)) in
-    rw same at (history-read-back g (first-passes _ (whole-fault false veto v, (whole-fault true trigger t, tt))) .0)
+    let same : historyBytes o g ≡ b = simp append-assoc (sym (f .filled)) in
+    rw same at (history-read-back o g (first-passes _ (whole-fault false veto v, (whole-fault true trigger t, tt))) .0)
 
 -- A body is accepted exactly where two sections fill it.
-pub history-fills : (b : List ℕ) → Bytes b → (historyRule b ≡ 0) ↔ Fills b
-history-fills b h = (accepted-fills b h, fills-accepted b)
+pub history-fills : (o : Order) (b : List ℕ) → Bytes b → (historyRule o b ≡ 0) ↔ Fills o b
+history-fills o b h = (accepted-fills o b h, fills-accepted o b)

@@ -4,6 +4,7 @@ use mathlib.Core.Path.{_≡_}
 use mathlib.Core.List.{List}
 use Prim.Native.Nat.{ℕ}
 use native.Mathlib.Omega.{arith}
+use Rattle.theory.specs.declared.Order.{Order}
 use Rattle.theory.specs.Words.{Bytes}
 use Rattle.note.specs.Kinds.{Kind}
 use Rattle.note.specs.Records.{kindOf, recordRule}
@@ -13,12 +14,13 @@ use Rattle.note.proofs.TraceLaws.{trace-restored}
 use Rattle.note.proofs.HistoryLaws.{history-restored}
 use Rattle.note.proofs.GpsLaws.{gps-restored}
 
-abbrev Restores : Kind → Type 0
-Restores x = (b : List ℕ) → Bytes b → x .rule b ≡ 0 → x .again b ≡ b
+abbrev Restores : Order → Kind → Type 0
+Restores o x = (b : List ℕ) → Bytes b → x .rule o b ≡ 0 → x .again o b ≡ b
 
 -- No kind word is asked for: what no kind word names is never accepted.
-pub again-restores : (k : ℕ) (b : List ℕ) → Bytes b → recordRule k b ≡ 0 → kindOf k .again b ≡ b
-again-restores k =
-    kind-cases (λ w x. Restores x) k
-    phonon-restored charge-restored administrative-restored trace-restored history-restored gps-restored trigger-restored tlb-restored
+pub again-restores : (o : Order) → (k : ℕ) (b : List ℕ) → Bytes b → recordRule o k b ≡ 0 → kindOf k .again o b ≡ b
+again-restores o k =
+    kind-cases (λ w x. Restores o x) k
+    (phonon-restored o) (charge-restored o) (administrative-restored o) (trace-restored o)
+    (history-restored o) (gps-restored o) (trigger-restored o) (tlb-restored o)
     (λ b h e. absurd (omega arith))

@@ -6,6 +6,7 @@ use mathlib.Core.Path.{_≡_, refl}
 use mathlib.Core.List.{List, [], _∷_, _++_, map}
 use lib.IntN.{ℤ, pos}
 use lib.ListN.{length, take}
+use Rattle.theory.specs.declared.Order.{Order}
 use Rattle.theory.specs.Layout.{Row}
 use Rattle.note.specs.Words.{words, unsigned}
 use Rattle.note.specs.Answers.{whole, float, count, counts, wholes, accepted, refused, givenRecord, givenSetting}
@@ -30,8 +31,8 @@ use Rattle.note.specs.declared.WriterAnswer.the-variants as Writer
 
 -- ---- an entry
 
-module _ (f : Phonon) where
-  pub phonon-words : phononBytes f ≡ words (map unsigned (f .code ∷ f .tower ∷ f .gain ∷ f .qetBias ∷ f .squidBias ∷ f .lockpoint
+module _ (o : Order) (f : Phonon) where
+  pub phonon-words : phononBytes o f ≡ words o (map unsigned (f .code ∷ f .tower ∷ f .gain ∷ f .qetBias ∷ f .squidBias ∷ f .lockpoint
       ∷ f .rtfOffset ∷ f .variableGain ∷ f .deltaT ∷ f .t0 ∷ f .traceLength ∷ []))
   unfolding phononBytes
   phonon-words = refl
@@ -51,9 +52,9 @@ module _ (f : Phonon) where
   unfolding givenSetting
   phonon-setting-answer = refl
 
-module _ (f : Charge) where
-  pub charge-words : chargeBytes f
-      ≡ words (map unsigned (f .code ∷ f .tower ∷ f .gain ∷ f .bias ∷ f .rtfOffset ∷ f .deltaT ∷ f .t0 ∷ f .traceLength ∷ []))
+module _ (o : Order) (f : Charge) where
+  pub charge-words : chargeBytes o f
+      ≡ words o (map unsigned (f .code ∷ f .tower ∷ f .gain ∷ f .bias ∷ f .rtfOffset ∷ f .deltaT ∷ f .t0 ∷ f .traceLength ∷ []))
   unfolding chargeBytes
   charge-words = refl
 
@@ -72,8 +73,8 @@ module _ (f : Charge) where
 
 -- ---- a record
 
-module _ (f : Administrative) where
-  pub administrative-words : administrativeBytes f ≡ words (f .date ∷ f .clock ∷ f .number ∷ f .time ∷ f .since ∷ f .live ∷ [])
+module _ (o : Order) (f : Administrative) where
+  pub administrative-words : administrativeBytes o f ≡ words o (f .date ∷ f .clock ∷ f .number ∷ f .time ∷ f .since ∷ f .live ∷ [])
   unfolding administrativeBytes
   administrative-words = refl
 
@@ -83,12 +84,12 @@ module _ (f : Administrative) where
   administrative-answer = refl
 
 -- A section of a history: its count, its times, its width, its masks. The veto section stands first.
-abbrev pub sectionParts : Section → List ℕ
-sectionParts s = words (s .count ∷ []) ++ (s .times ++ (words (s .width ∷ []) ++ s .masks))
+abbrev pub sectionParts : Order → Section → List ℕ
+sectionParts o s = words o (s .count ∷ []) ++ (s .times ++ (words o (s .width ∷ []) ++ s .masks))
 
-pub history-words : (f : History) → historyBytes f ≡ sectionParts (f .veto) ++ sectionParts (f .trigger)
+pub history-words : (o : Order) (f : History) → historyBytes o f ≡ sectionParts o (f .veto) ++ sectionParts o (f .trigger)
 unfolding historyBytes sectionBytes
-history-words f = refl
+history-words o f = refl
 
 pub trace-answer : (f : Trace) → givenRecord (Record.Trace (f .address) (f .channel) (f .code) (f .t0) (f .delta) (f .n))
     ≡ accepted (count 7 ∷ count (f .address) ∷ count (f .channel) ∷ count (f .code) ∷ whole (f .t0) ∷ count (f .delta) ∷ count (f .n) ∷ [])
@@ -100,19 +101,20 @@ pub gps-answer : (f : Gps) → givenRecord (Record.Gps (f .year) (f .day) (f .st
 unfolding givenRecord
 gps-answer f = refl
 
-pub gps-words : (f : Gps) → gpsBytes f ≡ words (
+pub gps-words : (o : Order) (f : Gps) → gpsBytes o f ≡ words o (
     (bcd 4 (f .year) * 2 ^ 16 + bcd 4 (f .day)) ∷
     (f .status * 2 ^ 28 + bcd 2 (f .hour) * 2 ^ 16 + bcd 2 (f .minute) * 2 ^ 8 + bcd 2 (f .second)) ∷ bcd 8 (f .tenths) ∷ [])
 unfolding gpsBytes
-gps-words f = refl
+gps-words o f = refl
 
-pub trace-words : (f : Trace) → traceBytes f ≡ words (0x11 ∷ 12 ∷ f .address ∷ f .channel ∷ f .code ∷ 0x12 ∷ 12 ∷ unsigned (f .t0) ∷ f .delta
+pub trace-words : (o : Order) (f : Trace)
+    → traceBytes o f ≡ words o (0x11 ∷ 12 ∷ f .address ∷ f .channel ∷ f .code ∷ 0x12 ∷ 12 ∷ unsigned (f .t0) ∷ f .delta
     ∷ f .n ∷ 0x13 ∷ f .n ∷ []) ++ f .samples
 unfolding traceBytes
-trace-words f = refl
+trace-words o f = refl
 
-module _ (f : Trigger) where
-  pub trigger-words : triggerBytes f ≡ words (0 ∷ f .mask1 ∷ f .mask2 ∷ f .mask3 ∷ f .mask4 ∷ f .mask5 ∷ f .mask6 ∷ [])
+module _ (o : Order) (f : Trigger) where
+  pub trigger-words : triggerBytes o f ≡ words o (0 ∷ f .mask1 ∷ f .mask2 ∷ f .mask3 ∷ f .mask4 ∷ f .mask5 ∷ f .mask6 ∷ [])
   unfolding triggerBytes
   trigger-words = refl
 
@@ -121,8 +123,8 @@ module _ (f : Trigger) where
   unfolding givenRecord
   trigger-answer = refl
 
-module _ (f : Tlb) where
-  pub tlb-words : tlbBytes f ≡ words (f .tower1 ∷ f .tower2 ∷ f .tower3 ∷ f .tower4 ∷ f .tower5 ∷ f .tower6 ∷ [])
+module _ (o : Order) (f : Tlb) where
+  pub tlb-words : tlbBytes o f ≡ words o (f .tower1 ∷ f .tower2 ∷ f .tower3 ∷ f .tower4 ∷ f .tower5 ∷ f .tower6 ∷ [])
   unfolding tlbBytes
   tlb-words = refl
 

@@ -9,6 +9,7 @@ use mathlib.Core.List.{List, [], _∷_}
 use native.Mathlib.Omega.{arith}
 use lib.Dec.{leb, eqb}
 use lib.ListN.{length, take, drop}
+use Rattle.theory.specs.declared.Order.{Order}
 use Rattle.theory.specs.Tests.{Res, ok, need, bind, unless, first}
 use Rattle.note.specs.Asked.{asks, fine, Answers}
 use Rattle.note.specs.EventKinds.{IsEntryKind, IsRecordKind, MayFollow}
@@ -28,56 +29,56 @@ use Rattle.note.proofs.PlaceLaws.{seenOf, entry-kinds-exact, record-kin
 -- ---- a record or an entry
 
 -- What is asked of a body, by its kind word.
-abbrev pub RuleAsked : ℕ → List ℕ → ℕ → Type 0
-RuleAsked k b c =
-    ((k ≡ 0x00010001) × PhononAsked b c)
-    ⊎ (((k ≡ 0x00010002) × ChargeAsked b c)
-    ⊎ (((k ≡ 0x02) × AdministrativeAsked b c)
-    ⊎ (((k ≡ 0x11) × TraceAsked b c)
-    ⊎ (((k ≡ 0x21) × HistoryAsked b c)
-    ⊎ (((k ≡ 0x60) × GpsAsked b c)
-    ⊎ (((k ≡ 0x80) × TriggerAsked b c)
-    ⊎ ((k ≡ 0x81) × TlbAsked b c)))))))
+abbrev pub RuleAsked : Order → ℕ → List ℕ → ℕ → Type 0
+RuleAsked o k b c =
+    ((k ≡ 0x00010001) × PhononAsked o b c)
+    ⊎ (((k ≡ 0x00010002) × ChargeAsked o b c)
+    ⊎ (((k ≡ 0x02) × AdministrativeAsked o b c)
+    ⊎ (((k ≡ 0x11) × TraceAsked o b c)
+    ⊎ (((k ≡ 0x21) × HistoryAsked o b c)
+    ⊎ (((k ≡ 0x60) × GpsAsked o b c)
+    ⊎ (((k ≡ 0x80) × TriggerAsked o b c)
+    ⊎ ((k ≡ 0x81) × TlbAsked o b c)))))))
 
-module _ (k : ℕ) (b : List ℕ) (c : ℕ) where
+module _ (o : Order) (k : ℕ) (b : List ℕ) (c : ℕ) where
   -- A kind word stands for its number, and its rule gives what is asked.
-  at-kind : {Asked : ℕ → Type 0} (x : ℕ) → ((c : ℕ) → (recordRule x b ≡ c) ↔ Asked c) → k ≡ x → (recordRule k b ≡ c) ↔ Asked c
-  at-kind {Asked} x exact e = subst (λ (n : ℕ). (recordRule n b ≡ c) ↔ Asked c) (sym e) (exact c)
+  at-kind : {Asked : ℕ → Type 0} (x : ℕ) → ((c : ℕ) → (recordRule o x b ≡ c) ↔ Asked c) → k ≡ x → (recordRule o k b ≡ c) ↔ Asked c
+  at-kind {Asked} x exact e = subst (λ (n : ℕ). (recordRule o n b ≡ c) ↔ Asked c) (sym e) (exact c)
 
-  phonon : k ≡ 0x00010001 → (recordRule k b ≡ c) ↔ PhononAsked b c
+  phonon : k ≡ 0x00010001 → (recordRule o k b ≡ c) ↔ PhononAsked o b c
   unfolding kindOf
-  phonon = at-kind 0x00010001 (phonon-rule-exact b)
+  phonon = at-kind 0x00010001 (phonon-rule-exact o b)
 
-  charge : k ≡ 0x00010002 → (recordRule k b ≡ c) ↔ ChargeAsked b c
+  charge : k ≡ 0x00010002 → (recordRule o k b ≡ c) ↔ ChargeAsked o b c
   unfolding kindOf
-  charge = at-kind 0x00010002 (charge-rule-exact b)
+  charge = at-kind 0x00010002 (charge-rule-exact o b)
 
-  administrative : k ≡ 0x02 → (recordRule k b ≡ c) ↔ AdministrativeAsked b c
+  administrative : k ≡ 0x02 → (recordRule o k b ≡ c) ↔ AdministrativeAsked o b c
   unfolding kindOf
-  administrative = at-kind 0x02 (administrative-rule-exact b)
+  administrative = at-kind 0x02 (administrative-rule-exact o b)
 
-  trace : k ≡ 0x11 → (recordRule k b ≡ c) ↔ TraceAsked b c
+  trace : k ≡ 0x11 → (recordRule o k b ≡ c) ↔ TraceAsked o b c
   unfolding kindOf
-  trace = at-kind 0x11 (trace-rule-exact b)
+  trace = at-kind 0x11 (trace-rule-exact o b)
 
-  history : k ≡ 0x21 → (recordRule k b ≡ c) ↔ HistoryAsked b c
+  history : k ≡ 0x21 → (recordRule o k b ≡ c) ↔ HistoryAsked o b c
   unfolding kindOf
-  history = at-kind 0x21 (history-rule-exact b)
+  history = at-kind 0x21 (history-rule-exact o b)
 
-  gps : k ≡ 0x60 → (recordRule k b ≡ c) ↔ GpsAsked b c
+  gps : k ≡ 0x60 → (recordRule o k b ≡ c) ↔ GpsAsked o b c
   unfolding kindOf
-  gps = at-kind 0x60 (gps-rule-exact b)
+  gps = at-kind 0x60 (gps-rule-exact o b)
 
-  trigger : k ≡ 0x80 → (recordRule k b ≡ c) ↔ TriggerAsked b c
+  trigger : k ≡ 0x80 → (recordRule o k b ≡ c) ↔ TriggerAsked o b c
   unfolding kindOf
-  trigger = at-kind 0x80 (trigger-rule-exact b)
+  trigger = at-kind 0x80 (trigger-rule-exact o b)
 
-  tlb : k ≡ 0x81 → (recordRule k b ≡ c) ↔ TlbAsked b c
+  tlb : k ≡ 0x81 → (recordRule o k b ≡ c) ↔ TlbAsked o b c
   unfolding kindOf
-  tlb = at-kind 0x81 (tlb-rule-exact b)
+  tlb = at-kind 0x81 (tlb-rule-exact o b)
 
   -- The rule of a listed kind gives what is asked of that kind's body.
-  pub rule-exact : IsEntryKind k ⊎ IsRecordKind k → (recordRule k b ≡ c) ↔ RuleAsked k b c
+  pub rule-exact : IsEntryKind k ⊎ IsRecordKind k → (recordRule o k b ≡ c) ↔ RuleAsked o k b c
   rule-exact listed = (
     λ h. ⊎-elim
         (⊎-elim (λ e. inl (e, phonon e .0 h)) (λ e. inr (inl (e, charge e .0 h))))
@@ -98,40 +99,40 @@ module _ (k : ℕ) (b : List ℕ) (c : ℕ) where
   )
 
 -- A record or entry at the front of bs, of a kind that is allowed here (5) and placed as it may (9): its body is what its length says.
-abbrev pub bodyOf : List ℕ → List ℕ
-bodyOf bs = take (word 4 bs) (drop 8 bs)
+abbrev pub bodyOf : Order → List ℕ → List ℕ
+bodyOf o bs = take (word o 4 bs) (drop 8 bs)
 
-abbrev pub RecordAsked : (ℕ → Type 0) → (ℕ → Type 0) → List ℕ → ℕ → Type 0
-RecordAsked Allowed Placed bs =
+abbrev pub RecordAsked : Order → (ℕ → Type 0) → (ℕ → Type 0) → List ℕ → ℕ → Type 0
+RecordAsked o Allowed Placed bs =
     asks (8 ≤ length bs) 2 (
-    asks (Allowed (word 0 bs)) 5 (
-    asks (8 + word 4 bs ≤ length bs) 2 (
-    asks (Placed (word 0 bs)) 9 (
-    RuleAsked (word 0 bs) (bodyOf bs)))))
+    asks (Allowed (word o 0 bs)) 5 (
+    asks (8 + word o 4 bs ≤ length bs) 2 (
+    asks (Placed (word o 0 bs)) 9 (
+    RuleAsked o (word o 0 bs) (bodyOf o bs)))))
 
 -- What is read then.
-abbrev pub recordRead : List ℕ → Res Record
-recordRead bs = ok (record { kind = word 0 bs; body = bodyOf bs })
+abbrev pub recordRead : Order → List ℕ → Res Record
+recordRead o bs = ok (record { kind = word o 0 bs; body = bodyOf o bs })
 
 -- In any context whose two tests tell these.
-module _ (c : Context) (Allowed Placed : ℕ → Type 0) (kinds : (k : ℕ) → Tells (isKind c k) (Allowed k))
+module _ (o : Order) (c : Context) (Allowed Placed : ℕ → Type 0) (kinds : (k : ℕ) → Tells (isKind c k) (Allowed k))
     (places : (k : ℕ) → Allowed k → Tells (isAllowed c k) (Placed k)) (listed : (k : ℕ) → Allowed k → IsEntryKind k ⊎ IsRecordKind k) where
   tests : List ℕ → List ℕ
   tests bs =
       unless (leb 8 (length bs)) 2 ∷
-      unless (isKind c (word 0 bs)) 5 ∷
-      unless (leb (8 + word 4 bs) (length bs)) 2 ∷
-      unless (isAllowed c (word 0 bs)) 9 ∷
-      recordRule (word 0 bs) (bodyOf bs) ∷ []
+      unless (isKind c (word o 0 bs)) 5 ∷
+      unless (leb (8 + word o 4 bs) (length bs)) 2 ∷
+      unless (isAllowed c (word o 0 bs)) 9 ∷
+      recordRule o (word o 0 bs) (bodyOf o bs) ∷ []
 
-  tests-give : (bs : List ℕ) → Gives (tests bs) (RecordAsked Allowed Placed bs)
+  tests-give : (bs : List ℕ) → Gives (tests bs) (RecordAsked o Allowed Placed bs)
   unfolding tests
   tests-give bs =
       asked (le-tells 8 (length bs)) (
-      asked-where (kinds (word 0 bs)) (λ a.
-      asked (le-tells (8 + word 4 bs) (length bs)) (
-      asked (places (word 0 bs) a) (
-      gives-alone (λ n. rule-exact (word 0 bs) (bodyOf bs) n (listed (word 0 bs) a))))))
+      asked-where (kinds (word o 0 bs)) (λ a.
+      asked (le-tells (8 + word o 4 bs) (length bs)) (
+      asked (places (word o 0 bs) a) (
+      gives-alone (λ n. rule-exact o (word o 0 bs) (bodyOf o bs) n (listed (word o 0 bs) a))))))
 
   -- A body's fault is the record's.
   body-need : (n at k : ℕ) (b : List ℕ)
@@ -141,76 +142,77 @@ module _ (c : Context) (Allowed Placed : ℕ → Type 0) (kinds : (k : ℕ) → 
   body-need zero at k b = refl
   body-need (suc n) at k b = refl
 
-  record-answers : (at : ℕ) (bs : List ℕ) → Answers (readRecord c at bs) at (RecordAsked Allowed Placed bs) (recordRead bs)
+  record-answers : (at : ℕ) (bs : List ℕ) → Answers (readRecord o c at bs) at (RecordAsked o Allowed Placed bs) (recordRead o bs)
   unfolding readRecord tests
   record-answers at bs =
       answers (tests bs) (tests-give bs) (
       gate _ at _ _ (gate _ at _ _ (gate _ at _ _ (gate _ at _ _
-      (body-need (recordRule (word 0 bs) (bodyOf bs)) at (word 0 bs) (bodyOf bs))))))
+      (body-need (recordRule o (word o 0 bs) (bodyOf o bs)) at (word o 0 bs) (bodyOf o bs))))))
 
 -- As an entry of a configuration, in an event after records of these kinds, and alone, as Record reads it: up to the end of the bytes, and
 -- nothing asked of what came before.
-pub entry-answers : (at : ℕ) (bs : List ℕ) → Answers (readRecord entry at bs) at (RecordAsked IsEntryKind (λ k. Unit {0}) bs) (recordRead bs)
+pub entry-answers : (o : Order) (at : ℕ) (bs : List ℕ)
+    → Answers (readRecord o entry at bs) at (RecordAsked o IsEntryKind (λ k. Unit {0}) bs) (recordRead o bs)
 unfolding isAllowed
-entry-answers = record-answers entry IsEntryKind (λ k. Unit {0}) entry-kinds-exact (λ k a. (λ e. tt, λ u. refl)) (λ k a. inl a)
+entry-answers o = record-answers o entry IsEntryKind (λ k. Unit {0}) entry-kinds-exact (λ k a. (λ e. tt, λ u. refl)) (λ k a. inl a)
 
-pub record-in-event-answers : (before : List ℕ) (at : ℕ) (bs : List ℕ)
-    → Answers (readRecord (event (seenOf before)) at bs) at (RecordAsked IsRecordKind (MayFollow before) bs) (recordRead bs)
-record-in-event-answers before =
-    record-answers (event (seenOf before)) IsRecordKind (MayFollow before) (record-kinds-exact (seenOf before)) (place-exact before) (λ k a. inr a)
+pub record-in-event-answers : (o : Order) (before : List ℕ) (at : ℕ) (bs : List ℕ)
+    → Answers (readRecord o (event (seenOf before)) at bs) at (RecordAsked o IsRecordKind (MayFollow before) bs) (recordRead o bs)
+record-in-event-answers o before =
+    record-answers o (event (seenOf before)) IsRecordKind (MayFollow before) (record-kinds-exact (seenOf before)) (place-exact before) (λ k a. inr a)
 
-pub record-alone-answers : (at : ℕ) (bs : List ℕ)
-    → Answers (readRecord alone at bs) at (RecordAsked (λ k. IsEntryKind k ⊎ IsRecordKind k) (λ k. Unit {0}) bs) (recordRead bs)
+pub record-alone-answers : (o : Order) (at : ℕ) (bs : List ℕ)
+    → Answers (readRecord o alone at bs) at (RecordAsked o (λ k. IsEntryKind k ⊎ IsRecordKind k) (λ k. Unit {0}) bs) (recordRead o bs)
 unfolding isAllowed
-record-alone-answers =
-    record-answers alone (λ k. IsEntryKind k ⊎ IsRecordKind k) (λ k. Unit {0}) all-kinds-exact (λ k a. (λ e. tt, λ u. refl)) (λ k a. a)
+record-alone-answers o =
+    record-answers o alone (λ k. IsEntryKind k ⊎ IsRecordKind k) (λ k. Unit {0}) all-kinds-exact (λ k a. (λ e. tt, λ u. refl)) (λ k a. a)
 
 -- ---- the header and the containers
 
 -- The header: its mark, and a version word whose parts are these.
-abbrev pub HeaderAsked : ℕ → ℕ → List ℕ → ℕ → Type 0
-HeaderAsked major minor bs = asks (8 ≤ length bs) 2 (asks (word 0 bs ≡ 0x01020304) 3 (VersionAsked major minor))
+abbrev pub HeaderAsked : Order → ℕ → ℕ → List ℕ → ℕ → Type 0
+HeaderAsked o major minor bs = asks (8 ≤ length bs) 2 (asks (word o 0 bs ≡ 0x01020304) 3 (VersionAsked major minor))
 
-pub header-answers : (at : ℕ) (bs : List ℕ) (daqMajor daqMinor major minor : ℕ) → VersionParts (word 4 bs) daqMajor daqMinor major minor
-    → Answers (readHeader tt at bs) at (HeaderAsked major minor bs) (ok (word 4 bs))
+pub header-answers : (o : Order) (at : ℕ) (bs : List ℕ) (daqMajor daqMinor major minor : ℕ) → VersionParts (word o 4 bs) daqMajor daqMinor major minor
+    → Answers (readHeader o tt at bs) at (HeaderAsked o major minor bs) (ok (word o 4 bs))
 unfolding readHeader
-header-answers at bs daqMajor daqMinor major minor p =
+header-answers o at bs daqMajor daqMinor major minor p =
     answers (_ ∷ _ ∷ _ ∷ []) (
-    asked (le-tells 8 (length bs)) (asked (eq-tells (word 0 bs) 0x01020304) (version-gives (word 4 bs) daqMajor daqMinor major minor p))) (
-    gate _ at _ _ (gate _ at _ _ (last-gate (versionRule (word 4 bs)) at (ok (word 4 bs)))))
+    asked (le-tells 8 (length bs)) (asked (eq-tells (word o 0 bs) 0x01020304) (version-gives (word o 4 bs) daqMajor daqMinor major minor p))) (
+    gate _ at _ _ (gate _ at _ _ (last-gate (versionRule (word o 4 bs)) at (ok (word o 4 bs)))))
 
 -- A container's contents, read in their context from behind its eight bytes on.
-abbrev pub contentsRead : Context → ℕ → List ℕ → Res Container
-contentsRead c at bs = bind (readRecords c (at + 8) (bodyOf bs)) (λ rs. ok (record { kind = word 0 bs; body = rs }))
+abbrev pub contentsRead : Order → Context → ℕ → List ℕ → Res Container
+contentsRead o c at bs = bind (readRecords o c (at + 8) (bodyOf o bs)) (λ rs. ok (record { kind = word o 0 bs; body = rs }))
 
-abbrev pub ConfigurationAsked : List ℕ → ℕ → Type 0
-ConfigurationAsked bs = asks (8 ≤ length bs) 2 (asks (word 0 bs ≡ 0x00010000) 5 (asks (8 + word 4 bs ≤ length bs) 2 fine))
+abbrev pub ConfigurationAsked : Order → List ℕ → ℕ → Type 0
+ConfigurationAsked o bs = asks (8 ≤ length bs) 2 (asks (word o 0 bs ≡ 0x00010000) 5 (asks (8 + word o 4 bs ≤ length bs) 2 fine))
 
-pub configuration-answers : (at : ℕ) (bs : List ℕ)
-    → Answers (readConfiguration tt at bs) at (ConfigurationAsked bs) (contentsRead entry at bs)
+pub configuration-answers : (o : Order) (at : ℕ) (bs : List ℕ)
+    → Answers (readConfiguration o tt at bs) at (ConfigurationAsked o bs) (contentsRead o entry at bs)
 unfolding readConfiguration
-configuration-answers at bs =
+configuration-answers o at bs =
     answers (_ ∷ _ ∷ _ ∷ []) (
-    asked (le-tells 8 (length bs)) (asked (eq-tells (word 0 bs) 0x00010000) (asked (le-tells (8 + word 4 bs) (length bs)) no-more))) (
-    gate _ at _ _ (gate _ at _ _ (last-gate _ at (contentsRead entry at bs))))
+    asked (le-tells 8 (length bs)) (asked (eq-tells (word o 0 bs) 0x00010000) (asked (le-tells (8 + word o 4 bs) (length bs)) no-more))) (
+    gate _ at _ _ (gate _ at _ _ (last-gate _ at (contentsRead o entry at bs))))
 
 -- An event, its first word having these parts: room, 0xA980, class, category and type, its length against the rest, an empty one.
-abbrev pub EventOwnAsked : ℕ → ℕ → ℕ → ℕ → List ℕ → ℕ → Type 0
-EventOwnAsked mark class category type bs =
+abbrev pub EventOwnAsked : Order → ℕ → ℕ → ℕ → ℕ → List ℕ → ℕ → Type 0
+EventOwnAsked o mark class category type bs =
     asks (8 ≤ length bs) 2 (
     asks (mark ≡ 0xA980) 5 (
     EventAsked class category type (
-    asks (8 + word 4 bs ≤ length bs) 2 (
-    asks (1 ≤ word 4 bs) 9
+    asks (8 + word o 4 bs ≤ length bs) 2 (
+    asks (1 ≤ word o 4 bs) 9
     fine))))
 
-pub event-answers : (at : ℕ) (bs : List ℕ) (mark class category type : ℕ) → EventParts (word 0 bs) mark class category type
-    → Answers (readEvent tt at bs) at (EventOwnAsked mark class category type bs) (contentsRead (event none) at bs)
+pub event-answers : (o : Order) (at : ℕ) (bs : List ℕ) (mark class category type : ℕ) → EventParts (word o 0 bs) mark class category type
+    → Answers (readEvent o tt at bs) at (EventOwnAsked o mark class category type bs) (contentsRead o (event none) at bs)
 unfolding readEvent
-event-answers at bs mark class category type p =
+event-answers o at bs mark class category type p =
     answers (_ ∷ _ ∷ _ ∷ _ ∷ []) (
     asked (le-tells 8 (length bs)) (
-    word-gives (word 0 bs) mark class category type p (
-    asked (le-tells (8 + word 4 bs) (length bs)) (
-    asked (le-tells 1 (word 4 bs)) no-more)))) (
-    gate _ at _ _ (gate _ at _ _ (gate _ at _ _ (last-gate _ at (contentsRead (event none) at bs)))))
+    word-gives (word o 0 bs) mark class category type p (
+    asked (le-tells (8 + word o 4 bs) (length bs)) (
+    asked (le-tells 1 (word o 4 bs)) no-more)))) (
+    gate _ at _ _ (gate _ at _ _ (gate _ at _ _ (last-gate _ at (contentsRead o (event none) at bs)))))

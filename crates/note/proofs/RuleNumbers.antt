@@ -4,6 +4,7 @@ use mathlib.Core.Path.{_≡_, refl}
 use mathlib.Core.Bool.{Bool, true, false≢true}
 use mathlib.Core.List.{List, [], _∷_}
 use Prim.Native.Nat.{ℕ}
+use Rattle.theory.specs.declared.Order.{Order}
 use Rattle.theory.specs.Tests.{among}
 use Rattle.theory.proofs.TestLaws.{Numbered, unless-numbered, one-numbered, first-numbered, numbered-wider}
 use Rattle.note.specs.Phonon.{phononFault, phononRule}
@@ -60,53 +61,54 @@ tlb-fault-numbers f = search (first-numbered, unless-numbered) depth 12
 
 -- ---- the rule of each kind
 
-phonon-rule-numbers : (b : List ℕ) → Numbered (6 ∷ 10 ∷ []) (phononRule b)
+phonon-rule-numbers : (o : Order) (b : List ℕ) → Numbered (6 ∷ 10 ∷ []) (phononRule o b)
 unfolding phononRule phononFault
-phonon-rule-numbers b = search (first-numbered, unless-numbered)
+phonon-rule-numbers o b = search (first-numbered, unless-numbered)
 
-charge-rule-numbers : (b : List ℕ) → Numbered (6 ∷ 10 ∷ []) (chargeRule b)
+charge-rule-numbers : (o : Order) (b : List ℕ) → Numbered (6 ∷ 10 ∷ []) (chargeRule o b)
 unfolding chargeRule chargeFault
-charge-rule-numbers b = search (first-numbered, unless-numbered)
+charge-rule-numbers o b = search (first-numbered, unless-numbered)
 
-administrative-rule-numbers : (b : List ℕ) → Numbered (6 ∷ 10 ∷ []) (administrativeRule b)
+administrative-rule-numbers : (o : Order) (b : List ℕ) → Numbered (6 ∷ 10 ∷ []) (administrativeRule o b)
 unfolding administrativeRule administrativeFault
-administrative-rule-numbers b = search (first-numbered, unless-numbered) depth 9
+administrative-rule-numbers o b = search (first-numbered, unless-numbered) depth 9
 
-trace-rule-numbers : (b : List ℕ) → Numbered (5 ∷ 6 ∷ 10 ∷ 11 ∷ []) (traceRule b)
+trace-rule-numbers : (o : Order) (b : List ℕ) → Numbered (5 ∷ 6 ∷ 10 ∷ 11 ∷ []) (traceRule o b)
 unfolding traceRule bookkeepingRule timebaseRule samplesRule countFault
-trace-rule-numbers b = search (first-numbered, unless-numbered) depth 20 fits 4000
+trace-rule-numbers o b = search (first-numbered, unless-numbered) depth 20 fits 4000
 
-history-rule-numbers : (b : List ℕ) → Numbered (6 ∷ 10 ∷ []) (historyRule b)
+history-rule-numbers : (o : Order) (b : List ℕ) → Numbered (6 ∷ 10 ∷ []) (historyRule o b)
 unfolding historyRule sectionRule
-history-rule-numbers b = search (first-numbered, unless-numbered) depth 20 fits 4000
+history-rule-numbers o b = search (first-numbered, unless-numbered) depth 20 fits 4000
 
-gps-rule-numbers : (b : List ℕ) → Numbered (6 ∷ 10 ∷ []) (gpsRule b)
+gps-rule-numbers : (o : Order) (b : List ℕ) → Numbered (6 ∷ 10 ∷ []) (gpsRule o b)
 unfolding gpsRule gpsFault
-gps-rule-numbers b = search (first-numbered, unless-numbered) depth 20 fits 4000
+gps-rule-numbers o b = search (first-numbered, unless-numbered) depth 20 fits 4000
 
-trigger-rule-numbers : (b : List ℕ) → Numbered (6 ∷ 10 ∷ []) (triggerRule b)
+trigger-rule-numbers : (o : Order) (b : List ℕ) → Numbered (6 ∷ 10 ∷ []) (triggerRule o b)
 unfolding triggerRule
-trigger-rule-numbers b = search (first-numbered, unless-numbered)
+trigger-rule-numbers o b = search (first-numbered, unless-numbered)
 
-tlb-rule-numbers : (b : List ℕ) → Numbered (6 ∷ 10 ∷ []) (tlbRule b)
+tlb-rule-numbers : (o : Order) (b : List ℕ) → Numbered (6 ∷ 10 ∷ []) (tlbRule o b)
 unfolding tlbRule tlbFault
-tlb-rule-numbers b = search (first-numbered, unless-numbered) depth 20 fits 4000
+tlb-rule-numbers o b = search (first-numbered, unless-numbered) depth 20 fits 4000
 
 -- Of any kind word; of an entry's, where no count of samples is asked, so no 11. What no kind word names says 5.
-pub rule-numbers : (k : ℕ) (b : List ℕ) → Numbered (5 ∷ 6 ∷ 10 ∷ 11 ∷ []) (recordRule k b)
-rule-numbers k =
+pub rule-numbers : (o : Order) (k : ℕ) (b : List ℕ) → Numbered (5 ∷ 6 ∷ 10 ∷ 11 ∷ []) (recordRule o k b)
+rule-numbers o k =
     let wide : (rule : List ℕ → ℕ) → ((b : List ℕ) → Numbered (6 ∷ 10 ∷ []) (rule b)) → (b : List ℕ) → Numbered (5 ∷ 6 ∷ 10 ∷ 11 ∷ []) (rule b) =
     λ rule h b. numbered-wider (6 ∷ 10 ∷ []) (5 ∷ 6 ∷ 10 ∷ 11 ∷ []) (rule b) refl (h b) in
-    kind-cases (λ w x. (b : List ℕ) → Numbered (5 ∷ 6 ∷ 10 ∷ 11 ∷ []) (x .rule b)) k
-    (wide phononRule phonon-rule-numbers) (wide chargeRule charge-rule-numbers) (wide administrativeRule administrative-rule-numbers)
-    trace-rule-numbers (wide historyRule history-rule-numbers) (wide gpsRule gps-rule-numbers) (wide triggerRule trigger-rule-numbers)
-    (wide tlbRule tlb-rule-numbers) (λ b. one-numbered _ 5 refl)
+    kind-cases (λ w x. (b : List ℕ) → Numbered (5 ∷ 6 ∷ 10 ∷ 11 ∷ []) (x .rule o b)) k
+    (wide (phononRule o) (phonon-rule-numbers o)) (wide (chargeRule o) (charge-rule-numbers o))
+    (wide (administrativeRule o) (administrative-rule-numbers o)) (trace-rule-numbers o) (wide (historyRule o) (history-rule-numbers o))
+    (wide (gpsRule o) (gps-rule-numbers o)) (wide (triggerRule o) (trigger-rule-numbers o))
+    (wide (tlbRule o) (tlb-rule-numbers o)) (λ b. one-numbered _ 5 refl)
 
-pub entry-rule-numbers : (k : ℕ) (b : List ℕ) → among k entryKinds ≡ true → Numbered (5 ∷ 6 ∷ 10 ∷ []) (recordRule k b)
-entry-rule-numbers k b =
+pub entry-rule-numbers : (o : Order) (k : ℕ) (b : List ℕ) → among k entryKinds ≡ true → Numbered (5 ∷ 6 ∷ 10 ∷ []) (recordRule o k b)
+entry-rule-numbers o k b =
     let wide : (c : ℕ) → Numbered (6 ∷ 10 ∷ []) c → Numbered (5 ∷ 6 ∷ 10 ∷ []) c = λ c. numbered-wider (6 ∷ 10 ∷ []) _ c refl in
-    kind-cases (λ w x. among w entryKinds ≡ true → Numbered (5 ∷ 6 ∷ 10 ∷ []) (x .rule b)) k
-    (λ e. wide _ (phonon-rule-numbers b)) (λ e. wide _ (charge-rule-numbers b))
+    kind-cases (λ w x. among w entryKinds ≡ true → Numbered (5 ∷ 6 ∷ 10 ∷ []) (x .rule o b)) k
+    (λ e. wide _ (phonon-rule-numbers o b)) (λ e. wide _ (charge-rule-numbers o b))
     (λ e. absurd (false≢true e)) (λ e. absurd (false≢true e)) (λ e. absurd (false≢true e)) (λ e. absurd (false≢true e))
     (λ e. absurd (false≢true e)) (λ e. absurd (false≢true e)) (λ e. one-numbered _ 5 refl)
 

@@ -4,6 +4,7 @@ use mathlib.Core.Bool.{Bool, cond, _&&_}
 use mathlib.Core.List.{List, [], _∷_}
 use lib.Dec.{leb, eqb}
 use lib.ListN.{length, getD}
+use Rattle.theory.specs.declared.Order.{Order}
 use Rattle.theory.specs.Tests.{unless, first, among}
 use Rattle.note.specs.Words.{word, words}
 use Rattle.note.specs.Answers.{counts}
@@ -22,11 +23,12 @@ abbrev pub administrativeWords : Administrative → List ℕ
 administrativeWords f = f .date ∷ f .clock ∷ f .number ∷ f .time ∷ f .since ∷ f .live ∷ []
 
 -- The fields of a body, and the body of fields.
-unfoldable pub administrativeOf : List ℕ → Administrative
-administrativeOf b = record { date = word 0 b; clock = word 4 b; number = word 8 b; time = word 12 b; since = word 16 b; live = word 20 b }
+unfoldable pub administrativeOf : Order → List ℕ → Administrative
+administrativeOf o b =
+    record { date = word o 0 b; clock = word o 4 b; number = word o 8 b; time = word o 12 b; since = word o 16 b; live = word o 20 b }
 
-unfoldable pub administrativeBytes : Administrative → List ℕ
-administrativeBytes f = words (administrativeWords f)
+unfoldable pub administrativeBytes : Order → Administrative → List ℕ
+administrativeBytes o f = words o (administrativeWords f)
 
 -- "LL is 0, 1, 2, 3, 6, 7, or one of these plus 50."
 abbrev pub locations : List ℕ
@@ -55,11 +57,11 @@ isClock w = leb w 2359 && leb (w % 100) 59
 unfoldable pub administrativeFault : ℕ → ℕ → ℕ
 administrativeFault date clock = first (unless (isSeries date) 10 ∷ unless (isClock clock) 10 ∷ [])
 
-abbrev pub administrativeTests : List ℕ → List ℕ
-administrativeTests b = unless (eqb (length b) 24) 6 ∷ administrativeFault (word 0 b) (word 4 b) ∷ []
+abbrev pub administrativeTests : Order → List ℕ → List ℕ
+administrativeTests o b = unless (eqb (length b) 24) 6 ∷ administrativeFault (word o 0 b) (word o 4 b) ∷ []
 
-unfoldable pub administrativeRule : List ℕ → ℕ
-administrativeRule b = first (administrativeTests b)
+unfoldable pub administrativeRule : Order → List ℕ → ℕ
+administrativeRule o b = first (administrativeTests o b)
 
 -- Row kind 6: event number, event time.
 abbrev pub administrativeKind : Kind
@@ -67,8 +69,8 @@ administrativeKind = record {
   word = 0x02;
   row = 6;
   rule = administrativeRule;
-  one = word 8;
-  two = word 12;
-  values = λ place b. counts (administrativeWords (administrativeOf b));
-  again = λ b. administrativeBytes (administrativeOf b);
+  one = λ o. word o 8;
+  two = λ o. word o 12;
+  values = λ o place b. counts (administrativeWords (administrativeOf o b));
+  again = λ o b. administrativeBytes o (administrativeOf o b);
 }

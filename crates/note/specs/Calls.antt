@@ -6,6 +6,7 @@ use lib.Dec.{leb, eqb}
 use lib.Ieee.{Float, binary64, div, ofInt}
 use lib.IntN.{ℤ, pos}
 use lib.ListN.{length, take, drop}
+use Rattle.theory.specs.declared.Order.{Order}
 use Rattle.theory.specs.Tests.{Res, ok, bad, need, unless}
 use Rattle.note.specs.Limits.{fileLimit}
 use Rattle.note.specs.Words.{word}
@@ -16,20 +17,20 @@ use Rattle.note.specs.Administrative.{administrativeOf}
 use Rattle.note.specs.Trace.{traceKind, traceOf, sampleIn}
 use Rattle.note.specs.Records.{Record, recordSize, alone, readRecord, kindOf}
 use Rattle.note.specs.Events.{Container, containerSize}
-use Rattle.note.specs.Files.{File, configurationOf, eventsOf, readFile}
+use Rattle.note.specs.Files.{File, orderIn, configurationOf, eventsOf, readFile}
 
 -- "Record: reads one record or entry at a given place, with the whole lent bytes as its parent and no event rules." Past the end
 -- there are no bytes, so 2 at that very place.
-unfoldable pub recordFound : List ℕ → ℕ → Res Record
-recordFound bs place = need (unless (leb (length bs) fileLimit) 1) 0 (readRecord alone place (drop place bs))
+unfoldable pub recordFound : Order → List ℕ → ℕ → Res Record
+recordFound o bs place = need (unless (leb (length bs) fileLimit) 1) 0 (readRecord o alone place (drop place bs))
 
 -- "The answer is one of eight kinds with its fields, or a refusal."
-abbrev pub recordGiven : ℕ → Res Record → Given
-recordGiven place (bad c p) = refused c p
-recordGiven place (ok r) = accepted (count (kindOf (r .kind) .row) ∷ kindOf (r .kind) .values place (r .body))
+abbrev pub recordGiven : Order → ℕ → Res Record → Given
+recordGiven o place (bad c p) = refused c p
+recordGiven o place (ok r) = accepted (count (kindOf (r .kind) .row) ∷ kindOf (r .kind) .values o place (r .body))
 
-unfoldable pub recordAt : List ℕ → ℕ → Given
-recordAt bs place = recordGiven place (recordFound bs place)
+unfoldable pub recordAt : Order → List ℕ → ℕ → Given
+recordAt o bs place = recordGiven o place (recordFound o bs place)
 
 -- "Each x100 word is turned into a 64-bit float and divided by 100, rounded once."
 unfoldable pub hundredth : ℤ → Float
@@ -49,15 +50,15 @@ chargeSetting f =
     wholes (f .bias ∷ f .rtfOffset ∷ f .deltaT ∷ f .t0 ∷ f .traceLength ∷ [])
 
 -- "It is asked by place, with Record's refusals, then 5 there for another kind."
-abbrev pub settingGiven : ℕ → Res Record → Given
-settingGiven place (bad c p) = refused c p
-settingGiven place (ok r) =
-    cond (eqb (r .kind) (phononKind .word)) (accepted (count (phononKind .row) ∷ phononSetting (phononOf (r .body))))
-    (cond (eqb (r .kind) (chargeKind .word)) (accepted (count (chargeKind .row) ∷ chargeSetting (chargeOf (r .body))))
+abbrev pub settingGiven : Order → ℕ → Res Record → Given
+settingGiven o place (bad c p) = refused c p
+settingGiven o place (ok r) =
+    cond (eqb (r .kind) (phononKind .word)) (accepted (count (phononKind .row) ∷ phononSetting (phononOf o (r .body))))
+    (cond (eqb (r .kind) (chargeKind .word)) (accepted (count (chargeKind .row) ∷ chargeSetting (chargeOf o (r .body))))
     (refused 5 place))
 
-unfoldable pub settingAt : List ℕ → ℕ → Given
-settingAt bs place = settingGiven place (recordFound bs place)
+unfoldable pub settingAt : Order → List ℕ → ℕ → Given
+settingAt o bs place = settingGiven o place (recordFound o bs place)
 
 -- A trace, among records.
 abbrev pub isTrace : Record → Bool
@@ -69,22 +70,22 @@ abbrev pub partGiven : ℕ → Res Record → ℕ × ℕ
 partGiven place (bad c p) = (0, 0)
 partGiven place (ok r) = cond (isTrace r) (place + 56, length (r .body) - 48) (0, 0)
 
-unfoldable pub samplesPart : List ℕ → ℕ → ℕ × ℕ
-samplesPart bs place = partGiven place (recordFound bs place)
+unfoldable pub samplesPart : Order → List ℕ → ℕ → ℕ × ℕ
+samplesPart o bs place = partGiven place (recordFound o bs place)
 
-unfoldable pub samplesAt : List ℕ → ℕ → List ℕ
-samplesAt bs place = take (samplesPart bs place .1) (drop (samplesPart bs place .0) bs)
+unfoldable pub samplesAt : Order → List ℕ → ℕ → List ℕ
+samplesAt o bs place = take (samplesPart o bs place .1) (drop (samplesPart o bs place .0) bs)
 
 -- "A sample by number, from 1: Record's refusal, 5 for another kind, 11 for a number out of range, at the place asked."
-abbrev pub sampleGiven : ℕ → ℕ → Res Record → Given
-sampleGiven place k (bad c p) = refused c p
-sampleGiven place k (ok r) =
+abbrev pub sampleGiven : Order → ℕ → ℕ → Res Record → Given
+sampleGiven o place k (bad c p) = refused c p
+sampleGiven o place k (ok r) =
     cond (isTrace r)
-    (cond (leb 1 k && leb k (traceOf (r .body) .n)) (accepted (counts (sampleIn (traceOf (r .body) .samples) k ∷ []))) (refused 11 place))
+    (cond (leb 1 k && leb k (traceOf o (r .body) .n)) (accepted (counts (sampleIn o (traceOf o (r .body) .samples) k ∷ []))) (refused 11 place))
     (refused 5 place)
 
-unfoldable pub sampleAt : List ℕ → ℕ → ℕ → Given
-sampleAt bs place k = sampleGiven place k (recordFound bs place)
+unfoldable pub sampleAt : Order → List ℕ → ℕ → ℕ → Given
+sampleAt o bs place k = sampleGiven o place k (recordFound o bs place)
 
 -- A trace of a file: the number that its event carries, its code, its place.
 pub record TraceAt : Type 0 where
@@ -98,21 +99,21 @@ keptIf keep t ts = cond keep (t ∷ ts) ts
 
 -- The traces among an event's records from the place `at` on; among events; of a file. An event carries the number of its
 -- administrative record, which is its first.
-unfoldable pub tracesIn : ℕ → ℕ → List Record → List TraceAt
-tracesIn number at [] = []
-tracesIn number at (r ∷ rs) =
-    keptIf (isTrace r) (record { number = number; code = traceOf (r .body) .code; place = at }) (tracesIn number (at + recordSize r) rs)
+unfoldable pub tracesIn : Order → ℕ → ℕ → List Record → List TraceAt
+tracesIn o number at [] = []
+tracesIn o number at (r ∷ rs) =
+    keptIf (isTrace r) (record { number = number; code = traceOf o (r .body) .code; place = at }) (tracesIn o number (at + recordSize r) rs)
 
-abbrev pub eventNumber : List Record → ℕ
-eventNumber [] = 0
-eventNumber (r ∷ rs) = administrativeOf (r .body) .number
+abbrev pub eventNumber : Order → List Record → ℕ
+eventNumber o [] = 0
+eventNumber o (r ∷ rs) = administrativeOf o (r .body) .number
 
-unfoldable pub tracesFrom : ℕ → List Container → List TraceAt
-tracesFrom at [] = []
-tracesFrom at (e ∷ es) = tracesIn (eventNumber (e .body)) (at + 8) (e .body) ++ tracesFrom (at + containerSize e) es
+unfoldable pub tracesFrom : Order → ℕ → List Container → List TraceAt
+tracesFrom o at [] = []
+tracesFrom o at (e ∷ es) = tracesIn o (eventNumber o (e .body)) (at + 8) (e .body) ++ tracesFrom o (at + containerSize o e) es
 
 unfoldable pub tracesOf : File → List TraceAt
-tracesOf f = tracesFrom (8 + containerSize (configurationOf f)) (eventsOf f)
+tracesOf f = tracesFrom (orderIn f) (8 + containerSize (orderIn f) (configurationOf f)) (eventsOf f)
 
 -- "Find: for an accepted file, the place of the first trace in file order whose event carries that number and whose code is that
 -- code; or nothing. A refused file gives its refusal."

@@ -4,6 +4,7 @@ use mathlib.Core.List.{List, [], _∷_, map}
 use lib.Dec.{eqb}
 use lib.IntN.{ℤ}
 use lib.ListN.{length}
+use Rattle.theory.specs.declared.Order.{Order}
 use Rattle.theory.specs.Tests.{unless, first}
 use Rattle.note.specs.Words.{word, words, signed, unsigned}
 use Rattle.note.specs.Answers.{wholes}
@@ -25,30 +26,30 @@ abbrev pub chargeWords : Charge → List ℤ
 chargeWords f = f .code ∷ f .tower ∷ f .gain ∷ f .bias ∷ f .rtfOffset ∷ f .deltaT ∷ f .t0 ∷ f .traceLength ∷ []
 
 -- The fields of a body, and the body of fields.
-unfoldable pub chargeOf : List ℕ → Charge
-chargeOf b = record {
-  code = signed (word 0 b);
-  tower = signed (word 4 b);
-  gain = signed (word 8 b);
-  bias = signed (word 12 b);
-  rtfOffset = signed (word 16 b);
-  deltaT = signed (word 20 b);
-  t0 = signed (word 24 b);
-  traceLength = signed (word 28 b);
+unfoldable pub chargeOf : Order → List ℕ → Charge
+chargeOf o b = record {
+  code = signed (word o 0 b);
+  tower = signed (word o 4 b);
+  gain = signed (word o 8 b);
+  bias = signed (word o 12 b);
+  rtfOffset = signed (word o 16 b);
+  deltaT = signed (word o 20 b);
+  t0 = signed (word o 24 b);
+  traceLength = signed (word o 28 b);
 }
 
-unfoldable pub chargeBytes : Charge → List ℕ
-chargeBytes f = words (map unsigned (chargeWords f))
+unfoldable pub chargeBytes : Order → Charge → List ℕ
+chargeBytes o f = words o (map unsigned (chargeWords f))
 
 -- "The code must name .. a charge channel (Q, QI, QO and their side forms)"; "other words are free".
 unfoldable pub chargeFault : ℕ → ℕ
 chargeFault code = unless (chargeNamed code) 10
 
-abbrev pub chargeTests : List ℕ → List ℕ
-chargeTests b = unless (eqb (length b) 32) 6 ∷ chargeFault (word 0 b) ∷ []
+abbrev pub chargeTests : Order → List ℕ → List ℕ
+chargeTests o b = unless (eqb (length b) 32) 6 ∷ chargeFault (word o 0 b) ∷ []
 
-unfoldable pub chargeRule : List ℕ → ℕ
-chargeRule b = first (chargeTests b)
+unfoldable pub chargeRule : Order → List ℕ → ℕ
+chargeRule o b = first (chargeTests o b)
 
 -- Row kind 4: code, tower bits.
 abbrev pub chargeKind : Kind
@@ -56,8 +57,8 @@ chargeKind = record {
   word = 0x00010002;
   row = 4;
   rule = chargeRule;
-  one = word 0;
-  two = word 4;
-  values = λ place b. wholes (chargeWords (chargeOf b));
-  again = λ b. chargeBytes (chargeOf b);
+  one = λ o. word o 0;
+  two = λ o. word o 4;
+  values = λ o place b. wholes (chargeWords (chargeOf o b));
+  again = λ o b. chargeBytes o (chargeOf o b);
 }

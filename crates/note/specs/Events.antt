@@ -4,20 +4,20 @@ use mathlib.Core.Bool.{not}
 use mathlib.Core.List.{List, [], _∷_}
 use lib.Dec.{leb, eqb}
 use lib.ListN.{length}
+use Rattle.theory.specs.declared.Order.{Order}
 use Rattle.theory.specs.Tests.{Res, unless, first, among}
 use Rattle.theory.specs.Structures.{Structure, readStructure, structureBytes, structureSize, readSequence, sequenceBytes}
-use Rattle.note.specs.Words.{order}
 use Rattle.note.specs.Records.{Record, event, none, readRecords, recordsBytes}
 
 -- A container: its first word, and the records or entries that fill it.
 abbrev pub Container : Type 0
 Container = Structure (List Record)
 
-abbrev pub containerBytes : Container → List ℕ
-containerBytes c = structureBytes order recordsBytes c
+abbrev pub containerBytes : Order → Container → List ℕ
+containerBytes o c = structureBytes o (recordsBytes o) c
 
-abbrev pub containerSize : Container → ℕ
-containerSize c = structureSize recordsBytes c
+abbrev pub containerSize : Order → Container → ℕ
+containerSize o c = structureSize (recordsBytes o) c
 
 -- "First word: 0xA980, class (4 bits), category (4 bits), type (8 bits)."
 abbrev pub eventMark : ℕ
@@ -53,15 +53,15 @@ eventHead s w = eventWordRule w
 abbrev pub eventLate : Unit {0} → ℕ → ℕ → ℕ
 eventLate s w n = unless (leb 1 n) 9
 
-unfoldable pub readEvent : Unit {0} → ℕ → List ℕ → Res Container
-readEvent = readStructure order eventHead eventLate (λ s at bs. readRecords (event none) (at + 8) bs)
+unfoldable pub readEvent : Order → Unit {0} → ℕ → List ℕ → Res Container
+readEvent o = readStructure o eventHead eventLate (λ s at bs. readRecords o (event none) (at + 8) bs)
 
 -- "Then zero or more events up to the end of the file."
 abbrev pub eventStep : Unit {0} → Container → Unit {0}
 eventStep s e = tt
 
-unfoldable pub readEvents : Unit {0} → ℕ → List ℕ → Res (List Container)
-readEvents s at bs = readSequence eventStep containerSize readEvent (length bs) s at bs
+unfoldable pub readEvents : Order → Unit {0} → ℕ → List ℕ → Res (List Container)
+readEvents o s at bs = readSequence eventStep (containerSize o) (readEvent o) (length bs) s at bs
 
-abbrev pub eventsBytes : List Container → List ℕ
-eventsBytes es = sequenceBytes containerBytes es
+abbrev pub eventsBytes : Order → List Container → List ℕ
+eventsBytes o es = sequenceBytes (containerBytes o) es

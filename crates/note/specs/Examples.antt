@@ -4,6 +4,7 @@ use Prim.Native.Nat.{ℕ}
 use Prim.Native.String.{String}
 use mathlib.Core.Path.{_≡_}
 use mathlib.Core.List.{List, [], _∷_, _++_}
+use Rattle.theory.specs.declared.Order.the-variants.{Little}
 use Rattle.note.specs.Words.{words}
 use Rattle.note.specs.Channels.{ascii, nameOf, channelAnswer}
 use Rattle.note.specs.Administrative.{administrativeFault}
@@ -47,8 +48,8 @@ Holds (unnamed code number) =
       cold = nameOf [];
     }
 Holds (series date clock number) = administrativeFault date clock ≡ number
-Holds (gps first second third number) = gpsRule (words (first ∷ second ∷ third ∷ [])) ≡ number
-Holds (samples bytes one two) = (sampleIn bytes 1 ≡ one) × (sampleIn bytes 2 ≡ two)
+Holds (gps first second third number) = gpsRule Little (words Little (first ∷ second ∷ third ∷ [])) ≡ number
+Holds (samples bytes one two) = (sampleIn Little bytes 1 ≡ one) × (sampleIn Little bytes 2 ≡ two)
 Holds (listed bytes lines) = listing bytes ≡ lines
 Holds (printed bytes lines) = listingText bytes ≡ typed lines
 
@@ -58,7 +59,7 @@ AllHold (x ∷ xs) = Holds x × AllHold xs
 
 -- A file of a header, an empty configuration and further words.
 abbrev pub after : List ℕ → List ℕ
-after ws = words (0x01020304 ∷ 0x01000200 ∷ 0x00010000 ∷ 0 ∷ ws)
+after ws = words Little (0x01020304 ∷ 0x01000200 ∷ 0x00010000 ∷ 0 ∷ ws)
 
 abbrev pub p14 : List ℕ
 p14 = after (

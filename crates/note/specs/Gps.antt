@@ -4,6 +4,7 @@ use mathlib.Core.Bool.{Bool, true, not, cond, _&&_, _||_}
 use mathlib.Core.List.{List, [], _∷_}
 use lib.Dec.{leb, eqb}
 use lib.ListN.{length}
+use Rattle.theory.specs.declared.Order.{Order}
 use Rattle.theory.specs.Tests.{unless, first}
 use Rattle.note.specs.Words.{word, words}
 use Rattle.note.specs.Answers.{counts}
@@ -36,15 +37,15 @@ bcd zero v = 0
 bcd (suc n) v = bcd n (v / 10) * 16 + v % 10
 
 -- "yyyydddd; a status digit 0 to 15 (free), a zero digit, hhmmss; tenths of a microsecond": the fields of a body, and the body of fields.
-unfoldable pub gpsOf : List ℕ → Gps
-gpsOf b = record {
-  year = decimal 4 (word 0 b / 65536);
-  day = decimal 4 (word 0 b);
-  status = word 4 b / 268435456;
-  hour = decimal 2 (word 4 b / 65536);
-  minute = decimal 2 (word 4 b / 256);
-  second = decimal 2 (word 4 b);
-  tenths = decimal 8 (word 8 b);
+unfoldable pub gpsOf : Order → List ℕ → Gps
+gpsOf o b = record {
+  year = decimal 4 (word o 0 b / 65536);
+  day = decimal 4 (word o 0 b);
+  status = word o 4 b / 268435456;
+  hour = decimal 2 (word o 4 b / 65536);
+  minute = decimal 2 (word o 4 b / 256);
+  second = decimal 2 (word o 4 b);
+  tenths = decimal 8 (word o 8 b);
 }
 
 abbrev pub gpsWords : Gps → List ℕ
@@ -53,8 +54,8 @@ gpsWords f =
     (f .status * 268435456 + bcd 2 (f .hour) * 65536 + bcd 2 (f .minute) * 256 + bcd 2 (f .second)) ∷
     bcd 8 (f .tenths) ∷ []
 
-unfoldable pub gpsBytes : Gps → List ℕ
-gpsBytes f = words (gpsWords f)
+unfoldable pub gpsBytes : Order → Gps → List ℕ
+gpsBytes o f = words o (gpsWords f)
 
 -- "Day 1 to 365, 366 in a Gregorian leap year."
 abbrev pub isLeap : ℕ → Bool
@@ -75,17 +76,17 @@ gpsFault f = first (
     unless (leb (f .tenths) 9999999) 10 ∷ [])
 
 -- A body of 12 bytes whose digits are digits and whose fields have no fault.
-abbrev pub gpsTests : List ℕ → List ℕ
-gpsTests b =
+abbrev pub gpsTests : Order → List ℕ → List ℕ
+gpsTests o b =
     unless (eqb (length b) 12) 6 ∷
-    unless (areDigits 8 (word 0 b)) 10 ∷
-    unless (eqb (word 4 b / 16777216 % 16) 0) 10 ∷
-    unless (areDigits 6 (word 4 b)) 10 ∷
-    unless (areDigits 8 (word 8 b)) 10 ∷
-    gpsFault (gpsOf b) ∷ []
+    unless (areDigits 8 (word o 0 b)) 10 ∷
+    unless (eqb (word o 4 b / 16777216 % 16) 0) 10 ∷
+    unless (areDigits 6 (word o 4 b)) 10 ∷
+    unless (areDigits 8 (word o 8 b)) 10 ∷
+    gpsFault (gpsOf o b) ∷ []
 
-unfoldable pub gpsRule : List ℕ → ℕ
-gpsRule b = first (gpsTests b)
+unfoldable pub gpsRule : Order → List ℕ → ℕ
+gpsRule o b = first (gpsTests o b)
 
 -- Row kind 9: the first two words.
 abbrev pub gpsKind : Kind
@@ -93,8 +94,8 @@ gpsKind = record {
   word = 0x60;
   row = 9;
   rule = gpsRule;
-  one = word 0;
-  two = word 4;
-  values = λ place b. counts (gpsNumbers (gpsOf b));
-  again = λ b. gpsBytes (gpsOf b);
+  one = λ o. word o 0;
+  two = λ o. word o 4;
+  values = λ o place b. counts (gpsNumbers (gpsOf o b));
+  again = λ o b. gpsBytes o (gpsOf o b);
 }

@@ -1,6 +1,7 @@
 -- What document 01 says of a kind of record or entry, in one place for each: see the file of its name.
 use Prim.Native.Nat.{ℕ}
 use mathlib.Core.List.{List}
+use Rattle.theory.specs.declared.Order.{Order}
 use Rattle.note.specs.Answers.{Value}
 
 -- A kind: its kind word; its row kind; the rule of its body (0, or the refusal's number: a record's fault is always at its first
@@ -8,8 +9,8 @@ use Rattle.note.specs.Answers.{Value}
 pub record Kind : Type 0 where
   pub word : ℕ
   pub row : ℕ
-  pub rule : List ℕ → ℕ
-  pub one : List ℕ → ℕ
-  pub two : List ℕ → ℕ
-  pub values : ℕ → List ℕ → List Value
-  pub again : List ℕ → List ℕ
+  pub rule : Order → List ℕ → ℕ
+  pub one : Order → List ℕ → ℕ
+  pub two : Order → List ℕ → ℕ
+  pub values : Order → ℕ → List ℕ → List Value
+  pub again : Order → List ℕ → List ℕ

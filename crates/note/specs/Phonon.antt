@@ -4,6 +4,7 @@ use mathlib.Core.List.{List, [], _∷_, map}
 use lib.Dec.{eqb}
 use lib.IntN.{ℤ}
 use lib.ListN.{length}
+use Rattle.theory.specs.declared.Order.{Order}
 use Rattle.theory.specs.Tests.{unless, first}
 use Rattle.note.specs.Words.{word, words, signed, unsigned}
 use Rattle.note.specs.Answers.{wholes}
@@ -32,33 +33,33 @@ phononWords f =
     f .rtfOffset ∷ f .variableGain ∷ f .deltaT ∷ f .t0 ∷ f .traceLength ∷ []
 
 -- The fields of a body, and the body of fields.
-unfoldable pub phononOf : List ℕ → Phonon
-phononOf b = record {
-  code = signed (word 0 b);
-  tower = signed (word 4 b);
-  gain = signed (word 8 b);
-  qetBias = signed (word 12 b);
-  squidBias = signed (word 16 b);
-  lockpoint = signed (word 20 b);
-  rtfOffset = signed (word 24 b);
-  variableGain = signed (word 28 b);
-  deltaT = signed (word 32 b);
-  t0 = signed (word 36 b);
-  traceLength = signed (word 40 b);
+unfoldable pub phononOf : Order → List ℕ → Phonon
+phononOf o b = record {
+  code = signed (word o 0 b);
+  tower = signed (word o 4 b);
+  gain = signed (word o 8 b);
+  qetBias = signed (word o 12 b);
+  squidBias = signed (word o 16 b);
+  lockpoint = signed (word o 20 b);
+  rtfOffset = signed (word o 24 b);
+  variableGain = signed (word o 28 b);
+  deltaT = signed (word o 32 b);
+  t0 = signed (word o 36 b);
+  traceLength = signed (word o 40 b);
 }
 
-unfoldable pub phononBytes : Phonon → List ℕ
-phononBytes f = words (map unsigned (phononWords f))
+unfoldable pub phononBytes : Order → Phonon → List ℕ
+phononBytes o f = words o (map unsigned (phononWords f))
 
 -- "The code must name a phonon channel"; "other words are free".
 unfoldable pub phononFault : ℕ → ℕ
 phononFault code = unless (phononNamed code) 10
 
-abbrev pub phononTests : List ℕ → List ℕ
-phononTests b = unless (eqb (length b) 44) 6 ∷ phononFault (word 0 b) ∷ []
+abbrev pub phononTests : Order → List ℕ → List ℕ
+phononTests o b = unless (eqb (length b) 44) 6 ∷ phononFault (word o 0 b) ∷ []
 
-unfoldable pub phononRule : List ℕ → ℕ
-phononRule b = first (phononTests b)
+unfoldable pub phononRule : Order → List ℕ → ℕ
+phononRule o b = first (phononTests o b)
 
 -- Row kind 3: code, tower bits.
 abbrev pub phononKind : Kind
@@ -66,8 +67,8 @@ phononKind = record {
   word = 0x00010001;
   row = 3;
   rule = phononRule;
-  one = word 0;
-  two = word 4;
-  values = λ place b. wholes (phononWords (phononOf b));
-  again = λ b. phononBytes (phononOf b);
+  one = λ o. word o 0;
+  two = λ o. word o 4;
+  values = λ o place b. wholes (phononWords (phononOf o b));
+  again = λ o b. phononBytes o (phononOf o b);
 }

@@ -4,9 +4,9 @@ use mathlib.Core.Bool.{Bool, true, false, not, cond, _&&_, _||_}
 use mathlib.Core.List.{List, [], _∷_, map}
 use lib.Dec.{eqb}
 use lib.ListN.{length}
+use Rattle.theory.specs.declared.Order.{Order}
 use Rattle.theory.specs.Tests.{Res, ok, need, unless, among}
 use Rattle.theory.specs.Structures.{Structure, readStructure, structureBytes, structureSize, readSequence, sequenceBytes}
-use Rattle.note.specs.Words.{order}
 use Rattle.note.specs.Kinds.{Kind}
 use Rattle.note.specs.Phonon.{phononKind}
 use Rattle.note.specs.Charge.{chargeKind}
@@ -26,7 +26,7 @@ recordKinds = map (λ (k : Kind). k .word) (administrativeKind ∷ traceKind ∷
 
 -- What no kind word names. No structure of it is ever read.
 abbrev pub unknownKind : Kind
-unknownKind = record { word = 0; row = 0; rule = λ b. 5; one = λ b. 0; two = λ b. 0; values = λ place b. []; again = λ b. [] }
+unknownKind = record { word = 0; row = 0; rule = λ o b. 5; one = λ o b. 0; two = λ o b. 0; values = λ o place b. []; again = λ o b. [] }
 
 -- The kind of a kind word.
 unfoldable pub kindOf : ℕ → Kind
@@ -45,8 +45,8 @@ kindOf k =
 abbrev pub Record : Type 0
 Record = Structure (List ℕ)
 
-abbrev pub recordBytes : Record → List ℕ
-recordBytes r = structureBytes order (λ b. b) r
+abbrev pub recordBytes : Order → Record → List ℕ
+recordBytes o r = structureBytes o (λ b. b) r
 
 abbrev pub recordSize : Record → ℕ
 recordSize r = structureSize (λ b. b) r
@@ -113,18 +113,18 @@ recordHead c k = unless (isKind c k) 5
 abbrev pub recordLate : Context → ℕ → ℕ → ℕ
 recordLate c k n = unless (isAllowed c k) 9
 
-abbrev pub recordRule : ℕ → List ℕ → ℕ
-recordRule k b = kindOf k .rule b
+abbrev pub recordRule : Order → ℕ → List ℕ → ℕ
+recordRule o k b = kindOf k .rule o b
 
-unfoldable pub readRecord : Context → ℕ → List ℕ → Res Record
-readRecord = readStructure order recordHead recordLate (λ s at b. need (recordRule (s .1) b) at (ok b))
+unfoldable pub readRecord : Order → Context → ℕ → List ℕ → Res Record
+readRecord o = readStructure o recordHead recordLate (λ s at b. need (recordRule o (s .1) b) at (ok b))
 
 -- Records back to back up to the end of bs.
 abbrev pub recordStep : Context → Record → Context
 recordStep c r = behind c (r .kind)
 
-unfoldable pub readRecords : Context → ℕ → List ℕ → Res (List Record)
-readRecords c at bs = readSequence recordStep recordSize readRecord (length bs) c at bs
+unfoldable pub readRecords : Order → Context → ℕ → List ℕ → Res (List Record)
+readRecords o c at bs = readSequence recordStep recordSize (readRecord o) (length bs) c at bs
 
-abbrev pub recordsBytes : List Record → List ℕ
-recordsBytes rs = sequenceBytes recordBytes rs
+abbrev pub recordsBytes : Order → List Record → List ℕ
+recordsBytes o rs = sequenceBytes (recordBytes o) rs

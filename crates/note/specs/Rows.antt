@@ -5,31 +5,33 @@ use mathlib.Core.Bool.{Bool, cond, _||_}
 use mathlib.Core.List.{List, [], _∷_, _++_, map}
 use lib.Dec.{leb, eqb, ltb}
 use lib.ListN.{length, take, drop}
+use Rattle.theory.specs.declared.Order.{Order}
 use Rattle.theory.specs.Tests.{Res, ok, bad}
 use Rattle.theory.specs.Layout.{Row, Child, Node, single, box, rows, row}
 use Rattle.note.specs.Limits.{rowWidth}
 use Rattle.note.specs.Answers.{Given, accepted, refused, counts}
 use Rattle.note.specs.Records.{Record, recordSize, kindOf}
 use Rattle.note.specs.Events.{Container}
-use Rattle.note.specs.Files.{File, versionOf, configurationOf, eventsOf, readFile}
+use Rattle.note.specs.Files.{File, orderIn, versionOf, configurationOf, eventsOf, readFile}
 use Rattle.note.specs.declared.TableAnswer.{TableAnswer}
 
 -- "3 phonon, 4 charge ..; 6 administrative ..": what the row of a record says before it has a place.
-unfoldable pub childOf : Record → Child
-childOf r = record { kind = kindOf (r .kind) .row; size = recordSize r; one = kindOf (r .kind) .one (r .body); two = kindOf (r .kind) .two (r .body) }
+unfoldable pub childOf : Order → Record → Child
+childOf o r =
+    record { kind = kindOf (r .kind) .row; size = recordSize r; one = kindOf (r .kind) .one o (r .body); two = kindOf (r .kind) .two o (r .body) }
 
-abbrev pub childrenOf : List Record → List Child
-childrenOf rs = map childOf rs
+abbrev pub childrenOf : Order → List Record → List Child
+childrenOf o rs = map (childOf o) rs
 
 -- "1 header (version word, 0); 2 configuration (entries, 0); .. 5 event (low half of first word, records)."
-abbrev pub eventNode : Container → Node
-eventNode e = box 5 (e .kind % 65536) (length (e .body)) (childrenOf (e .body))
+abbrev pub eventNode : Order → Container → Node
+eventNode o e = box 5 (e .kind % 65536) (length (e .body)) (childrenOf o (e .body))
 
 unfoldable pub nodesOf : File → List Node
 nodesOf f =
     single (record { kind = 1; size = 8; one = versionOf f; two = 0 })
-    ∷ box 2 (length (configurationOf f .body)) 0 (childrenOf (configurationOf f .body))
-    ∷ map eventNode (eventsOf f)
+    ∷ box 2 (length (configurationOf f .body)) 0 (childrenOf (orderIn f) (configurationOf f .body))
+    ∷ map (eventNode (orderIn f)) (eventsOf f)
 
 -- "Rows stand in file order, a parent before its children": from row number 1 and byte 0 on.
 unfoldable pub rowsOf : File → List Row

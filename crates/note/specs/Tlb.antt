@@ -4,6 +4,7 @@ use mathlib.Core.Bool.{Bool, _&&_, _||_}
 use mathlib.Core.List.{List, [], _∷_}
 use lib.Dec.{leb, eqb}
 use lib.ListN.{length}
+use Rattle.theory.specs.declared.Order.{Order}
 use Rattle.theory.specs.Tests.{unless, first}
 use Rattle.note.specs.Words.{word, words}
 use Rattle.note.specs.Answers.{counts}
@@ -21,11 +22,11 @@ abbrev pub tlbWords : Tlb → List ℕ
 tlbWords f = f .tower1 ∷ f .tower2 ∷ f .tower3 ∷ f .tower4 ∷ f .tower5 ∷ f .tower6 ∷ []
 
 -- The fields of a body, and the body of fields.
-unfoldable pub tlbOf : List ℕ → Tlb
-tlbOf b = record { tower1 = word 0 b; tower2 = word 4 b; tower3 = word 8 b; tower4 = word 12 b; tower5 = word 16 b; tower6 = word 20 b }
+unfoldable pub tlbOf : Order → List ℕ → Tlb
+tlbOf o b = record { tower1 = word o 0 b; tower2 = word o 4 b; tower3 = word o 8 b; tower4 = word o 12 b; tower5 = word o 16 b; tower6 = word o 20 b }
 
-unfoldable pub tlbBytes : Tlb → List ℕ
-tlbBytes f = words (tlbWords f)
+unfoldable pub tlbBytes : Order → Tlb → List ℕ
+tlbBytes o f = words o (tlbWords f)
 
 -- "Word i is zero or has top byte i (house)."
 unfoldable pub isTower : ℕ → ℕ → Bool
@@ -39,11 +40,11 @@ tlbFault f = first (
     towerFault 1 (f .tower1) ∷ towerFault 2 (f .tower2) ∷ towerFault 3 (f .tower3) ∷
     towerFault 4 (f .tower4) ∷ towerFault 5 (f .tower5) ∷ towerFault 6 (f .tower6) ∷ [])
 
-abbrev pub tlbTests : List ℕ → List ℕ
-tlbTests b = unless (eqb (length b) 24) 6 ∷ tlbFault (tlbOf b) ∷ []
+abbrev pub tlbTests : Order → List ℕ → List ℕ
+tlbTests o b = unless (eqb (length b) 24) 6 ∷ tlbFault (tlbOf o b) ∷ []
 
-unfoldable pub tlbRule : List ℕ → ℕ
-tlbRule b = first (tlbTests b)
+unfoldable pub tlbRule : Order → List ℕ → ℕ
+tlbRule o b = first (tlbTests o b)
 
 -- "Bit b of the low 24 is ZIP b+1 of that tower": whether ZIP z is set in a TLB word.
 unfoldable pub zipSet : ℕ → ℕ → Bool
@@ -55,8 +56,8 @@ tlbKind = record {
   word = 0x81;
   row = 11;
   rule = tlbRule;
-  one = word 0;
-  two = word 4;
-  values = λ place b. counts (tlbWords (tlbOf b));
-  again = λ b. tlbBytes (tlbOf b);
+  one = λ o. word o 0;
+  two = λ o. word o 4;
+  values = λ o place b. counts (tlbWords (tlbOf o b));
+  again = λ o b. tlbBytes o (tlbOf o b);
 }

@@ -7,6 +7,7 @@ use lib.IntN.{ℤ}
 use lib.ListN.{length, drop}
 use mir.Val.{SFits}
 use mir.Syntax.{w32}
+use Rattle.theory.specs.declared.Order.{Order}
 use Rattle.theory.specs.Words.{Fits}
 use Rattle.theory.specs.Tests.{unless, first}
 use Rattle.note.specs.Limits.{fewestSamples, mostSamples}
@@ -36,14 +37,14 @@ pub record TraceFits (f : Trace) : Type 0 where
   pub n : Fits 4 (f .n)
 
 -- The fields of a body, and the body of fields.
-unfoldable pub traceOf : List ℕ → Trace
-traceOf b = record {
-  address = word 8 b;
-  channel = word 12 b;
-  code = word 16 b;
-  t0 = signed (word 28 b);
-  delta = word 32 b;
-  n = word 44 b;
+unfoldable pub traceOf : Order → List ℕ → Trace
+traceOf o b = record {
+  address = word o 8 b;
+  channel = word o 12 b;
+  code = word o 16 b;
+  t0 = signed (word o 28 b);
+  delta = word o 32 b;
+  n = word o 44 b;
   samples = drop 48 b;
 }
 
@@ -53,8 +54,8 @@ traceWords f =
     0x12 ∷ 12 ∷ unsigned (f .t0) ∷ f .delta ∷ f .n ∷
     0x13 ∷ f .n ∷ []
 
-unfoldable pub traceBytes : Trace → List ℕ
-traceBytes f = words (traceWords f) ++ f .samples
+unfoldable pub traceBytes : Order → Trace → List ℕ
+traceBytes o f = words o (traceWords f) ++ f .samples
 
 -- The faults of single words: digitizer channel; code; delta t; n ("n is even"; 2 to 32,768).
 abbrev pub channelFault : ℕ → ℕ
@@ -70,37 +71,37 @@ unfoldable pub countFault : ℕ → ℕ
 countFault n = first (unless (eqb (n % 2) 0) 11 ∷ unless (leb fewestSamples n) 11 ∷ unless (leb n mostSamples) 11 ∷ [])
 
 -- The three inner blocks, words in order: "inner kind" 5, an inner length other than 12 is 6.
-unfoldable pub bookkeepingRule : List ℕ → ℕ
-bookkeepingRule b = first (
-    unless (eqb (word 0 b) 0x11) 5 ∷
-    unless (eqb (word 4 b) 12) 6 ∷
-    channelFault (word 12 b) ∷
-    codeFault (word 16 b) ∷ [])
+unfoldable pub bookkeepingRule : Order → List ℕ → ℕ
+bookkeepingRule o b = first (
+    unless (eqb (word o 0 b) 0x11) 5 ∷
+    unless (eqb (word o 4 b) 12) 6 ∷
+    channelFault (word o 12 b) ∷
+    codeFault (word o 16 b) ∷ [])
 
-unfoldable pub timebaseRule : List ℕ → ℕ
-timebaseRule b = first (
-    unless (eqb (word 20 b) 0x12) 5 ∷
-    unless (eqb (word 24 b) 12) 6 ∷
-    deltaFault (word 32 b) ∷ [])
+unfoldable pub timebaseRule : Order → List ℕ → ℕ
+timebaseRule o b = first (
+    unless (eqb (word o 20 b) 0x12) 5 ∷
+    unless (eqb (word o 24 b) 12) 6 ∷
+    deltaFault (word o 32 b) ∷ [])
 
 -- "n at its second count": odd, too few, too many, or unlike the first count.
-unfoldable pub samplesRule : List ℕ → ℕ
-samplesRule b = first (
-    unless (eqb (word 40 b) 0x13) 5 ∷
-    countFault (word 44 b) ∷
-    unless (eqb (word 36 b) (word 44 b)) 11 ∷ [])
+unfoldable pub samplesRule : Order → List ℕ → ℕ
+samplesRule o b = first (
+    unless (eqb (word o 40 b) 0x13) 5 ∷
+    countFault (word o 44 b) ∷
+    unless (eqb (word o 36 b) (word o 44 b)) 11 ∷ [])
 
 -- "Trace: length below 48 is 6, then words in order, n at its second count, last the length against 48 + 2n."
-abbrev pub traceTests : List ℕ → List ℕ
-traceTests b =
+abbrev pub traceTests : Order → List ℕ → List ℕ
+traceTests o b =
     unless (leb 48 (length b)) 6 ∷
-    bookkeepingRule b ∷
-    timebaseRule b ∷
-    samplesRule b ∷
-    unless (eqb (length b) (48 + 2 * word 44 b)) 6 ∷ []
+    bookkeepingRule o b ∷
+    timebaseRule o b ∷
+    samplesRule o b ∷
+    unless (eqb (length b) (48 + 2 * word o 44 b)) 6 ∷ []
 
-unfoldable pub traceRule : List ℕ → ℕ
-traceRule b = first (traceTests b)
+unfoldable pub traceRule : Order → List ℕ → ℕ
+traceRule o b = first (traceTests o b)
 
 -- A writer's faults, in word order: the samples are handed over as a part of bytes, 6 where its size isn't 2n.
 unfoldable pub traceFault : Trace → ℕ
@@ -112,8 +113,8 @@ traceFault f = first (
     unless (eqb (length (f .samples)) (2 * f .n)) 6 ∷ [])
 
 -- Sample k of a part of samples, from 1: "The lower half of a word is the earlier sample."
-unfoldable pub sampleIn : List ℕ → ℕ → ℕ
-sampleIn part k = cond (eqb (k % 2) 1) (word (4 * ((k - 1) / 2)) part % 65536) (word (4 * ((k - 1) / 2)) part / 65536)
+unfoldable pub sampleIn : Order → List ℕ → ℕ → ℕ
+sampleIn o part k = cond (eqb (k % 2) 1) (word o (4 * ((k - 1) / 2)) part % 65536) (word o (4 * ((k - 1) / 2)) part / 65536)
 
 -- Row kind 7: code, n.
 abbrev pub traceKind : Kind
@@ -121,10 +122,10 @@ traceKind = record {
   word = 0x11;
   row = 7;
   rule = traceRule;
-  one = word 16;
-  two = word 44;
-  values = λ place b.
-      let f : Trace = traceOf b in
+  one = λ o. word o 16;
+  two = λ o. word o 44;
+  values = λ o place b.
+      let f : Trace = traceOf o b in
       count (f .address) ∷ count (f .channel) ∷ count (f .code) ∷ whole (f .t0) ∷ count (f .delta) ∷ count (f .n) ∷ [];
-  again = λ b. traceBytes (traceOf b);
+  again = λ o b. traceBytes o (traceOf o b);
 }

@@ -3,6 +3,7 @@ use Prim.Native.Nat.{ℕ}
 use mathlib.Core.List.{List, [], _∷_}
 use lib.Dec.{eqb}
 use lib.ListN.{length}
+use Rattle.theory.specs.declared.Order.{Order}
 use Rattle.theory.specs.Tests.{unless, first}
 use Rattle.note.specs.Words.{word, words}
 use Rattle.note.specs.Answers.{counts}
@@ -21,17 +22,17 @@ abbrev pub triggerMasks : Trigger → List ℕ
 triggerMasks f = f .mask1 ∷ f .mask2 ∷ f .mask3 ∷ f .mask4 ∷ f .mask5 ∷ f .mask6 ∷ []
 
 -- The fields of a body, and the body of fields.
-unfoldable pub triggerOf : List ℕ → Trigger
-triggerOf b = record { mask1 = word 4 b; mask2 = word 8 b; mask3 = word 12 b; mask4 = word 16 b; mask5 = word 20 b; mask6 = word 24 b }
+unfoldable pub triggerOf : Order → List ℕ → Trigger
+triggerOf o b = record { mask1 = word o 4 b; mask2 = word o 8 b; mask3 = word o 12 b; mask4 = word o 16 b; mask5 = word o 20 b; mask6 = word o 24 b }
 
-unfoldable pub triggerBytes : Trigger → List ℕ
-triggerBytes f = words (0 ∷ triggerMasks f)
+unfoldable pub triggerBytes : Order → Trigger → List ℕ
+triggerBytes o f = words o (0 ∷ triggerMasks f)
 
-abbrev pub triggerTests : List ℕ → List ℕ
-triggerTests b = unless (eqb (length b) 28) 6 ∷ unless (eqb (word 0 b) 0) 10 ∷ []
+abbrev pub triggerTests : Order → List ℕ → List ℕ
+triggerTests o b = unless (eqb (length b) 28) 6 ∷ unless (eqb (word o 0 b) 0) 10 ∷ []
 
-unfoldable pub triggerRule : List ℕ → ℕ
-triggerRule b = first (triggerTests b)
+unfoldable pub triggerRule : Order → List ℕ → ℕ
+triggerRule o b = first (triggerTests o b)
 
 -- Row kind 10: masks 1 and 2.
 abbrev pub triggerKind : Kind
@@ -39,8 +40,8 @@ triggerKind = record {
   word = 0x80;
   row = 10;
   rule = triggerRule;
-  one = word 4;
-  two = word 8;
-  values = λ place b. counts (triggerMasks (triggerOf b));
-  again = λ b. triggerBytes (triggerOf b);
+  one = λ o. word o 4;
+  two = λ o. word o 8;
+  values = λ o place b. counts (triggerMasks (triggerOf o b));
+  again = λ o b. triggerBytes o (triggerOf o b);
 }

@@ -1,24 +1,26 @@
 -- Document 01, 'Words and nesting': the words of this format. Every definition of the note speaks of them by these names.
-use Prim.Native.Nat.{ℕ}
+use Prim.Native.Nat.{ℕ, _+_, _-_, _*_, _/_, _%_}
 use mathlib.Core.List.{List, [], _∷_}
 use lib.IntN.{ℤ}
 use mir.Val.{toZ, ofZ, SFits}
 use mir.Syntax.{w32}
 use Rattle.theory.specs.declared.Order.{Order}
-use Rattle.theory.specs.declared.Order.the-variants.{Little}
+use Rattle.theory.specs.declared.Order.the-variants.{Little, Big}
 use Rattle.theory.specs.Words.{wordAt, puts}
 
--- "All words are 32 bits, little-endian."
-abbrev pub order : Order
-order = Little
-
 -- The word at place p.
-abbrev pub word : ℕ → List ℕ → ℕ
-word p bs = wordAt order 4 p bs
+abbrev pub word : Order → ℕ → List ℕ → ℕ
+word o p bs = wordAt o 4 p bs
 
 -- Words one after the other.
-abbrev pub words : List ℕ → List ℕ
-words ns = puts order 4 ns
+abbrev pub words : Order → List ℕ → List ℕ
+words o ns = puts o 4 ns
+
+-- Where a byte of words stands: byte m, each word's bytes counted from its lowest up. With the highest byte first a word's bytes stand the
+-- other way round.
+abbrev pub byteAt : Order → ℕ → ℕ
+byteAt Little m = m
+byteAt Big m = m / 4 * 4 + (3 - m % 4)
 
 -- A word read as signed, and a signed number as a word: two's complement.
 abbrev pub signed : ℕ → ℤ

@@ -4,10 +4,11 @@ use Prim.Native.Nat.{ℕ, _+_, _-_}
 use mathlib.Core.List.{List, [], _∷_, _++_, map}
 use lib.Dec.{leb}
 use lib.ListN.{length, take, drop}
+use Rattle.theory.specs.declared.Order.{Order}
 use Rattle.theory.specs.Tests.{Res, ok, bad, need, bind, unless}
 use Rattle.theory.specs.Structures.{structureBytes, sequenceBytes}
 use Rattle.note.specs.Limits.{fileLimit}
-use Rattle.note.specs.Words.{order, words, unsigned}
+use Rattle.note.specs.Words.{words, unsigned}
 use Rattle.note.specs.Answers.{Given, accepted, refused, counts}
 use Rattle.note.specs.Kinds.{Kind}
 use Rattle.note.specs.Phonon.{Phonon, phononKind, phononBytes, phononFault}
@@ -20,7 +21,7 @@ use Rattle.note.specs.Trigger.{Trigger, triggerKind, triggerBytes}
 use Rattle.note.specs.Tlb.{Tlb, tlbKind, tlbBytes, tlbFault}
 use Rattle.note.specs.Records.{Record, recordBytes, recordsBytes, entry, event, none, readRecords, kindOf}
 use Rattle.note.specs.Events.{Container, eventFault, eventWord}
-use Rattle.note.specs.Files.{File, versionOf, configurationOf, eventsOf, configurationWord, headerBytes, versionWord, readFile}
+use Rattle.note.specs.Files.{File, orderIn, versionOf, configurationOf, eventsOf, configurationWord, headerBytes, versionWord, readFile}
 
 -- ---- what every writer answers, and what it leaves
 
@@ -49,37 +50,38 @@ written (bad c p) out place bytes = out
 -- ---- the eight record and entry writers
 
 -- A kind's structure around its body.
-abbrev pub wrapped : Kind → List ℕ → List ℕ
-wrapped k body = recordBytes (record { kind = k .word; body = body })
+abbrev pub wrapped : Order → Kind → List ℕ → List ℕ
+wrapped o k body = recordBytes o (record { kind = k .word; body = body })
 
 -- A writer of fields: their first fault, and the bytes of the whole record.
 pub record Written : Type 0 where
   pub fault : ℕ
   pub bytes : List ℕ
 
-unfoldable pub phononWritten : Phonon → Written
-phononWritten f = record { fault = phononFault (unsigned (f .code)); bytes = wrapped phononKind (phononBytes f) }
+unfoldable pub phononWritten : Order → Phonon → Written
+phononWritten o f = record { fault = phononFault (unsigned (f .code)); bytes = wrapped o phononKind (phononBytes o f) }
 
-unfoldable pub chargeWritten : Charge → Written
-chargeWritten f = record { fault = chargeFault (unsigned (f .code)); bytes = wrapped chargeKind (chargeBytes f) }
+unfoldable pub chargeWritten : Order → Charge → Written
+chargeWritten o f = record { fault = chargeFault (unsigned (f .code)); bytes = wrapped o chargeKind (chargeBytes o f) }
 
-unfoldable pub administrativeWritten : Administrative → Written
-administrativeWritten f = record { fault = administrativeFault (f .date) (f .clock); bytes = wrapped administrativeKind (administrativeBytes f) }
+unfoldable pub administrativeWritten : Order → Administrative → Written
+administrativeWritten o f =
+    record { fault = administrativeFault (f .date) (f .clock); bytes = wrapped o administrativeKind (administrativeBytes o f) }
 
-unfoldable pub traceWritten : Trace → Written
-traceWritten f = record { fault = traceFault f; bytes = wrapped traceKind (traceBytes f) }
+unfoldable pub traceWritten : Order → Trace → Written
+traceWritten o f = record { fault = traceFault f; bytes = wrapped o traceKind (traceBytes o f) }
 
-unfoldable pub historyWritten : History → Written
-historyWritten f = record { fault = historyFault f; bytes = wrapped historyKind (historyBytes f) }
+unfoldable pub historyWritten : Order → History → Written
+historyWritten o f = record { fault = historyFault f; bytes = wrapped o historyKind (historyBytes o f) }
 
-unfoldable pub gpsWritten : Gps → Written
-gpsWritten f = record { fault = gpsFault f; bytes = wrapped gpsKind (gpsBytes f) }
+unfoldable pub gpsWritten : Order → Gps → Written
+gpsWritten o f = record { fault = gpsFault f; bytes = wrapped o gpsKind (gpsBytes o f) }
 
-unfoldable pub triggerWritten : Trigger → Written
-triggerWritten f = record { fault = 0; bytes = wrapped triggerKind (triggerBytes f) }
+unfoldable pub triggerWritten : Order → Trigger → Written
+triggerWritten o f = record { fault = 0; bytes = wrapped o triggerKind (triggerBytes o f) }
 
-unfoldable pub tlbWritten : Tlb → Written
-tlbWritten f = record { fault = tlbFault f; bytes = wrapped tlbKind (tlbBytes f) }
+unfoldable pub tlbWritten : Order → Tlb → Written
+tlbWritten o f = record { fault = tlbFault f; bytes = wrapped o tlbKind (tlbBytes o f) }
 
 -- "Each record is written into the rest of the output from a given place, and answers the next place."
 unfoldable pub recordWrote : List ℕ → ℕ → Written → Res ℕ
@@ -94,8 +96,8 @@ recordOutput out place w = written (recordWrote out place w) out place (w .bytes
 unfoldable pub headerWrote : List ℕ → Res ℕ
 headerWrote out = wrote (length out) 0 0 8
 
-unfoldable pub headerOutput : List ℕ → ℕ → ℕ → List ℕ
-headerOutput out major minor = written (headerWrote out) out 0 (headerBytes (versionWord major minor))
+unfoldable pub headerOutput : Order → List ℕ → ℕ → ℕ → List ℕ
+headerOutput o out major minor = written (headerWrote out) out 0 (headerBytes o (versionWord major minor))
 
 -- ---- the closings
 
@@ -114,43 +116,45 @@ within n place end r =
     need (unless (leb end n) 13) place (
     need (unless (leb (place + 8) end) 13) place r)))
 
-unfoldable pub configurationClosed : List ℕ → ℕ → ℕ → Res ℕ
-configurationClosed out place end =
+unfoldable pub configurationClosed : Order → List ℕ → ℕ → ℕ → Res ℕ
+configurationClosed o out place end =
     within (length out) place end (
-    ended end (readRecords entry (place + 8) (contentsOf out place end)))
+    ended end (readRecords o entry (place + 8) (contentsOf out place end)))
 
-unfoldable pub eventClosed : List ℕ → ℕ → ℕ → ℕ → ℕ → ℕ → Res ℕ
-eventClosed out place end class category type =
+unfoldable pub eventClosed : Order → List ℕ → ℕ → ℕ → ℕ → ℕ → ℕ → Res ℕ
+eventClosed o out place end class category type =
     within (length out) place end (
     need (eventFault class category type) place (
     need (unless (leb (place + 9) end) 9) place (
-    ended end (readRecords (event none) (place + 8) (contentsOf out place end)))))
+    ended end (readRecords o (event none) (place + 8) (contentsOf out place end)))))
 
 -- "Then the eight bytes are written"; the contents stay.
-abbrev pub closingBytes : ℕ → ℕ → ℕ → List ℕ
-closingBytes w place end = words (w ∷ (end - (place + 8)) ∷ [])
+abbrev pub closingBytes : Order → ℕ → ℕ → ℕ → List ℕ
+closingBytes o w place end = words o (w ∷ (end - (place + 8)) ∷ [])
 
-unfoldable pub configurationOutput : List ℕ → ℕ → ℕ → List ℕ
-configurationOutput out place end = written (configurationClosed out place end) out place (closingBytes configurationWord place end)
+unfoldable pub configurationOutput : Order → List ℕ → ℕ → ℕ → List ℕ
+configurationOutput o out place end = written (configurationClosed o out place end) out place (closingBytes o configurationWord place end)
 
-unfoldable pub eventOutput : List ℕ → ℕ → ℕ → ℕ → ℕ → ℕ → List ℕ
-eventOutput out place end class category type =
-    written (eventClosed out place end class category type) out place (closingBytes (eventWord class category type) place end)
+unfoldable pub eventOutput : Order → List ℕ → ℕ → ℕ → ℕ → ℕ → ℕ → List ℕ
+eventOutput o out place end class category type =
+    written (eventClosed o out place end class category type) out place (closingBytes o (eventWord class category type) place end)
 
 -- ---- Rewrite
 
 -- "Reads an accepted file's fields and writes them through these": each record's body from its fields.
-unfoldable pub recordAgain : Record → Record
-recordAgain r = record { kind = r .kind; body = kindOf (r .kind) .again (r .body) }
+unfoldable pub recordAgain : Order → Record → Record
+recordAgain o r = record { kind = r .kind; body = kindOf (r .kind) .again o (r .body) }
 
-abbrev pub containerAgain : Container → Container
-containerAgain c = record { kind = c .kind; body = map recordAgain (c .body) }
+abbrev pub containerAgain : Order → Container → Container
+containerAgain o c = record { kind = c .kind; body = map (recordAgain o) (c .body) }
 
-abbrev pub containerRewritten : Container → List ℕ
-containerRewritten c = structureBytes order recordsBytes (containerAgain c)
+abbrev pub containerRewritten : Order → Container → List ℕ
+containerRewritten o c = structureBytes o (recordsBytes o) (containerAgain o c)
 
 unfoldable pub fileRewritten : File → List ℕ
-fileRewritten f = headerBytes (versionOf f) ++ (containerRewritten (configurationOf f) ++ sequenceBytes containerRewritten (eventsOf f))
+fileRewritten f =
+    headerBytes (orderIn f) (versionOf f)
+    ++ (containerRewritten (orderIn f) (configurationOf f) ++ sequenceBytes (containerRewritten (orderIn f)) (eventsOf f))
 
 -- "From byte 0: 1 for either buffer, the file's refusal, then 13", whose place is 0.
 unfoldable pub rewriteWrote : List ℕ → List ℕ → Res ℕ

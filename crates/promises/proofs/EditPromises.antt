@@ -7,24 +7,27 @@ use mathlib.Core.Path.{_≡_, sym, ap, _∙_, subst}
 use mathlib.Core.List.{List}
 use Prim.Native.Nat.{ℕ, _+_, _≤_, _<_}
 use lib.ListN.{length, set, length-set}
+use Rattle.theory.specs.declared.Order.{Order}
 use Rattle.theory.specs.Words.{Bytes}
 use Rattle.theory.specs.Tests.{ok}
 use Rattle.theory.specs.Layout.{Row, row}
 use Rattle.theory.proofs.WordLaws.{Bytes-set}
 use Rattle.note.specs.Answers.{accepted, counts}
-use Rattle.note.specs.Files.{File, readFile}
+use Rattle.note.specs.Files.{File, orderOf, readFile}
 use Rattle.note.specs.Rows.{rowsOf, tableAnswer, tableBuffer, yieldAt, visitAnswer, visitBuffer}
 use Rattle.note.specs.Calls.{recordAt, settingAt, samplesPart, samplesAt, sampleAt, firstMatch, findAt}
 use Rattle.demands.specs.Edited.{startOf, holder, SampleEdited, SameLists, Edited}
 use Rattle.demands.specs.RowTraces.{rowTraces}
 use Rattle.demands.proofs.FindLaws.{find-by-rows}
+use Rattle.demands.proofs.Follows.{accepted-means}
 use Rattle.demands.proofs.EditInFull.{edit-in-full}
 use Rattle.promises.specs.Buffers.{tableCount, tableRows, tableRow}
 use Rattle.promises.specs.EditedCalls.{SampleByte, EditedCalls}
 use Rattle.promises.proofs.TablePromises.{table-has-rows, row-in-table}
 
 -- In an accepted file, row j is a trace, and byte i, inside its samples, becomes the byte x.
-module _ (bs : List ℕ) (f : File) (h : Bytes bs) (e : readFile bs ≡ ok f) {j i x : ℕ} (byte : x < 256) (d : Edited bs f j i x) where
+module _ (bs : List ℕ) (f : File) (h : Bytes bs) (e : readFile bs ≡ ok f) {o : Order} {j i x : ℕ} (byte : x < 256)
+    (d : Edited o bs f j i x) where
   -- "still accepted, same rows": Table answers the same for every capacity and leaves the same in every buffer; the walker yields the
   -- same, from every row on, and Find gives the same for every number and code.
   pub edit-keeps-answer : (capacity : ℕ) → tableAnswer (set bs i x) capacity ≡ tableAnswer bs capacity
@@ -73,7 +76,9 @@ edit-seen-by-calls bs old j i x h s =
     let trace : row (rowsOf f) j .kind ≡ 7 = subst (λ (r : Row). r .kind ≡ 7) mine (s .trace) in
     let lo : startOf f j + 56 ≤ i = subst (λ (r : Row). r .start + 56 ≤ i) mine (s .from) in
     let hi : i < startOf f j + row (rowsOf f) j .whole = subst (λ (r : Row). i < r .start + r .whole) mine (s .below) in
-    let new : Edited bs f j i x = edit-in-full bs f h e j here trace i x lo hi (s .byte) in
+    let o : Order = orderOf bs in
+    let new : Edited o bs f j i x =
+    subst (λ (q : Order). Edited q bs f j i x) (accepted-means bs f e .order-is) (edit-in-full bs f h e j here trace i x lo hi (s .byte)) in
     record {
       same-answer = edit-keeps-answer bs f h e (s .byte) new;
       same-buffer = edit-keeps-buffer bs f h e (s .byte) new;
@@ -81,15 +86,18 @@ edit-seen-by-calls bs old j i x h s =
       same-visits = edit-keeps-visits bs f h e (s .byte) new;
       same-visited = edit-keeps-visited bs f h e (s .byte) new;
       same-finds = edit-keeps-finds bs f h e (s .byte) new;
-      same-records = λ k l. subst (λ (p : ℕ). recordAt (set bs i x) p ≡ recordAt bs p) (start k l) (new .fields-stay k (inside k l));
-      same-lists = λ k l. subst (λ (p : ℕ). SameLists bs (set bs i x) p) (start k l) (new .lists-stay k (inside k l));
-      same-settings = λ k l. subst (λ (p : ℕ). settingAt (set bs i x) p ≡ settingAt bs p) (start k l) (new .settings-stay k (inside k l));
-      sample-changes = subst (λ (r : Row). SampleEdited bs (r .start) (r .whole) i x) (sym mine) (new .sample-changes);
+      same-records = λ k l.
+          subst (λ (p : ℕ). recordAt o (set bs i x) p ≡ recordAt o bs p) (start k l) (new .fields-stay k (inside k l));
+      same-lists = λ k l. subst (λ (p : ℕ). SameLists o bs (set bs i x) p) (start k l) (new .lists-stay k (inside k l));
+      same-settings = λ k l.
+          subst (λ (p : ℕ). settingAt o (set bs i x) p ≡ settingAt o bs p) (start k l) (new .settings-stay k (inside k l));
+      sample-changes = subst (λ (r : Row). SampleEdited o bs (r .start) (r .whole) i x) (sym mine) (new .sample-changes);
       other-samples-stay = λ k m l d.
-          subst (λ (p : ℕ). sampleAt (set bs i x) p m ≡ sampleAt bs p m) (start k l)
-          (new .other-samples-stay k m (inside k l) (λ q. d (q .0, q .1 ∙ ap (λ (p : ℕ). holder p i) (start j (s .counted)))));
+          subst (λ (p : ℕ). sampleAt o (set bs i x) p m ≡ sampleAt o bs p m) (start k l)
+          (new .other-samples-stay k m (inside k l) (λ q. d (q .0, q .1 ∙ ap (λ (p : ℕ). holder o p i) (start j (s .counted)))));
       other-parts-stay = λ k l d.
-          subst (λ (p : ℕ). (samplesPart (set bs i x) p ≡ samplesPart bs p) × (samplesAt (set bs i x) p ≡ samplesAt bs p)) (start k l)
+          subst (λ (p : ℕ). (samplesPart o (set bs i x) p ≡ samplesPart o bs p) × (samplesAt o (set bs i x) p ≡ samplesAt o bs p))
+          (start k l)
           (new .other-parts-stay k (inside k l) d);
       same-length = new .same-length;
       other-bytes-stay = new .other-bytes-stay;

@@ -13,14 +13,16 @@ use lib.Dec.{ltb}
 use lib.ListN.{length, take, drop, getD, length-append, length-drop}
 use lib.Seq.{getD-take, getD-drop, drop-at, ext-getD}
 use borrow.Author.Tests.{leb-true, le-leb, ltb-true}
+use Rattle.theory.specs.declared.Order.{Order}
 use Rattle.theory.specs.Words.{Bytes}
 use Rattle.theory.specs.Tests.{Res, ok, bad}
 use Rattle.theory.specs.Layout.{Row, noRow, row, Tiles, Owns, OneParent}
 use Rattle.theory.proofs.LayoutLaws.{owner, owner-one}
 use Rattle.note.specs.Limits.{rowWidth}
-use Rattle.note.specs.Files.{File, readFile}
+use Rattle.note.specs.Files.{File, orderOf, readFile}
 use Rattle.note.specs.Rows.{rowsOf, isBox, rowNumbers, flat, fits, tableGiven, tableFilled, tableAnswer, tableBuffer}
 use Rattle.note.proofs.FlatLaws.{length-flat, flat-at}
+use Rattle.demands.proofs.Follows.{accepted-means}
 use Rattle.demands.specs.Parents.{ParentByKind}
 use Rattle.demands.specs.RowContents.{RowRead}
 use Rattle.demands.proofs.RowLaws.{rows-inside, rows-tile-file, few-rows-in-file, parent-before-child}
@@ -226,5 +228,8 @@ module _ (bs old : List ℕ) (zero-given : tableAnswer bs (length old) .number �
     table-parent-by-kind = of-table (λ rs j r. ParentByKind rs r) (λ f e. parent-by-kind bs f h e)
 
     -- Kind, start, whole length and both values of row j of the buffer are those of what stands there.
-    pub table-rows-read : (j : ℕ) → j < tableCount bs old → RowRead bs (tableRows bs old) j (tableRow bs old j)
-    table-rows-read = of-table (RowRead bs) (λ f e. rows-read bs f h e)
+    pub table-rows-read : (j : ℕ) → j < tableCount bs old → RowRead (orderOf bs) bs (tableRows bs old) j (tableRow bs old j)
+    table-rows-read =
+        of-table (RowRead (orderOf bs) bs) (λ f e.
+        subst (λ (o : Order). (j : ℕ) → j < length (rowsOf f) → RowRead o bs (rowsOf f) j (row (rowsOf f) j))
+        (accepted-means bs f e .order-is) (rows-read bs f h e))

@@ -5,6 +5,7 @@ use mathlib.Core.Path.{_≡_}
 use mathlib.Core.Logic.{_≢_}
 use mathlib.Core.List.{List}
 use lib.ListN.{length, getD, set}
+use Rattle.note.specs.Files.{orderOf}
 use Rattle.note.specs.Rows.{tableAnswer, tableBuffer, yieldAt, visitAnswer, visitBuffer}
 use Rattle.note.specs.Calls.{recordAt, settingAt, samplesPart, samplesAt, sampleAt, findAt}
 use Rattle.demands.specs.Edited.{holder, SampleEdited, SameLists}
@@ -32,15 +33,15 @@ pub record EditedCalls (bs old : List ℕ) (j i x : ℕ) : Type 0 where
   pub same-visited : (k : ℕ) (other : List ℕ) → visitBuffer (set bs i x) k other ≡ visitBuffer bs k other
   pub same-finds : (number code : ℕ) → findAt (set bs i x) number code ≡ findAt bs number code
   pub same-records : (k : ℕ) → k < tableCount bs old
-      → recordAt (set bs i x) (tableRow bs old k .start) ≡ recordAt bs (tableRow bs old k .start)
-  pub same-lists : (k : ℕ) → k < tableCount bs old → SameLists bs (set bs i x) (tableRow bs old k .start)
+      → recordAt (orderOf bs) (set bs i x) (tableRow bs old k .start) ≡ recordAt (orderOf bs) bs (tableRow bs old k .start)
+  pub same-lists : (k : ℕ) → k < tableCount bs old → SameLists (orderOf bs) bs (set bs i x) (tableRow bs old k .start)
   pub same-settings : (k : ℕ) → k < tableCount bs old
-      → settingAt (set bs i x) (tableRow bs old k .start) ≡ settingAt bs (tableRow bs old k .start)
-  pub sample-changes : SampleEdited bs (tableRow bs old j .start) (tableRow bs old j .whole) i x
-  pub other-samples-stay : (k n : ℕ) → k < tableCount bs old → ((k ≡ j) × (n ≡ holder (tableRow bs old j .start) i) → ⊥)
-      → sampleAt (set bs i x) (tableRow bs old k .start) n ≡ sampleAt bs (tableRow bs old k .start) n
+      → settingAt (orderOf bs) (set bs i x) (tableRow bs old k .start) ≡ settingAt (orderOf bs) bs (tableRow bs old k .start)
+  pub sample-changes : SampleEdited (orderOf bs) bs (tableRow bs old j .start) (tableRow bs old j .whole) i x
+  pub other-samples-stay : (k n : ℕ) → k < tableCount bs old → ((k ≡ j) × (n ≡ holder (orderOf bs) (tableRow bs old j .start) i) → ⊥)
+      → sampleAt (orderOf bs) (set bs i x) (tableRow bs old k .start) n ≡ sampleAt (orderOf bs) bs (tableRow bs old k .start) n
   pub other-parts-stay : (k : ℕ) → k < tableCount bs old → k ≢ j
-      → (samplesPart (set bs i x) (tableRow bs old k .start) ≡ samplesPart bs (tableRow bs old k .start))
-      × (samplesAt (set bs i x) (tableRow bs old k .start) ≡ samplesAt bs (tableRow bs old k .start))
+      → (samplesPart (orderOf bs) (set bs i x) (tableRow bs old k .start) ≡ samplesPart (orderOf bs) bs (tableRow bs old k .start))
+      × (samplesAt (orderOf bs) (set bs i x) (tableRow bs old k .start) ≡ samplesAt (orderOf bs) bs (tableRow bs old k .start))
   pub same-length : length (set bs i x) ≡ length bs
   pub other-bytes-stay : (m : ℕ) → m ≢ i → getD (set bs i x) m 0 ≡ getD bs m 0

@@ -8,6 +8,7 @@ use rules::TLB;
 use rules::TRACE;
 use rules::TRIGGER;
 use rules::rule;
+use theory::Order;
 use words::word_at;
 ghost use mathlib.Core.Path.{_≡_};
 ghost use lib.ListN.{length};
@@ -156,8 +157,8 @@ pub fn next_context(context: Context, kind: u32) -> Context
 }
 
 /// The record at the front of a part, whose first byte stands at the place `at`.
-pub fn record_in(part: &[u8], at: usize, context: Context) -> Step
-    ensures { λ r. ⌜ r ≡ stepOf (readRecord (contextOf context) at (now (part .entry))) ⌝ }
+pub fn record_in(part: &[u8], at: usize, context: Context, order: Order) -> Step
+    ensures { λ r. ⌜ r ≡ stepOf (readRecord order (contextOf context) at (now (part .entry))) ⌝ }
 {
     let room = part.len();
     if room < 8 {
@@ -166,14 +167,14 @@ pub fn record_in(part: &[u8], at: usize, context: Context) -> Step
             place: at,
         };
     }
-    let kind = word_at(part, 0);
+    let kind = word_at(part, 0, order);
     if !is_kind(context, kind) {
         return Step::Bad {
             number: 5,
             place: at,
         };
     }
-    let length = word_at(part, 4) as usize;
+    let length = word_at(part, 4, order) as usize;
     if room - 8 < length {
         return Step::Bad {
             number: 2,
@@ -186,7 +187,7 @@ pub fn record_in(part: &[u8], at: usize, context: Context) -> Step
             place: at,
         };
     }
-    let fault = rule(kind, &part[8..8 + length]);
+    let fault = rule(kind, &part[8..8 + length], order);
     if fault != 0 {
         return Step::Bad {
             number: fault,

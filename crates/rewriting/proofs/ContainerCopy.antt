@@ -7,11 +7,11 @@ use Prim.Native.Nat.{ℕ, _+_, _-_, _/_, _≤_}
 use native.Mathlib.Omega.{arith}
 use lib.ListN.{length, take, drop}
 use lib.Seq.{sets, sets-eq}
+use Rattle.theory.specs.declared.Order.{Order}
 use Rattle.theory.specs.Words.{Bytes, put, puts}
 use Rattle.theory.specs.Tests.{ok}
 use Rattle.theory.proofs.WordLaws.{length-puts}
 use Rattle.theory.proofs.TestLaws.{first-at, equal-passed}
-use Rattle.note.specs.Words.{order}
 use Rattle.note.specs.Records.{Record, Context, recordsBytes, readRecords}
 use Rattle.note.specs.Events.{containerBytes, classOf, categoryOf, eventTypeOf, eventMark, eventWord, eventFault, eventWordRule}
 use Rattle.note.specs.Files.{configurationWord}
@@ -21,13 +21,13 @@ use Rattle.demands.proofs.Bundles.{records, same-records}
 use Rattle.demands.proofs.OutputLaws.{put-laid, both-laid}
 use Rattle.rewriting.specs.Ready.{Begins}
 
-module _ (old mid : List ℕ) (place end w : ℕ) (room : HasRoom (length old) place end)
-    (e : mid ≡ sets old place (closingBytes w place end)) where
+module _ (o : Order) (old mid : List ℕ) (place end w : ℕ) (room : HasRoom (length old) place end)
+    (e : mid ≡ sets old place (closingBytes o w place end)) where
   abbrev head : List ℕ
-  head = closingBytes w place end
+  head = closingBytes o w place end
 
   head-size : length head ≡ 8
-  head-size = length-puts order 4 (w ∷ (end - (place + 8)) ∷ [])
+  head-size = length-puts o 4 (w ∷ (end - (place + 8)) ∷ [])
 
   -- The two words.
   pub head-laid : Laid old mid place (place + 8) head
@@ -41,15 +41,15 @@ module _ (old mid : List ℕ) (place end w : ℕ) (room : HasRoom (length old) p
       (put-laid old head place end fits))
 
   -- The contents behind them.
-  pub container-copied : (c : Context) (inner new : List ℕ) (rs : List Record) → Bytes inner → readRecords c (place + 8) inner ≡ ok rs
-      → Laid mid new (place + 8) end inner → Laid old new place end (containerBytes (record { kind = w; body = rs }))
+  pub container-copied : (c : Context) (inner new : List ℕ) (rs : List Record) → Bytes inner → readRecords o c (place + 8) inner ≡ ok rs
+      → Laid mid new (place + 8) end inner → Laid old new place end (containerBytes o (record { kind = w; body = rs }))
   unfolding puts
   container-copied c inner new rs h reads l =
-      let own : inner ≡ recordsBytes rs = records .sound c (place + 8) inner rs h (sym (same-records c (place + 8) inner) ∙ reads) .0 in
-      let size : end - (place + 8) ≡ length (recordsBytes rs) = omega (arith, l .ends, ap length own) in
-      let apart : head ++ inner ≡ put order 4 w ++ (put order 4 (end - (place + 8)) ++ inner) = simp append-assoc in
+      let own : inner ≡ recordsBytes o rs = records o .sound c (place + 8) inner rs h (sym (same-records o c (place + 8) inner) ∙ reads) .0 in
+      let size : end - (place + 8) ≡ length (recordsBytes o rs) = omega (arith, l .ends, ap length own) in
+      let apart : head ++ inner ≡ put o 4 w ++ (put o 4 (end - (place + 8)) ++ inner) = simp append-assoc in
       subst (λ (x : List ℕ). Laid old new place end x)
-      (apart ∙ ap₂ (λ (n : ℕ) (x : List ℕ). put order 4 w ++ (put order 4 n ++ x)) size own)
+      (apart ∙ ap₂ (λ (n : ℕ) (x : List ℕ). put o 4 w ++ (put o 4 n ++ x)) size own)
       (both-laid old mid new head inner place (place + 8) end (omega (arith, room)) head-laid l)
 
 -- An event's first word, taken apart and put together again.

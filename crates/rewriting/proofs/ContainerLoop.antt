@@ -8,12 +8,13 @@ use Prim.Native.Nat.{ℕ, _+_, _≤_, _<_}
 use native.Mathlib.Omega.{arith}
 use lib.ListN.{length, take, drop}
 use lib.Seq.{sets}
+use Rattle.theory.specs.declared.Order.{Order}
 use Rattle.theory.specs.Tests.{ok}
 use Rattle.theory.proofs.Items.{Item, Whole, Oks}
 use Rattle.theory.proofs.LoopLaws.{whole}
 use Rattle.theory.proofs.StructureLaws.{structure, inside, Opened, opens, length-is}
 use Rattle.note.specs.Limits.{fileLimit}
-use Rattle.note.specs.Words.{order, word}
+use Rattle.note.specs.Words.{word}
 use Rattle.note.specs.Records.{Record, Context, readRecord, readRecords}
 use Rattle.note.specs.Events.{Container, containerBytes, containerSize}
 use Rattle.note.specs.Writers.{closingBytes}
@@ -27,42 +28,43 @@ use Rattle.rewriting.proofs.CopyLoop.{Copying, Found, item-fits, here, 
 use Rattle.rewriting.proofs.ContainerCopy.{head-laid, container-copied}
 
 -- What stands in a container.
-abbrev contents : Whole (Bool × ℕ) (List Record)
-contents = inside (λ s. contentsIn (s .0)) records
+abbrev contents : Order → Whole (Bool × ℕ) (List Record)
+contents o = inside (λ s. contentsIn (s .0)) (records o)
 
-abbrev pub containerItem : Item Bool Container
-containerItem = structure order containerHead containerLate contents (λ s c. false)
+abbrev pub containerItem : Order → Item Bool Container
+containerItem o = structure o containerHead containerLate (contents o) (λ s c. false)
 
-pub same-containers : (first : Bool) (at : ℕ) (bs : List ℕ) → readContainers first at bs ≡ whole containerItem first at bs
+pub same-containers : (o : Order) (first : Bool) (at : ℕ) (bs : List ℕ) → readContainers o first at bs ≡ whole (containerItem o) first at bs
 unfolding readContainers readContainer readRecords readRecord
-same-containers first at bs = refl
+same-containers o first at bs = refl
 
 -- Behind the configuration, events are containers.
-pub events-are : (es : List Container) → Oks eventItem tt es → Oks containerItem false es
-events-are [] o = tt
-events-are (e ∷ es) (o, os) = (
-  record { head-ok = o .head-ok; late-ok = o .late-ok; kind-word = o .kind-word; length-word = o .length-word; body-ok = o .body-ok },
-  events-are es os,
+pub events-are : (o : Order) (es : List Container) → Oks (eventItem o) tt es → Oks (containerItem o) false es
+events-are o [] h = tt
+events-are o (e ∷ es) (h, hs) = (
+  record { head-ok = h .head-ok; late-ok = h .late-ok; kind-word = h .kind-word; length-word = h .length-word; body-ok = h .body-ok },
+  events-are o es hs,
 )
 
-module _ {old : List ℕ} {place : ℕ} {part out rest : List ℕ} {at : ℕ} (i : Copying containerItem old place part out rest at)
+module _ {o : Order} {old : List ℕ} {place : ℕ} {part out rest : List ℕ} {at : ℕ} (i : Copying (containerItem o) old place part out rest at)
     (l : 0 < length rest) where
   item : Container
-  item = here containerItem i l .item
+  item = here (containerItem o) i l .item
 
-  reads : containerItem .read (i .state) at rest ≡ ok item
+  reads : containerItem o .read (i .state) at rest ≡ ok item
   unfolding item
-  reads = here containerItem i l .reads-item
+  reads = here (containerItem o) i l .reads-item
 
-  opened : Opened order containerHead containerLate (contents .read) (i .state) at rest item
-  opened = opens order containerHead containerLate (contents .read) (i .state) at rest item reads
+  opened : Opened o containerHead containerLate (contents o .read) (i .state) at rest item
+  opened = opens o containerHead containerLate (contents o .read) (i .state) at rest item reads
 
-  pub container-fits : (m : ℕ) → m ≡ word 4 rest → (8 + m ≤ length rest) × (at + (8 + m) ≤ fileLimit)
-  container-fits = item-fits containerItem i (opened .fits)
+  pub container-fits : (m : ℕ) → m ≡ word o 4 rest → (8 + m ≤ length rest) × (at + (8 + m) ≤ fileLimit)
+  container-fits = item-fits (containerItem o) i o (opened .fits)
 
 -- Its two words were read.
-module _ {old : List ℕ} {place : ℕ} {part out rest : List ℕ} {at w m : ℕ} (f : Found containerItem old place part out rest at w m) where
-  abbrev i : Copying containerItem old place part out rest at
+module _ {o : Order} {old : List ℕ} {place : ℕ} {part out rest : List ℕ} {at w m : ℕ}
+    (f : Found (containerItem o) o old place part out rest at w m) where
+  abbrev i : Copying (containerItem o) old place part out rest at
   i = f .so-far
 
   abbrev own : Container
@@ -81,11 +83,11 @@ module _ {old : List ℕ} {place : ℕ} {part out rest : List ℕ} {at w m : ℕ
   inner-size : length inner ≡ m
   inner-size = cut-length m rest fits
 
-  inner-reads : readRecords context (at + 8) inner ≡ ok (own .body)
+  inner-reads : readRecords o context (at + 8) inner ≡ ok (own .body)
   inner-reads =
-      ap (λ (n : ℕ). readRecords context (at + 8) (cutBody n rest)) (f .length-is)
-      ∙ ap (readRecords context (at + 8)) (cut (word 4 rest) rest)
-      ∙ same-records context (at + 8) (take (word 4 rest) (drop 8 rest)) ∙ opened i (f .more) .body-is
+      ap (λ (n : ℕ). readRecords o context (at + 8) (cutBody n rest)) (f .length-is)
+      ∙ ap (readRecords o context (at + 8)) (cut (word o 4 rest) rest)
+      ∙ same-records o context (at + 8) (take (word o 4 rest) (drop 8 rest)) ∙ opened i (f .more) .body-is
 
   same : record { kind = w; body = own .body } ≡ own
   same = λ j. record { kind = (f .kind-is ∙ sym (opened i (f .more) .kind-is)) j; body = own .body }
@@ -93,17 +95,17 @@ module _ {old : List ℕ} {place : ℕ} {part out rest : List ℕ} {at w m : ℕ
   -- Its two words have room, and its first word may begin a container.
   pub begin-ready : HasRoom (length out) at (at + (8 + m)) × Begins w
   begin-ready =
-      let (room, limit) = loop.rest-has-room containerItem i in (
+      let (room, limit) = loop.rest-has-room (containerItem o) i in (
         (omega arith, omega (arith, fits, room), limit),
         (i .state, ap (containerHead (i .state)) (f .kind-is) ∙ opened i (f .more) .head-ok),
       )
 
   -- They were stored: its contents are next.
-  module _ (mid : List ℕ) (e : mid ≡ sets out at (closingBytes w at (at + (8 + m)))) where
-    begun : Laid out mid at (at + 8) (closingBytes w at (at + (8 + m)))
-    begun = head-laid out mid at (at + (8 + m)) w (begin-ready .0) e
+  module _ (mid : List ℕ) (e : mid ≡ sets out at (closingBytes o w at (at + (8 + m)))) where
+    begun : Laid out mid at (at + 8) (closingBytes o w at (at + (8 + m)))
+    begun = head-laid o out mid at (at + (8 + m)) w (begin-ready .0) e
 
-    pub records-ready : RecordsReady (at + 8) inner (length mid)
+    pub records-ready : RecordsReady o (at + 8) inner (length mid)
     records-ready = (
       context,
       record {
@@ -115,13 +117,13 @@ module _ {old : List ℕ} {place : ℕ} {part out rest : List ℕ} {at w m : ℕ
     )
 
     pub container-next : (new : List ℕ) → Stands inner mid (at + 8) new
-        → Copying containerItem old place part new (behindOf (8 + m) rest) (at + (8 + m))
+        → Copying (containerItem o) old place part new (behindOf (8 + m) rest) (at + (8 + m))
     unfolding item
     container-next new stands =
-        let written = length-is order containerHead containerLate contents (i .state) at rest own (i .bytes) (reads i (f .more)) in
-        let size : containerSize own ≡ 8 + m = ap (λ (n : ℕ). 8 + n) (written ∙ sym (f .length-is)) in
+        let written = length-is o containerHead containerLate (contents o) (i .state) at rest own (i .bytes) (reads i (f .more)) in
+        let size : containerSize o own ≡ 8 + m = ap (λ (n : ℕ). 8 + n) (written ∙ sym (f .length-is)) in
         let end : at + 8 + length inner ≡ at + (8 + m) = omega (arith, inner-size) in
-        next containerItem i (f .more) (8 + m) size new
-        (subst (λ (x : Container). Laid out new at (at + (8 + m)) (containerBytes x)) same
-        (container-copied out mid at (at + (8 + m)) w (begin-ready .0) e context inner new (own .body) (cut-bytes m rest (i .bytes)) inner-reads
+        next (containerItem o) i (f .more) (8 + m) size new
+        (subst (λ (x : Container). Laid out new at (at + (8 + m)) (containerBytes o x)) same
+        (container-copied o out mid at (at + (8 + m)) w (begin-ready .0) e context inner new (own .body) (cut-bytes m rest (i .bytes)) inner-reads
         (subst (λ (n : ℕ). Laid mid new (at + 8) n inner) end stands)))

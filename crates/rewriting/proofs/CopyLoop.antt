@@ -5,6 +5,7 @@ use mathlib.Core.List.{List, [], _∷_, _++_, append-assoc, append-nil}
 use Prim.Native.Nat.{ℕ, _+_, _≤_, _<_}
 use native.Mathlib.Omega.{arith}
 use lib.ListN.{length, drop, length-append}
+use Rattle.theory.specs.declared.Order.{Order}
 use Rattle.theory.specs.Words.{Bytes}
 use Rattle.theory.specs.Tests.{Res, ok}
 use Rattle.theory.proofs.Items.{Item}
@@ -34,11 +35,11 @@ module _ {S A : Type 0} (F : Item S A) where
     pub limit : length old ≤ fileLimit
 
   -- Two words of what is left were read, an item's kind word w and its length word m.
-  pub record Found (old : List ℕ) (place : ℕ) (part out rest : List ℕ) (at w m : ℕ) : Type 0 where
+  pub record Found (o : Order) (old : List ℕ) (place : ℕ) (part out rest : List ℕ) (at w m : ℕ) : Type 0 where
     pub so-far : Copying old place part out rest at
     pub more : 0 < length rest
-    pub kind-is : w ≡ word 0 rest
-    pub length-is : m ≡ word 4 rest
+    pub kind-is : w ≡ word o 0 rest
+    pub length-is : m ≡ word o 4 rest
 
   -- Nothing was written: the part is read as items, in whatever way.
   pub begin : (old : List ℕ) {place : ℕ} {part : List ℕ} (s : S) {read : ℕ → List ℕ → Res (List A)}
@@ -64,8 +65,8 @@ module _ {S A : Type 0} (F : Item S A) where
         (omega (arith, sum, i .laid .ends, i .laid .size, i .room), omega (arith, i .laid .size, i .limit))
 
     -- An item of m bytes of contents that fits what is left ends within the limit.
-    pub item-fits : 8 + word 4 rest ≤ length rest → (m : ℕ) → m ≡ word 4 rest → (8 + m ≤ length rest) × (at + (8 + m) ≤ fileLimit)
-    item-fits fits m em = (omega (arith, em, fits), omega (arith, em, fits, rest-has-room))
+    pub item-fits : (o : Order) → 8 + word o 4 rest ≤ length rest → (m : ℕ) → m ≡ word o 4 rest → (8 + m ≤ length rest) × (at + (8 + m) ≤ fileLimit)
+    item-fits o fits m em = (omega (arith, em, fits), omega (arith, em, fits, rest-has-room))
 
     pub ended : length rest ≤ 0 → Stands part old place out
     ended l =

@@ -6,10 +6,11 @@ use Prim.Native.Nat.{ℕ, _+_, _≤_, _<_}
 use native.Mathlib.Omega.{arith}
 use lib.ListN.{length}
 use borrow.Author.Tests.{le-leb, lt-leb}
+use Rattle.theory.specs.declared.Order.{Order}
 use Rattle.theory.specs.Tests.{bad}
 use Rattle.note.specs.Limits.{fileLimit}
 use Rattle.note.specs.Answers.{Given, accepted, refused, counts}
-use Rattle.note.specs.Files.{readFile}
+use Rattle.note.specs.Files.{orderOf, readFile}
 use Rattle.note.specs.Writers.{writerGiven, fileRewritten, rewritten, rewriteWrote, rewriteOutput}
 use Rattle.demands.proofs.Follows.{file-sound}
 use Rattle.demands.proofs.OutputLaws.{laid-is, refusal-keeps}
@@ -17,7 +18,7 @@ use Rattle.demands.proofs.RewriteLaws.{fields-restore, rewrite-restores}
 use Rattle.containers.specs.declared.Count.the-variants.{Bad}
 use Rattle.containers.specs.Counts.{rowsOfFile, fileRows}
 use Rattle.containers.proofs.ContainerLaws.{count-bad}
-use Rattle.containers.proofs.FileParts.{Checked}
+use Rattle.containers.proofs.FileParts.{Checked, checked-in}
 use Rattle.rewriting.specs.Ready.{FileReady, Stands}
 
 module _ (bs old : List ℕ) where
@@ -38,8 +39,8 @@ module _ (bs old : List ℕ) where
   file-refuses limit c p e = refuses c p (rw (le-leb (length old) fileLimit limit, count-bad rowsOfFile e))
 
 -- An accepted file is ready to be written into n bytes, within the limit, that have room for it.
-pub ready : {bs : List ℕ} {n : ℕ} → Checked bs → n ≤ fileLimit → length bs ≤ n → FileReady bs n
-ready k limit l = record { is = k .file; reads = k .reads; room = omega (arith, l); limit = limit }
+pub ready : {bs : List ℕ} {n : ℕ} → Checked bs → n ≤ fileLimit → length bs ≤ n → {o : Order} → o ≡ orderOf bs → FileReady o bs n
+ready k limit l e = let c = checked-in k e in record { parts = c .parts; reads = c .reads; room = omega (arith, l); limit = limit }
 
 -- An accepted file, and an output within the limit.
 module _ {bs : List ℕ} (k : Checked bs) (old : List ℕ) (limit : length old ≤ fileLimit) where

@@ -4,13 +4,13 @@ use mathlib.Core.Path.{_≡_}
 use mathlib.Core.Bool.{Bool, true, false}
 use mathlib.Core.List.{List}
 use lib.ListN.{length}
+use Rattle.theory.specs.declared.Order.{Order}
 use Rattle.theory.specs.Tests.{Res, ok}
 use Rattle.theory.specs.Structures.{readStructure, readSequence}
 use Rattle.note.specs.Limits.{fileLimit}
-use Rattle.note.specs.Words.{order}
 use Rattle.note.specs.Records.{Context, entry, event, none, readRecords}
 use Rattle.note.specs.Events.{Container, containerSize, eventHead, eventLate}
-use Rattle.note.specs.Files.{configurationHead, configurationLate, readFile}
+use Rattle.note.specs.Files.{configurationHead, configurationLate, Parts, readFile}
 use Rattle.demands.specs.Outputs.{Laid}
 
 -- Behind its header a file is containers: the configuration, and then events. The Bool says whether the configuration is still to come; that
@@ -27,12 +27,12 @@ abbrev pub contentsIn : Bool → Context
 contentsIn true = entry
 contentsIn false = event none
 
-unfoldable pub readContainer : Bool → ℕ → List ℕ → Res Container
-readContainer = readStructure order containerHead containerLate (λ s at bs. readRecords (contentsIn (s .0)) (at + 8) bs)
+unfoldable pub readContainer : Order → Bool → ℕ → List ℕ → Res Container
+readContainer o = readStructure o containerHead containerLate (λ s at bs. readRecords o (contentsIn (s .0)) (at + 8) bs)
 
 -- Behind any container come events alone.
-unfoldable pub readContainers : Bool → ℕ → List ℕ → Res (List Container)
-readContainers first at bs = readSequence (λ s c. false) containerSize readContainer (length bs) first at bs
+unfoldable pub readContainers : Order → Bool → ℕ → List ℕ → Res (List Container)
+readContainers o first at bs = readSequence (λ s c. false) (containerSize o) (readContainer o) (length bs) first at bs
 
 -- The word may begin a container: it is a configuration's, or an event's without a fault.
 abbrev pub Begins : ℕ → Type 0
@@ -45,15 +45,18 @@ pub record Ready {A : Type 0} (read : ℕ → List ℕ → Res A) (place : ℕ) 
   pub room : place + length part ≤ n
   pub limit : n ≤ fileLimit
 
--- Records or entries, in whatever context; containers, with the configuration or without; a file.
-abbrev pub RecordsReady : ℕ → List ℕ → ℕ → Type 0
-RecordsReady place part n = (c : Context) × Ready (readRecords c) place part n
+-- Records or entries, in whatever context; containers, with the configuration or without; an accepted file of that order.
+abbrev pub RecordsReady : Order → ℕ → List ℕ → ℕ → Type 0
+RecordsReady o place part n = (c : Context) × Ready (readRecords o c) place part n
 
-abbrev pub ContainersReady : ℕ → List ℕ → ℕ → Type 0
-ContainersReady place part n = (first : Bool) × Ready (readContainers first) place part n
+abbrev pub ContainersReady : Order → ℕ → List ℕ → ℕ → Type 0
+ContainersReady o place part n = (first : Bool) × Ready (readContainers o first) place part n
 
-abbrev pub FileReady : List ℕ → ℕ → Type 0
-FileReady file n = Ready (λ place bs. readFile bs) 0 file n
+pub record FileReady (o : Order) (file : List ℕ) (n : ℕ) : Type 0 where
+  pub parts : Parts
+  pub reads : readFile file ≡ ok (o, parts)
+  pub room : 0 + length file ≤ n
+  pub limit : n ≤ fileLimit
 
 -- The part's bytes stand in the output from the place on; all else is as it was.
 abbrev pub Stands : List ℕ → List ℕ → ℕ → List ℕ → Type 0

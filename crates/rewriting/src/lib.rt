@@ -13,6 +13,8 @@ use fields::class_of;
 use fields::event_type_of;
 use note::WriterAnswer;
 use record::FILE_LIMIT;
+use theory::Order;
+use words::order_of;
 use words::word_at;
 ghost use mathlib.Core.Path.{_≡_};
 ghost use lib.ListN.{length};
@@ -23,65 +25,65 @@ ghost use Rattle.demands.specs.Outputs.{HasRoom};
 ghost use Rattle.rewriting.specs.Ready.{Begins, RecordsReady, ContainersReady, FileReady, Stands};
 
 // Writes again the records or entries that fill a part, whose first byte stands at the place in the file and in the output.
-fn copy_records(part: &[u8], out: &mut [u8], place: usize)
-    requires { ⌜ RecordsReady place (now part) (length (now out)) ⌝ }
+fn copy_records(part: &[u8], out: &mut [u8], place: usize, order: Order)
+    requires { ⌜ RecordsReady order place (now part) (length (now out)) ⌝ }
     ensures { λ _. ⌜ Stands (now (part .entry)) (now (out .entry)) place (now (out .exit)) ⌝ }
 {
     let mut rest = part;
     let mut at = place;
     while 0 < rest.len() {
-        let size = 8 + word_at(rest, 4) as usize;
-        copy_record(word_at(rest, 0), &rest[8..size], out, at);
+        let size = 8 + word_at(rest, 4, order) as usize;
+        copy_record(word_at(rest, 0, order), &rest[8..size], out, at, order);
         rest = &rest[size..];
         at = at + size;
     }
 }
 
 // Stores a container's two words in front of contents that end at `end`: a configuration's, or an event's from its class, category and type.
-fn begin_container(out: &mut [u8], place: usize, end: usize, word: u32)
+fn begin_container(out: &mut [u8], place: usize, end: usize, word: u32, order: Order)
     requires room { ⌜ HasRoom (length (now out)) place end ⌝ }
     requires word { ⌜ Begins word ⌝ }
-    ensures { λ _. ⌜ now (out .exit) ≡ sets (now (out .entry)) place (closingBytes word place end) ⌝ }
+    ensures { λ _. ⌜ now (out .exit) ≡ sets (now (out .entry)) place (closingBytes order word place end) ⌝ }
 {
     if word == CONFIGURATION {
-        begin_configuration(out, place, end);
+        begin_configuration(out, place, end, order);
         return;
     }
     let class = class_of(word);
     let category = category_of(word);
     let kind = event_type_of(word);
-    begin_event(out, place, end, class, category, kind);
+    begin_event(out, place, end, class, category, kind, order);
 }
 
 // Writes again the containers that fill a part, the configuration and the events: each one's two words, then its contents. So the output is stored
 // from its first byte to its last.
-fn copy_containers(part: &[u8], out: &mut [u8], place: usize)
-    requires { ⌜ ContainersReady place (now part) (length (now out)) ⌝ }
+fn copy_containers(part: &[u8], out: &mut [u8], place: usize, order: Order)
+    requires { ⌜ ContainersReady order place (now part) (length (now out)) ⌝ }
     ensures { λ _. ⌜ Stands (now (part .entry)) (now (out .entry)) place (now (out .exit)) ⌝ }
 {
     let mut rest = part;
     let mut at = place;
     while 0 < rest.len() {
-        let word = word_at(rest, 0);
-        let size = 8 + word_at(rest, 4) as usize;
+        let word = word_at(rest, 0, order);
+        let size = 8 + word_at(rest, 4, order) as usize;
         let end = at + size;
-        begin_container(out, at, end, word);
-        copy_records(&rest[8..size], out, at + 8);
+        begin_container(out, at, end, word, order);
+        copy_records(&rest[8..size], out, at + 8, order);
         rest = &rest[size..];
         at = end;
     }
 }
 
 // Writes an accepted file again: its header, then its containers.
-fn copy_file(file: &[u8], out: &mut [u8])
-    requires { ⌜ FileReady (now file) (length (now out)) ⌝ }
+fn copy_file(file: &[u8], out: &mut [u8], order: Order)
+    requires { ⌜ FileReady order (now file) (length (now out)) ⌝ }
     ensures { λ _. ⌜ Stands (now (file .entry)) (now (out .entry)) 0 (now (out .exit)) ⌝ }
 {
-    let version = word_at(file, 4);
+    let version = word_at(file, 4, order);
     let major = ((version >> 24) & 255) as u8;
     let minor = ((version >> 16) & 255) as u8;
-    write_header(out, major, minor);
-    copy_containers(&file[8..], out, 8);
+    write_header(out, major, minor, order);
+    copy_containers(&file[8..], out, 8, order);
 }
 
 /// Rewrite: reads an accepted file's fields and writes them from byte 0 on; answers the next place. 1 for either buffer, the file's refusal,
@@ -105,7 +107,7 @@ pub fn rewrite(file: &[u8], out: &mut [u8]) -> WriterAnswer
                     place: 0,
                 };
             }
-            copy_file(file, out);
+            copy_file(file, out, order_of(file));
             WriterAnswer::Next { place: file.len() }
         }
     }

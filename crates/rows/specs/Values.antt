@@ -4,14 +4,15 @@ use mathlib.Core.Bool.{Bool, cond, not, _&&_}
 use mathlib.Core.List.{List}
 use lib.Dec.{leb, eqb}
 use lib.ListN.{length}
+use Rattle.theory.specs.declared.Order.{Order}
 use Rattle.note.specs.History.{historyRule}
 use Rattle.note.specs.Records.{kindOf}
 use Rattle.rows.specs.declared.Values.{Values}
 use Rattle.rows.specs.declared.Standing.{Standing}
 
 -- Row kind and values, from the kind word and the body.
-unfoldable pub valuesOf : ℕ → List ℕ → Values
-valuesOf k b = record { kind = kindOf k .row; one = kindOf k .one b; two = kindOf k .two b }
+unfoldable pub valuesOf : Order → ℕ → List ℕ → Values
+valuesOf o k b = record { kind = kindOf k .row; one = kindOf k .one o b; two = kindOf k .two o b }
 
 -- Where the values stand in the body of a row kind, a history's second apart: that these are the note's words is proved
 -- (proofs/ValueLaws.antt).
@@ -25,8 +26,8 @@ unfoldable pub standingOf : ℕ → Standing
 standingOf k = record { kind = kindOf k .row; one = oneAt (kindOf k .row); two = twoAt (kindOf k .row) }
 
 -- The kind has a row, and the body holds its values: a history's where its rule lets them, any other's end in the body.
-abbrev pub holds : ℕ → List ℕ → Bool
-holds row b = cond (eqb row 8) (eqb (historyRule b) 0) (not (eqb row 0) && leb (twoAt row + 4) (length b))
+abbrev pub holds : Order → ℕ → List ℕ → Bool
+holds o row b = cond (eqb row 8) (eqb (historyRule o b) 0) (not (eqb row 0) && leb (twoAt row + 4) (length b))
 
-unfoldable pub hasValues : ℕ → List ℕ → Bool
-hasValues k b = holds (kindOf k .row) b
+unfoldable pub hasValues : Order → ℕ → List ℕ → Bool
+hasValues o k b = holds o (kindOf k .row) b

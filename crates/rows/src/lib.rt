@@ -9,6 +9,7 @@ use rules::TRACE;
 use rules::TRIGGER;
 use rules::history_rule;
 use rules::section_end;
+use theory::Order;
 use words::word_at;
 ghost use mathlib.Core.Path.{_≡_};
 ghost use mathlib.Core.Bool.{true};
@@ -101,13 +102,13 @@ fn value_places(kind: u32) -> Standing
 }
 
 /// Whether a kind's row has values, and a body holds the words that they are.
-pub fn has_values(kind: u32, b: &[u8]) -> bool
+pub fn has_values(kind: u32, b: &[u8], order: Order) -> bool
     requires { ⌜ length (now b) < 0x100000000 ⌝ }
-    ensures { λ r. ⌜ r ≡ hasValues kind (now (b .entry)) ⌝ }
+    ensures { λ r. ⌜ r ≡ hasValues order kind (now (b .entry)) ⌝ }
 {
     let s = value_places(kind);
     if s.kind == 8 {
-        return history_rule(b) == 0;
+        return history_rule(b, order) == 0;
     }
     if s.kind == 0 {
         return false;
@@ -116,23 +117,23 @@ pub fn has_values(kind: u32, b: &[u8]) -> bool
 }
 
 /// A row's values, from a body that holds them.
-pub fn values_in(kind: u32, b: &[u8]) -> Values
-    requires { ⌜ (hasValues kind (now b) ≡ true) × (length (now b) < 0x100000000) ⌝ }
-    ensures { λ r. ⌜ r ≡ valuesOf kind (now (b .entry)) ⌝ }
+pub fn values_in(kind: u32, b: &[u8], order: Order) -> Values
+    requires { ⌜ (hasValues order kind (now b) ≡ true) × (length (now b) < 0x100000000) ⌝ }
+    ensures { λ r. ⌜ r ≡ valuesOf order kind (now (b .entry)) ⌝ }
 {
     let s = value_places(kind);
     if s.kind == 8 {
-        let middle = section_end(0, b);
+        let middle = section_end(0, b, order);
         return Values {
             kind: s.kind,
-            one: word_at(b, 0),
-            two: word_at(b, middle),
+            one: word_at(b, 0, order),
+            two: word_at(b, middle, order),
         };
     }
     Values {
         kind: s.kind,
-        one: word_at(b, s.one),
-        two: word_at(b, s.two),
+        one: word_at(b, s.one, order),
+        two: word_at(b, s.two, order),
     }
 }
 

@@ -7,6 +7,7 @@ use Prim.Native.Nat.{ℕ, _≤_}
 use native.Mathlib.Omega.{arith}
 use lib.Dec.{leb, eqb}
 use lib.ListN.{length}
+use Rattle.theory.specs.declared.Order.{Order}
 use Rattle.theory.specs.Tests.{unless, first}
 use Rattle.theory.proofs.TestLaws.{first-at, equal-passed, most-passed}
 use Rattle.note.specs.Phonon.{phononRule, phononKind}
@@ -39,9 +40,9 @@ exactly n cs b e = let l : length b ≡ n = equal-passed (length b) n 5 (first-a
 at-least : (n : ℕ) (cs b : List ℕ) → first (unless (leb n (length b)) 6 ∷ cs) ≡ 0 → n ≤ length b
 at-least n cs b e = most-passed n (length b) 5 (first-at _ e 0)
 
-pub long-enough : (k : ℕ) (b : List ℕ) → recordRule k b ≡ 0 → least k ≤ length b
+pub long-enough : (o : Order) (k : ℕ) (b : List ℕ) → recordRule o k b ≡ 0 → least k ≤ length b
 unfolding phononRule chargeRule administrativeRule traceRule historyRule gpsRule triggerRule tlbRule
-long-enough k b =
-    kind-cases (λ w x. x .rule b ≡ 0 → least w ≤ length b) k
+long-enough o k b =
+    kind-cases (λ w x. x .rule o b ≡ 0 → least w ≤ length b) k
     (exactly 44 _ b) (exactly 32 _ b) (exactly 24 _ b) (at-least 48 _ b) (at-least 16 _ b) (exactly 12 _ b) (exactly 28 _ b) (exactly 24 _ b)
     (λ e. absurd (omega arith))

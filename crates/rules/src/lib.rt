@@ -13,6 +13,7 @@ use fields::is_width;
 use fields::or_unless;
 use fields::tlb_fault;
 use fields::unless;
+use theory::Order;
 use words::word_at;
 ghost use mathlib.Core.Path.{_≡_};
 ghost use Prim.Native.Nat.{_+_, _≤_, _<_};
@@ -59,88 +60,88 @@ pub fn charge_fault(code: u32) -> u32
 }
 
 /// A phonon entry's rule.
-pub fn phonon_rule(b: &[u8]) -> u32
-    ensures { λ r. ⌜ r ≡ phononRule (now (b .entry)) ⌝ }
+pub fn phonon_rule(b: &[u8], order: Order) -> u32
+    ensures { λ r. ⌜ r ≡ phononRule order (now (b .entry)) ⌝ }
 {
     if b.len() != 44 {
         return 6;
     }
-    phonon_fault(word_at(b, 0))
+    phonon_fault(word_at(b, 0, order))
 }
 
 /// A charge entry's rule.
-pub fn charge_rule(b: &[u8]) -> u32
-    ensures { λ r. ⌜ r ≡ chargeRule (now (b .entry)) ⌝ }
+pub fn charge_rule(b: &[u8], order: Order) -> u32
+    ensures { λ r. ⌜ r ≡ chargeRule order (now (b .entry)) ⌝ }
 {
     if b.len() != 32 {
         return 6;
     }
-    charge_fault(word_at(b, 0))
+    charge_fault(word_at(b, 0, order))
 }
 
 /// An administrative record's rule.
-pub fn administrative_rule(b: &[u8]) -> u32
-    ensures { λ r. ⌜ r ≡ administrativeRule (now (b .entry)) ⌝ }
+pub fn administrative_rule(b: &[u8], order: Order) -> u32
+    ensures { λ r. ⌜ r ≡ administrativeRule order (now (b .entry)) ⌝ }
 {
     if b.len() != 24 {
         return 6;
     }
-    administrative_fault(word_at(b, 0), word_at(b, 4))
+    administrative_fault(word_at(b, 0, order), word_at(b, 4, order))
 }
 
 // A trace's first inner block: bookkeeping.
-fn bookkeeping_rule(b: &[u8]) -> u32
+fn bookkeeping_rule(b: &[u8], order: Order) -> u32
     requires { ⌜ 48 ≤ length (now b) ⌝ }
-    ensures { λ r. ⌜ r ≡ bookkeepingRule (now (b .entry)) ⌝ }
+    ensures { λ r. ⌜ r ≡ bookkeepingRule order (now (b .entry)) ⌝ }
 {
-    let fault = unless(word_at(b, 0) == 0x11, 5);
-    let fault = or_unless(fault, word_at(b, 4) == 12, 6);
-    let fault = or_unless(fault, is_channel(word_at(b, 12)), 10);
-    or_unless(fault, is_named(word_at(b, 16)), 10)
+    let fault = unless(word_at(b, 0, order) == 0x11, 5);
+    let fault = or_unless(fault, word_at(b, 4, order) == 12, 6);
+    let fault = or_unless(fault, is_channel(word_at(b, 12, order)), 10);
+    or_unless(fault, is_named(word_at(b, 16, order)), 10)
 }
 
 // Its second: the timebase.
-fn timebase_rule(b: &[u8]) -> u32
+fn timebase_rule(b: &[u8], order: Order) -> u32
     requires { ⌜ 48 ≤ length (now b) ⌝ }
-    ensures { λ r. ⌜ r ≡ timebaseRule (now (b .entry)) ⌝ }
+    ensures { λ r. ⌜ r ≡ timebaseRule order (now (b .entry)) ⌝ }
 {
-    let fault = unless(word_at(b, 20) == 0x12, 5);
-    let fault = or_unless(fault, word_at(b, 24) == 12, 6);
-    or_unless(fault, 1 <= word_at(b, 32), 10)
+    let fault = unless(word_at(b, 20, order) == 0x12, 5);
+    let fault = or_unless(fault, word_at(b, 24, order) == 12, 6);
+    or_unless(fault, 1 <= word_at(b, 32, order), 10)
 }
 
 // Its third: the samples' count, the same as the first.
-fn samples_rule(b: &[u8]) -> u32
+fn samples_rule(b: &[u8], order: Order) -> u32
     requires { ⌜ 48 ≤ length (now b) ⌝ }
-    ensures { λ r. ⌜ r ≡ samplesRule (now (b .entry)) ⌝ }
+    ensures { λ r. ⌜ r ≡ samplesRule order (now (b .entry)) ⌝ }
 {
-    let n = word_at(b, 44);
-    let fault = earlier(unless(word_at(b, 40) == 0x13, 5), count_fault(n));
-    or_unless(fault, word_at(b, 36) == n, 11)
+    let n = word_at(b, 44, order);
+    let fault = earlier(unless(word_at(b, 40, order) == 0x13, 5), count_fault(n));
+    or_unless(fault, word_at(b, 36, order) == n, 11)
 }
 
 /// A trace's rule: it reads the first 48 bytes and no sample.
-pub fn trace_rule(b: &[u8]) -> u32
-    ensures { λ r. ⌜ r ≡ traceRule (now (b .entry)) ⌝ }
+pub fn trace_rule(b: &[u8], order: Order) -> u32
+    ensures { λ r. ⌜ r ≡ traceRule order (now (b .entry)) ⌝ }
 {
     if b.len() < 48 {
         return 6;
     }
-    let fault = earlier(bookkeeping_rule(b), timebase_rule(b));
-    let fault = earlier(fault, samples_rule(b));
-    or_unless(fault, b.len() == 48 + 2 * word_at(b, 44) as usize, 6)
+    let fault = earlier(bookkeeping_rule(b, order), timebase_rule(b, order));
+    let fault = earlier(fault, samples_rule(b, order));
+    or_unless(fault, b.len() == 48 + 2 * word_at(b, 44, order) as usize, 6)
 }
 
 // A history section's rule, its count standing at place p.
-fn section_rule(trigger: bool, p: usize, b: &[u8]) -> u32
+fn section_rule(trigger: bool, p: usize, b: &[u8], order: Order) -> u32
     requires { ⌜ (p ≤ 0x7FFFFFFFFFFFFFFF) × (length (now b) < 0x100000000) ⌝ }
-    ensures { λ r. ⌜ r ≡ sectionRule trigger p (now (b .entry)) ⌝ }
+    ensures { λ r. ⌜ r ≡ sectionRule order trigger p (now (b .entry)) ⌝ }
 {
     let room = b.len();
     if room < p + 4 {
         return 6;
     }
-    let times = word_at(b, p);
+    let times = word_at(b, p, order);
     if 0x7FFF_FFFF < times {
         return 10;
     }
@@ -148,26 +149,26 @@ fn section_rule(trigger: bool, p: usize, b: &[u8]) -> u32
     if room < q + 4 {
         return 6;
     }
-    let width = word_at(b, q);
+    let width = word_at(b, q, order);
     let fault = unless(width <= 0x7FFF_FFFF, 10);
     or_unless(fault, is_width(trigger, times, width), 10)
 }
 
 /// Where a section that follows its rule ends.
-pub fn section_end(p: usize, b: &[u8]) -> usize
-    requires { ⌜ (widthAt p (now b) + 4 ≤ length (now b)) × (widthOf p (now b) ≤ 0x7FFFFFFF) × (length (now b) < 0x100000000) ⌝ }
-    ensures { λ r. ⌜ r ≡ after p (now (b .entry)) ⌝ }
+pub fn section_end(p: usize, b: &[u8], order: Order) -> usize
+    requires { ⌜ (widthAt order p (now b) + 4 ≤ length (now b)) × (widthOf order p (now b) ≤ 0x7FFFFFFF) × (length (now b) < 0x100000000) ⌝ }
+    ensures { λ r. ⌜ r ≡ after order p (now (b .entry)) ⌝ }
 {
-    let n = word_at(b, p) as usize;
+    let n = word_at(b, p, order) as usize;
     let q = p + 4 + 4 * n;
-    let w = word_at(b, q) as usize;
+    let w = word_at(b, q, order) as usize;
     q + 4 + 4 * (n * w)
 }
 
 /// A history's rule.
-pub fn history_rule(b: &[u8]) -> u32
+pub fn history_rule(b: &[u8], order: Order) -> u32
     requires { ⌜ length (now b) < 0x100000000 ⌝ }
-    ensures { λ r. ⌜ r ≡ historyRule (now (b .entry)) ⌝ }
+    ensures { λ r. ⌜ r ≡ historyRule order (now (b .entry)) ⌝ }
 {
     let room = b.len();
     if room < 16 {
@@ -176,31 +177,31 @@ pub fn history_rule(b: &[u8]) -> u32
     if room % 4 != 0 {
         return 6;
     }
-    let veto = section_rule(false, 0, b);
+    let veto = section_rule(false, 0, b, order);
     if veto != 0 {
         return veto;
     }
-    let middle = section_end(0, b);
-    let trigger = section_rule(true, middle, b);
+    let middle = section_end(0, b, order);
+    let trigger = section_rule(true, middle, b, order);
     if trigger != 0 {
         return trigger;
     }
-    if room != section_end(middle, b) {
+    if room != section_end(middle, b, order) {
         return 6;
     }
     0
 }
 
 /// A GPS record's rule.
-pub fn gps_rule(b: &[u8]) -> u32
-    ensures { λ r. ⌜ r ≡ gpsRule (now (b .entry)) ⌝ }
+pub fn gps_rule(b: &[u8], order: Order) -> u32
+    ensures { λ r. ⌜ r ≡ gpsRule order (now (b .entry)) ⌝ }
 {
     if b.len() != 12 {
         return 6;
     }
-    let date = word_at(b, 0);
-    let clock = word_at(b, 4);
-    let tenths = word_at(b, 8);
+    let date = word_at(b, 0, order);
+    let clock = word_at(b, 4, order);
+    let tenths = word_at(b, 8, order);
     let digits = gps_digits_fault(date, clock, tenths);
     let fault = gps_fault(
         decimal(4, date >> 16),
@@ -215,49 +216,49 @@ pub fn gps_rule(b: &[u8]) -> u32
 }
 
 /// A trigger record's rule.
-pub fn trigger_rule(b: &[u8]) -> u32
-    ensures { λ r. ⌜ r ≡ triggerRule (now (b .entry)) ⌝ }
+pub fn trigger_rule(b: &[u8], order: Order) -> u32
+    ensures { λ r. ⌜ r ≡ triggerRule order (now (b .entry)) ⌝ }
 {
     if b.len() != 28 {
         return 6;
     }
-    if word_at(b, 0) != 0 {
+    if word_at(b, 0, order) != 0 {
         return 10;
     }
     0
 }
 
 /// A TLB mask's rule.
-pub fn tlb_rule(b: &[u8]) -> u32
-    ensures { λ r. ⌜ r ≡ tlbRule (now (b .entry)) ⌝ }
+pub fn tlb_rule(b: &[u8], order: Order) -> u32
+    ensures { λ r. ⌜ r ≡ tlbRule order (now (b .entry)) ⌝ }
 {
     if b.len() != 24 {
         return 6;
     }
     tlb_fault(
-        word_at(b, 0),
-        word_at(b, 4),
-        word_at(b, 8),
-        word_at(b, 12),
-        word_at(b, 16),
-        word_at(b, 20),
+        word_at(b, 0, order),
+        word_at(b, 4, order),
+        word_at(b, 8, order),
+        word_at(b, 12, order),
+        word_at(b, 16, order),
+        word_at(b, 20, order),
     )
 }
 
 /// The rule of a kind word's kind; 5 for a word that names none.
-pub fn rule(kind: u32, b: &[u8]) -> u32
+pub fn rule(kind: u32, b: &[u8], order: Order) -> u32
     requires { ⌜ length (now b) < 0x100000000 ⌝ }
-    ensures { λ r. ⌜ r ≡ recordRule kind (now (b .entry)) ⌝ }
+    ensures { λ r. ⌜ r ≡ recordRule order kind (now (b .entry)) ⌝ }
 {
     match kind {
-        PHONON => phonon_rule(b),
-        CHARGE => charge_rule(b),
-        ADMINISTRATIVE => administrative_rule(b),
-        TRACE => trace_rule(b),
-        HISTORY => history_rule(b),
-        GPS => gps_rule(b),
-        TRIGGER => trigger_rule(b),
-        TLB => tlb_rule(b),
+        PHONON => phonon_rule(b, order),
+        CHARGE => charge_rule(b, order),
+        ADMINISTRATIVE => administrative_rule(b, order),
+        TRACE => trace_rule(b, order),
+        HISTORY => history_rule(b, order),
+        GPS => gps_rule(b, order),
+        TRIGGER => trigger_rule(b, order),
+        TLB => tlb_rule(b, order),
         _ => 5,
     }
 }

@@ -6,6 +6,7 @@ use mathlib.Core.List.{List}
 use native.Mathlib.Decide.{ℕ-discrete}
 use native.Mathlib.Omega.{arith}
 use lib.ListN.{length}
+use Rattle.theory.specs.declared.Order.{Order}
 use Rattle.theory.specs.Tests.{Res, ok, bad}
 use Rattle.note.specs.Limits.{fileLimit}
 use Rattle.note.specs.Records.{Record}
@@ -15,55 +16,55 @@ use Rattle.answers.proofs.FoundLaws.{Found, good-found}
 use Rattle.samples.proofs.SampleLaws.{no-part, refused-part, empty-part, trace-found, part-found, part-given, cut-long, long, some}
 
 -- What stands at a place, for one who asks for samples: none, or a part within the file.
-pub data Stands (bs : List ℕ) (place : ℕ) : Type 0 where
-  none : samplesPart bs place ≡ (0, 0) → length (samplesAt bs place) ≡ 0 → Stands bs place
-  part : (n : ℕ) → samplesPart bs place ≡ (place + 56, n) → length (samplesAt bs place) ≡ n → 0 < n → place + 56 + n ≤ fileLimit
-      → Stands bs place
+pub data Stands (o : Order) (bs : List ℕ) (place : ℕ) : Type 0 where
+  none : samplesPart o bs place ≡ (0, 0) → length (samplesAt o bs place) ≡ 0 → Stands o bs place
+  part : (n : ℕ) → samplesPart o bs place ≡ (place + 56, n) → length (samplesAt o bs place) ≡ n → 0 < n → place + 56 + n ≤ fileLimit
+      → Stands o bs place
 
-empty : (bs : List ℕ) (place : ℕ) → samplesPart bs place ≡ (0, 0) → Stands bs place
-empty bs place e = none e (ap length (sym (empty-part bs place e)))
+empty : (o : Order) (bs : List ℕ) (place : ℕ) → samplesPart o bs place ≡ (0, 0) → Stands o bs place
+empty o bs place e = none e (ap length (sym (empty-part o bs place e)))
 
 -- A trace that was found stands there with its samples.
-whole : {bs : List ℕ} {place n : ℕ} → Found bs place 0x11 n → Stands bs place
-whole {bs} {place} {n} g =
+whole : {o : Order} {bs : List ℕ} {place n : ℕ} → Found o bs place 0x11 n → Stands o bs place
+whole {o} {bs} {place} {n} g =
     part (n - 48) (part-found g) (ap length (sym (part-given g)) ∙ cut-long g) (some g) (omega (arith, g .fits, g .within, long g))
 
-pub stands : (bs : List ℕ) (place : ℕ) → Stands bs place
+pub stands : (o : Order) (bs : List ℕ) (place : ℕ) → Stands o bs place
 unfolding stepOf
-stands bs place = go (recordFound bs place) refl
+stands o bs place = go (recordFound o bs place) refl
   where
-    go : (r : Res Record) → recordFound bs place ≡ r → Stands bs place
-    go (bad c p) e = empty bs place (refused-part bs place {c = c} {p = p} {s = stepOf (recordFound bs place)} (ap stepOf e) refl)
+    go : (r : Res Record) → recordFound o bs place ≡ r → Stands o bs place
+    go (bad c p) e = empty o bs place (refused-part o bs place {c = c} {p = p} {s = stepOf (recordFound o bs place)} (ap stepOf e) refl)
     go (ok r) e =
-        let g : Found bs place (r .kind) (length (r .body)) = good-found {s = stepOf (recordFound bs place)} (ap stepOf e) refl in
+        let g : Found o bs place (r .kind) (length (r .body)) = good-found {s = stepOf (recordFound o bs place)} (ap stepOf e) refl in
         elim (ℕ-discrete (r .kind) 0x11) [
           | yes t ↦ whole (trace-found g t)
-          | no o ↦ empty bs place (no-part g o)
+          | no other ↦ empty o bs place (no-part g other)
         ]
 
 -- The same as the code asks it: by the length of the part alone.
-module _ (bs : List ℕ) (place : ℕ) {samples : List ℕ} (given : samples ≡ samplesAt bs place) where
-  pub part-length : length samples ≡ samplesPart bs place .1
-  part-length = elim (stands bs place) [
+module _ (o : Order) (bs : List ℕ) (place : ℕ) {samples : List ℕ} (given : samples ≡ samplesAt o bs place) where
+  pub part-length : length samples ≡ samplesPart o bs place .1
+  part-length = elim (stands o bs place) [
     | none e l ↦ rw (given, e) l
     | part n e l s w ↦ rw (given, e) l
   ]
 
-  pub starts-at-none : length samples ≡ 0 → 0 ≡ samplesPart bs place .0
-  starts-at-none z = elim (stands bs place) [
+  pub starts-at-none : length samples ≡ 0 → 0 ≡ samplesPart o bs place .0
+  starts-at-none z = elim (stands o bs place) [
     | none e l ↦ rw e
     | part n e l s w ↦ absurd (omega (arith, z, ap length given, l, s))
   ]
 
   module _ (some : length samples ≡ 0 → ⊥) where
-    pub starts-at-place : place + 56 ≡ samplesPart bs place .0
-    starts-at-place = elim (stands bs place) [
+    pub starts-at-place : place + 56 ≡ samplesPart o bs place .0
+    starts-at-place = elim (stands o bs place) [
       | none e l ↦ absurd (some (ap length given ∙ l))
       | part n e l s w ↦ rw e
     ]
 
     pub place-within : place + 56 ≤ fileLimit
-    place-within = elim (stands bs place) [
+    place-within = elim (stands o bs place) [
       | none e l ↦ absurd (some (ap length given ∙ l))
       | part n e l s w ↦ omega (arith, w)
     ]

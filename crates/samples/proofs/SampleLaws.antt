@@ -7,6 +7,7 @@ use native.Mathlib.Omega.{arith}
 use lib.ListN.{length, take, drop, length-drop}
 use lib.Seq.{drop-drop, length-take-le, take-nil}
 use borrow.Author.Tests.{le-leb, lt-leb, ne-eqb}
+use Rattle.theory.specs.declared.Order.{Order}
 use Rattle.note.specs.Words.{word}
 use Rattle.note.specs.Trace.{traceOf, sampleIn}
 use Rattle.note.specs.Records.{kindOf}
@@ -29,27 +30,27 @@ drop-take (suc a) (suc n) (x ∷ xs) =
     drop-take a n xs ∙ ap (λ (m : ℕ). take m (drop a xs)) e
 
 -- Another kind.
-module _ {bs : List ℕ} {place k n : ℕ} (g : Found bs place k n) (other : k ≡ 0x11 → ⊥) where
-  pub no-part : samplesPart bs place ≡ (0, 0)
+module _ {o : Order} {bs : List ℕ} {place k n : ℕ} (g : Found o bs place k n) (other : k ≡ 0x11 → ⊥) where
+  pub no-part : samplesPart o bs place ≡ (0, 0)
   unfolding samplesPart
   no-part = rw (g .found, ne-eqb k 0x11 other)
 
-  pub no-sample : (m : ℕ) → refused 5 place ≡ sampleAt bs place m
+  pub no-sample : (m : ℕ) → refused 5 place ≡ sampleAt o bs place m
   unfolding sampleAt
   no-sample m = rw (g .found, ne-eqb k 0x11 other)
 
 -- A trace.
-pub trace-found : {bs : List ℕ} {place k n : ℕ} → Found bs place k n → k ≡ 0x11 → Found bs place 0x11 n
-trace-found {bs} {place} {k} {n} g trace = subst (λ (w : ℕ). Found bs place w n) trace g
+pub trace-found : {o : Order} {bs : List ℕ} {place k n : ℕ} → Found o bs place k n → k ≡ 0x11 → Found o bs place 0x11 n
+trace-found {o} {bs} {place} {k} {n} g trace = subst (λ (w : ℕ). Found o bs place w n) trace g
 
-module _ {bs : List ℕ} {place n : ℕ} (g : Found bs place 0x11 n) where
+module _ {o : Order} {bs : List ℕ} {place n : ℕ} (g : Found o bs place 0x11 n) where
   abbrev count : ℕ
-  count = word 44 (bodyAt bs place n)
+  count = word o 44 (bodyAt bs place n)
 
   -- What its rule says of its length and of the number of its samples.
   counted : (length (bodyAt bs place n) ≡ 48 + 2 * count) × (count % 2 ≡ 0) × (2 ≤ count) × (count ≤ 32768)
   unfolding kindOf
-  counted = trace-length (bodyAt bs place n) (g .follows)
+  counted = trace-length o (bodyAt bs place n) (g .follows)
 
   size-of-trace : n ≡ 48 + 2 * count
   size-of-trace = sym (g .size) ∙ counted .0
@@ -60,15 +61,15 @@ module _ {bs : List ℕ} {place n : ℕ} (g : Found bs place 0x11 n) where
   pub some : 0 < n - 48
   some = omega (arith, size-of-trace, counted .2)
 
-  pub part-found : samplesPart bs place ≡ (place + 56, n - 48)
+  pub part-found : samplesPart o bs place ≡ (place + 56, n - 48)
   unfolding samplesPart
   part-found = rw (g .found, g .size)
 
-  pub low : (m : ℕ) → m < 1 → refused 11 place ≡ sampleAt bs place m
+  pub low : (m : ℕ) → m < 1 → refused 11 place ≡ sampleAt o bs place m
   unfolding sampleAt
   low m h = rw (g .found, lt-leb 1 m h)
 
-  pub high : (m : ℕ) → 1 ≤ m → (n - 48) / 2 < m → refused 11 place ≡ sampleAt bs place m
+  pub high : (m : ℕ) → 1 ≤ m → (n - 48) / 2 < m → refused 11 place ≡ sampleAt o bs place m
   unfolding sampleAt traceOf
   high m l h = rw (g .found, le-leb 1 m l, lt-leb m count (omega (arith, size-of-trace, h)))
 
@@ -92,21 +93,21 @@ module _ {bs : List ℕ} {place n : ℕ} (g : Found bs place 0x11 n) where
       let at : place + 8 + 48 ≡ place + 56 = omega arith in
       drop-take 48 n (drop (place + 8) bs) ∙ ap (take (n - 48)) (drop-drop 48 (place + 8) bs ∙ ap (λ (p : ℕ). drop p bs) at)
 
-  pub part-given : cut ≡ samplesAt bs place
+  pub part-given : cut ≡ samplesAt o bs place
   unfolding samplesAt
   part-given = rw (part-found, cut-size)
 
-  pub sample-given : (m : ℕ) → 1 ≤ m → m ≤ (n - 48) / 2 → {v : ℕ} → v ≡ sampleIn cut m
-      → accepted (counts (v ∷ [])) ≡ sampleAt bs place m
+  pub sample-given : (m : ℕ) → 1 ≤ m → m ≤ (n - 48) / 2 → {v : ℕ} → v ≡ sampleIn o cut m
+      → accepted (counts (v ∷ [])) ≡ sampleAt o bs place m
   unfolding sampleAt traceOf
   sample-given m l h e = rw (g .found, le-leb 1 m l, le-leb m count (omega (arith, size-of-trace, h)), e, cut-size, part-bytes)
 
 -- No part: another kind, or a refusal.
-pub refused-part : (bs : List ℕ) (place : ℕ) {c p : ℕ} {s : Step} → s ≡ Bad c p → s ≡ stepOf (recordFound bs place)
-    → samplesPart bs place ≡ (0, 0)
+pub refused-part : (o : Order) (bs : List ℕ) (place : ℕ) {c p : ℕ} {s : Step} → s ≡ Bad c p → s ≡ stepOf (recordFound o bs place)
+    → samplesPart o bs place ≡ (0, 0)
 unfolding samplesPart
-refused-part bs place is gives = rw (step-bad (recordFound bs place) _ _ (sym is ∙ gives))
+refused-part o bs place is gives = rw (step-bad (recordFound o bs place) _ _ (sym is ∙ gives))
 
-pub empty-part : (bs : List ℕ) (place : ℕ) → samplesPart bs place ≡ (0, 0) → [] ≡ samplesAt bs place
+pub empty-part : (o : Order) (bs : List ℕ) (place : ℕ) → samplesPart o bs place ≡ (0, 0) → [] ≡ samplesAt o bs place
 unfolding samplesAt
-empty-part bs place e = rw e
+empty-part o bs place e = rw e

@@ -2,6 +2,7 @@
 use answers::record_found;
 use note::SampleAnswer;
 use record::Step;
+use theory::Order;
 use words::word_at;
 ghost use mathlib.Core.Path.{_≡_};
 ghost use Prim.Native.Nat.{_+_, _-_, _*_, _/_, _≤_};
@@ -11,11 +12,11 @@ ghost use Rattle.note.specs.Trace.{sampleIn};
 ghost use Rattle.note.specs.Calls.{samplesPart, samplesAt, sampleAt};
 
 /// Samples: the part of the caller's own file that holds the samples of the trace at a place; empty where Record finds none.
-pub fn samples<'a>(file: &'a [u8], place: usize) -> &'a [u8]
-    ensures bytes { λ r. ⌜ now r ≡ samplesAt (now (file .entry)) place ⌝ }
-    ensures own { λ r. ⌜ r .ptr ≡ (file .entry .ptr .0, samplesPart (now (file .entry)) place .0 + file .entry .ptr .1) ⌝ }
+pub fn samples<'a>(file: &'a [u8], place: usize, order: Order) -> &'a [u8]
+    ensures bytes { λ r. ⌜ now r ≡ samplesAt order (now (file .entry)) place ⌝ }
+    ensures own { λ r. ⌜ r .ptr ≡ (file .entry .ptr .0, samplesPart order (now (file .entry)) place .0 + file .entry .ptr .1) ⌝ }
 {
-    match record_found(file, place) {
+    match record_found(file, place, order) {
         Step::Good { kind, length } => {
             if kind == rules::TRACE {
                 return &file[place + 56..place + 8 + length];
@@ -30,11 +31,11 @@ pub fn samples<'a>(file: &'a [u8], place: usize) -> &'a [u8]
 }
 
 // The sample with a number from 1 on, of samples that have its word: the lower half of a word is the earlier sample.
-fn sample_of(part: &[u8], number: usize) -> u16
+fn sample_of(part: &[u8], number: usize, order: Order) -> u16
     requires { ⌜ (1 ≤ number) × (4 * ((number - 1) / 2) + 4 ≤ length (now part)) ⌝ }
-    ensures { λ r. ⌜ r ≡ sampleIn (now (part .entry)) number ⌝ }
+    ensures { λ r. ⌜ r ≡ sampleIn order (now (part .entry)) number ⌝ }
 {
-    let w = word_at(part, 4 * ((number - 1) / 2));
+    let w = word_at(part, 4 * ((number - 1) / 2), order);
     if number % 2 == 1 {
         return (w % 65536) as u16;
     }
@@ -43,10 +44,10 @@ fn sample_of(part: &[u8], number: usize) -> u16
 
 /// Sample: the sample with a number, from 1 on, of the trace at a place; Record's refusals, then there 5 for another kind and 11 for a
 /// number out of range.
-pub fn sample(file: &[u8], place: usize, number: usize) -> SampleAnswer
-    ensures { λ r. ⌜ givenSample r ≡ sampleAt (now (file .entry)) place number ⌝ }
+pub fn sample(file: &[u8], place: usize, number: usize, order: Order) -> SampleAnswer
+    ensures { λ r. ⌜ givenSample r ≡ sampleAt order (now (file .entry)) place number ⌝ }
 {
-    match record_found(file, place) {
+    match record_found(file, place, order) {
         Step::Good { kind, length } => {
             if kind != rules::TRACE {
                 return SampleAnswer::Refused { number: 5, place };
@@ -58,7 +59,7 @@ pub fn sample(file: &[u8], place: usize, number: usize) -> SampleAnswer
                 return SampleAnswer::Refused { number: 11, place };
             }
             SampleAnswer::Sample {
-                value: sample_of(&file[place + 56..place + 8 + length], number),
+                value: sample_of(&file[place + 56..place + 8 + length], number, order),
             }
         }
         Step::Bad {

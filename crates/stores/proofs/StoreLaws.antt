@@ -7,9 +7,10 @@ use native.Mathlib.Omega.{arith}
 use native.Mathlib.Numerals.{add-one}
 use lib.ListN.{length, take, drop, getD, set}
 use lib.Seq.{sets, sets-eq, length-take-le, take-add, take-suc, take-append-seam}
+use Rattle.theory.specs.declared.Order.{Order}
 use Rattle.theory.proofs.WordLaws.{length-puts, puts-append}
 use Rattle.theory.proofs.StoreLaws.{sets-append}
-use Rattle.note.specs.Words.{order, words}
+use Rattle.note.specs.Words.{words}
 
 -- Stores from the place behind those before them.
 stored-next : (l : List ℕ) (at next : ℕ) (a b : List ℕ) → at + length a ≡ next → sets (sets l at a) next b ≡ sets l at (a ++ b)
@@ -43,11 +44,11 @@ one-more l s at i h =
     stored-next l at (at + i) (take i s) (getD s i 0 ∷ []) (omega (arith, length-take-le i s (omega arith)))
     ∙ rw (add-one, take-suc s i 0)
 
-pub word-more : (l ws : List ℕ) (at i : ℕ) → i < length ws
-    → sets (sets l at (words (take i ws))) (at + 4 * i) (words (getD ws i 0 ∷ [])) ≡ sets l at (words (take (i + 1) ws))
-word-more l ws at i h =
-    stored-next l at (at + 4 * i) (words (take i ws)) (words (getD ws i 0 ∷ []))
-    (omega (arith, length-puts order 4 (take i ws), length-take-le i ws (omega arith)))
+pub word-more : (o : Order) (l ws : List ℕ) (at i : ℕ) → i < length ws
+    → sets (sets l at (words o (take i ws))) (at + 4 * i) (words o (getD ws i 0 ∷ [])) ≡ sets l at (words o (take (i + 1) ws))
+word-more o l ws at i h =
+    stored-next l at (at + 4 * i) (words o (take i ws)) (words o (getD ws i 0 ∷ []))
+    (omega (arith, length-puts o 4 (take i ws), length-take-le i ws (omega arith)))
     ∙ rw (add-one, take-suc ws i 0, puts-append)
 
 -- What was stored at the front stands there.

@@ -1,7 +1,7 @@
 -- A writer's answer and the output that it leaves: each way through `wrote`, and what an answer tells a writer that was given it.
 -- The idea: a writer's answer determines `wrote`, and `wrote` determines the output; no kind of structure enters.
 use Prim.Native.Nat.{ℕ, zero, suc, _+_, _-_, _≤_, _<_}
-use mathlib.Core.Path.{_≡_, refl, sym, ap, _∙_}
+use mathlib.Core.Path.{_≡_, refl, sym, ap, _∙_, subst}
 use mathlib.Core.List.{List, append-assoc}
 use native.Mathlib.Omega.{arith}
 use lib.Dec.{leb}
@@ -153,3 +153,10 @@ module _ (k : WriterCall) where
         output ∙ written-unasked asked (k .out) (k .place) _ (k .meant .bytes) (λ next g. h (wrote-ok n (k .place) _ _ g .1))
             ∙ ap (λ (x : Res ℕ). written x (k .out) (k .place) (k .meant .bytes)) same,
       )
+
+-- What a writer did with fields it did with the same fields.
+pub same-fields : {F : Type 0} (w : F → Written) (out : List ℕ) (place : ℕ) {f g : F} → f ≡ g → {given : Given} {after : List ℕ}
+    → (given ≡ writerGiven (recordWrote out place (w f))) × (after ≡ recordOutput out place (w f))
+    → (given ≡ writerGiven (recordWrote out place (w g))) × (after ≡ recordOutput out place (w g))
+same-fields w out place e {given} {after} h =
+    subst (λ x. (given ≡ writerGiven (recordWrote out place (w x))) × (after ≡ recordOutput out place (w x))) e h

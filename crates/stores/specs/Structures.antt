@@ -1,14 +1,15 @@
 -- What the writers of records hand on: a structure whose body is words, and bytes behind them.
 use Prim.Native.Nat.{ℕ}
 use mathlib.Core.List.{List, _++_}
+use Rattle.theory.specs.declared.Order.{Order}
 use Rattle.note.specs.Words.{words}
 use Rattle.note.specs.Records.{recordBytes}
 use Rattle.note.specs.Writers.{Written}
 
 -- Its bytes: kind, length, body.
-unfoldable pub structured : ℕ → List ℕ → List ℕ → List ℕ
-structured kind ws bytes = recordBytes (record { kind = kind; body = words ws ++ bytes })
+unfoldable pub structured : Order → ℕ → List ℕ → List ℕ → List ℕ
+structured o kind ws bytes = recordBytes o (record { kind = kind; body = words o ws ++ bytes })
 
 -- A writer of it, of fields with this first fault.
-abbrev pub structureWritten : ℕ → ℕ → List ℕ → List ℕ → Written
-structureWritten fault kind ws bytes = record { fault = fault; bytes = structured kind ws bytes }
+abbrev pub structureWritten : Order → ℕ → ℕ → List ℕ → List ℕ → Written
+structureWritten o fault kind ws bytes = record { fault = fault; bytes = structured o kind ws bytes }

@@ -2,11 +2,14 @@
 // have them.
 use note::WriterAnswer;
 use record::FILE_LIMIT;
+use theory::Order;
+use words::join;
 ghost use mathlib.Core.Path.{_≡_};
 ghost use mathlib.Core.List.{[], _∷_};
 ghost use Prim.Native.Nat.{_+_, _*_, _≤_, _<_};
 ghost use lib.ListN.{length};
 ghost use lib.Seq.{sets};
+ghost use Rattle.theory.specs.Words.{num, bytes, ordered};
 ghost use Rattle.theory.specs.Stores.{HasEach};
 ghost use Rattle.note.specs.Words.{words};
 ghost use Rattle.note.specs.Answers.{givenWriter};
@@ -53,28 +56,44 @@ fn put_each(part: &mut [u8], a: u8, b: u8, c: u8, d: u8)
     part[3] = d;
 }
 
-// Stores a word from a place on.
-fn put_word(out: &mut [u8], at: usize, w: u32)
-    requires { ⌜ at + 4 ≤ length (now out) ⌝ }
-    ensures { λ _. ⌜ now (out .exit) ≡ sets (now (out .entry)) at (words (w ∷ [])) ⌝ }
+// The number whose bytes, the lowest first, are those of w in a file of that order.
+fn turned(w: u32, order: Order) -> u32
+    ensures { λ r. ⌜ r ≡ num (ordered order (bytes 4 w)) ⌝ }
 {
+    match order {
+        Order::Little => w,
+        Order::Big => join(
+            (w / 16777216) as u8,
+            (w / 65536 % 256) as u8,
+            (w / 256 % 256) as u8,
+            (w % 256) as u8,
+        ),
+    }
+}
+
+// Stores a word from a place on.
+fn put_word(out: &mut [u8], at: usize, w: u32, order: Order)
+    requires { ⌜ at + 4 ≤ length (now out) ⌝ }
+    ensures { λ _. ⌜ now (out .exit) ≡ sets (now (out .entry)) at (words order (w ∷ [])) ⌝ }
+{
+    let v = turned(w, order);
     put_each(
         &mut out[at..at + 4],
-        (w % 256) as u8,
-        (w / 256 % 256) as u8,
-        (w / 65536 % 256) as u8,
-        (w / 16777216) as u8,
+        (v % 256) as u8,
+        (v / 256 % 256) as u8,
+        (v / 65536 % 256) as u8,
+        (v / 16777216) as u8,
     );
 }
 
 /// Stores words one after the other, from a place on.
-pub fn put_words(out: &mut [u8], at: usize, ws: &[u32])
+pub fn put_words(out: &mut [u8], at: usize, ws: &[u32], order: Order)
     requires { ⌜ at + 4 * length (now ws) ≤ length (now out) ⌝ }
-    ensures { λ _. ⌜ now (out .exit) ≡ sets (now (out .entry)) at (words (now (ws .entry))) ⌝ }
+    ensures { λ _. ⌜ now (out .exit) ≡ sets (now (out .entry)) at (words order (now (ws .entry))) ⌝ }
 {
     let mut i = 0;
     while i < ws.len() {
-        put_word(out, at + 4 * i, ws[i]);
+        put_word(out, at + 4 * i, ws[i], order);
         i += 1;
     }
 }
@@ -132,13 +151,13 @@ pub fn put_part(out: &mut [u8], at: usize, part: &[u8])
 // ---- structures
 
 // Stores a structure from the part's first byte on: its kind word, its length word, its body's words, and the bytes behind them.
-fn put_structure(part: &mut [u8], kind: u32, ws: &[u32], bytes: &[u8])
+fn put_structure(part: &mut [u8], kind: u32, ws: &[u32], bytes: &[u8], order: Order)
     requires { ⌜ (8 + (4 * length (now ws) + length (now bytes)) ≤ length (now part)) × (length (now part) ≤ 0xFFFFFFFF) ⌝ }
-    ensures { λ _. ⌜ now (part .exit) ≡ sets (now (part .entry)) 0 (structured kind (now (ws .entry)) (now (bytes .entry))) ⌝ }
+    ensures { λ _. ⌜ now (part .exit) ≡ sets (now (part .entry)) 0 (structured order kind (now (ws .entry)) (now (bytes .entry))) ⌝ }
 {
     let words = 4 * ws.len();
-    put_words(part, 0, &[kind, (words + bytes.len()) as u32]);
-    put_words(part, 8, ws);
+    put_words(part, 0, &[kind, (words + bytes.len()) as u32], order);
+    put_words(part, 8, ws, order);
     put_part(part, 8 + words, bytes);
 }
 
@@ -150,14 +169,15 @@ pub fn write_structure(
     kind: u32,
     ws: &[u32],
     bytes: &[u8],
+    order: Order,
 ) -> WriterAnswer
     requires { ⌜ length (now ws) ≤ 12 ⌝ }
-    ensures { λ r. ⌜ Wrote (now (out .entry)) place (structureWritten fault kind (now (ws .entry)) (now (bytes .entry))) r (now (out .exit)) ⌝ }
+    ensures { λ r. ⌜ Wrote (now (out .entry)) place (structureWritten order fault kind (now (ws .entry)) (now (bytes .entry))) r (now (out .exit)) ⌝ }
 {
     match admitted(out.len(), place, fault, 8 + (4 * ws.len() + bytes.len())) {
         WriterAnswer::Refused { number, place } => WriterAnswer::Refused { number, place },
         WriterAnswer::Next { place: next } => {
-            put_structure(&mut out[place..], kind, ws, bytes);
+            put_structure(&mut out[place..], kind, ws, bytes, order);
             WriterAnswer::Next { place: next }
         }
     }

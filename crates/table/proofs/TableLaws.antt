@@ -2,15 +2,17 @@
 -- The idea: the count that check gives is the number of rows, so the code's test is the definition's.
 use Prim.Native.Nat.{ℕ, _*_, _/_, _≤_, _<_}
 use native.Mathlib.Omega.{arith}
-use mathlib.Core.Path.{_≡_, _∙_}
+use mathlib.Core.Path.{_≡_, sym, ap, _∙_}
 use mathlib.Core.List.{List}
 use lib.ListN.{length, length-map}
 use borrow.Author.Tests.{le-leb, lt-leb}
+use Rattle.theory.specs.declared.Order.{Order}
 use Rattle.theory.specs.Tests.{Res, ok, bad}
 use Rattle.theory.proofs.LayoutLaws.{length-rows}
 use Rattle.note.specs.Limits.{rowWidth}
-use Rattle.note.specs.Files.{File, configurationOf, eventsOf, readFile}
+use Rattle.note.specs.Files.{File, orderIn, orderOf, configurationOf, eventsOf, readFile}
 use Rattle.note.specs.Rows.{childOf, nodesOf, rowsOf, tableAnswer, tableBuffer}
+use Rattle.demands.proofs.Follows.{in-its-order}
 use Rattle.containers.specs.declared.Count.the-variants.{Good, Bad}
 use Rattle.containers.specs.Counts.{rowsOfFile, fileRows}
 use Rattle.containers.proofs.ContainerLaws.{count-good, count-bad}
@@ -22,7 +24,8 @@ use Rattle.table.proofs.EventFillLaws.{events-rows}
 -- The count that check gives is the number of rows.
 rows-counted : (f : File) → length (rowsOf f) ≡ rowsOfFile f
 unfolding rowsOf nodesOf
-rows-counted f = length-rows 1 0 (nodesOf f) ∙ omega (arith, length-map (configurationOf f .body) childOf, events-rows (eventsOf f))
+rows-counted f =
+    length-rows 1 0 (nodesOf f) ∙ omega (arith, length-map (configurationOf f .body) (childOf (orderIn f)), events-rows (orderIn f) (eventsOf f))
 
 -- What check's answer says of the file and its rows.
 rows-good : (r : Res File) (n : ℕ) → Good n ≡ fileRows r → (f : File) × (r ≡ ok f) × (length (rowsOf f) ≡ n)
@@ -52,8 +55,11 @@ module _ (bs old : List ℕ) where
         (rw (r, t, s), rw (r, t))
 
     module _ (h : n ≤ length old / 6) where
-      pub fillable : FillableFile bs (length old)
-      fillable = let (f, r, s) = rows-good (readFile bs) n e in record { file = f; reads = r; fits = omega (arith, s) }
+      pub fillable : (o : Order) → o ≡ orderOf bs → FillableFile o bs (length old)
+      fillable o same =
+          let (f, r, s) = rows-good (readFile bs) n e in
+          let is : f ≡ (o, f .1) = in-its-order bs f r ∙ ap (λ (q : Order). (q, f .1)) (sym same) in
+          record { parts = f .1; reads = r ∙ ap ok is; fits = omega (arith, s, ap (λ (g : File). length (rowsOf g)) is) }
 
       pub filled : (new : List ℕ) → FilledFile bs old new
           → (record { number = 0; count = n; place = length bs } ≡ tableAnswer bs (length old)) × (new ≡ tableBuffer bs old)

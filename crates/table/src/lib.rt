@@ -6,6 +6,8 @@ use rows::ROW_WIDTH;
 use rows::Row;
 use rows::put_row;
 use rows::values_in;
+use theory::Order;
+use words::order_of;
 use words::word_at;
 ghost use mathlib.Core.Path.{_≡_};
 ghost use lib.ListN.{length};
@@ -14,16 +16,23 @@ ghost use Rattle.table.specs.Filling.{Fillable, FillableEvents, Fillable
 
 // Stores the rows of the records that fill a part, from the row with the index `first` on, and answers the next row's index. The part
 // was checked, so a record's kind and length words say what stands there.
-fn fill_records(part: &[u8], from: usize, rows: &mut [u32], first: usize, parent: u32) -> usize
-    requires { ⌜ Fillable from (now part) (length (now rows)) first ⌝ }
-    ensures { λ r. ⌜ Filled from (now (part .entry)) (now (rows .entry)) first parent (now (rows .exit)) r ⌝ }
+fn fill_records(
+    part: &[u8],
+    from: usize,
+    rows: &mut [u32],
+    first: usize,
+    parent: u32,
+    order: Order,
+) -> usize
+    requires { ⌜ Fillable order from (now part) (length (now rows)) first ⌝ }
+    ensures { λ r. ⌜ Filled order from (now (part .entry)) (now (rows .entry)) first parent (now (rows .exit)) r ⌝ }
 {
     let mut rest = part;
     let mut at = from;
     let mut n = first;
     while 0 < rest.len() {
-        let size = 8 + word_at(rest, 4) as usize;
-        let v = values_in(word_at(rest, 0), &rest[8..size]);
+        let size = 8 + word_at(rest, 4, order) as usize;
+        let v = values_in(word_at(rest, 0, order), &rest[8..size], order);
         put_row(
             rows,
             n,
@@ -45,16 +54,16 @@ fn fill_records(part: &[u8], from: usize, rows: &mut [u32], first: usize, parent
 
 // Stores the rows of the events that fill a part, from the row with the index `first` on: an event's own after its records', whose
 // count is known then.
-fn fill_events(part: &[u8], from: usize, rows: &mut [u32], first: usize)
-    requires { ⌜ FillableEvents from (now part) (length (now rows)) first ⌝ }
-    ensures { λ _. ⌜ FilledEvents from (now (part .entry)) (now (rows .entry)) first (now (rows .exit)) ⌝ }
+fn fill_events(part: &[u8], from: usize, rows: &mut [u32], first: usize, order: Order)
+    requires { ⌜ FillableEvents order from (now part) (length (now rows)) first ⌝ }
+    ensures { λ _. ⌜ FilledEvents order from (now (part .entry)) (now (rows .entry)) first (now (rows .exit)) ⌝ }
 {
     let mut rest = part;
     let mut at = from;
     let mut n = first;
     while 0 < rest.len() {
-        let size = 8 + word_at(rest, 4) as usize;
-        let next = fill_records(&rest[8..size], at + 8, rows, n + 1, (n + 1) as u32);
+        let size = 8 + word_at(rest, 4, order) as usize;
+        let next = fill_records(&rest[8..size], at + 8, rows, n + 1, (n + 1) as u32, order);
         put_row(
             rows,
             n,
@@ -63,7 +72,7 @@ fn fill_events(part: &[u8], from: usize, rows: &mut [u32], first: usize)
                 start: at as u32,
                 whole: size as u32,
                 parent: 0,
-                one: word_at(rest, 0) % 65536,
+                one: word_at(rest, 0, order) % 65536,
                 two: (next - n - 1) as u32,
             },
         );
@@ -74,11 +83,11 @@ fn fill_events(part: &[u8], from: usize, rows: &mut [u32], first: usize)
 }
 
 // Stores the rows of an accepted file.
-fn fill(file: &[u8], rows: &mut [u32])
-    requires { ⌜ FillableFile (now file) (length (now rows)) ⌝ }
+fn fill(file: &[u8], rows: &mut [u32], order: Order)
+    requires { ⌜ FillableFile order (now file) (length (now rows)) ⌝ }
     ensures { λ _. ⌜ FilledFile (now (file .entry)) (now (rows .entry)) (now (rows .exit)) ⌝ }
 {
-    let size = 8 + word_at(file, 12) as usize;
+    let size = 8 + word_at(file, 12, order) as usize;
     let end = 8 + size;
     put_row(
         rows,
@@ -88,11 +97,11 @@ fn fill(file: &[u8], rows: &mut [u32])
             start: 0,
             whole: 8,
             parent: 0,
-            one: word_at(file, 4),
+            one: word_at(file, 4, order),
             two: 0,
         },
     );
-    let next = fill_records(&file[16..end], 16, rows, 2, 2);
+    let next = fill_records(&file[16..end], 16, rows, 2, 2, order);
     put_row(
         rows,
         1,
@@ -105,7 +114,7 @@ fn fill(file: &[u8], rows: &mut [u32])
             two: 0,
         },
     );
-    fill_events(&file[end..], end, rows, next);
+    fill_events(&file[end..], end, rows, next, order);
 }
 
 /// Table: checks a file and fills its rows, six numbers each, in the lent buffer; answers number, count of rows, place. A refusal
@@ -128,7 +137,7 @@ pub fn table(file: &[u8], rows: &mut [u32]) -> TableAnswer
                     place: file.len(),
                 };
             }
-            fill(file, rows);
+            fill(file, rows, order_of(file));
             TableAnswer {
                 number: 0,
                 count,

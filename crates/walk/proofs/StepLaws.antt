@@ -8,6 +8,7 @@ use native.Mathlib.Omega.{arith}
 use lib.Dec.{leb, eqb}
 use lib.ListN.{length, take, drop}
 use borrow.Author.Tests.{le-leb, lt-leb, lt-ltb, le-ltb, eq-eqb, ne-eqb, leb-true}
+use Rattle.theory.specs.declared.Order.{Order}
 use Rattle.note.specs.Limits.{fileLimit}
 use Rattle.note.specs.Words.{word}
 use Rattle.note.specs.Files.{readFile}
@@ -22,77 +23,77 @@ use Rattle.rows.specs.Values.{hasValues, valuesOf}
 use Rattle.rows.specs.declared.Values.{Values}
 use Rattle.walk.specs.declared.Spot.{Spot}
 use Rattle.walk.specs.Steps.{stands, countFrom, countIn, containerRow, ended, refusedAt, moved, usable, startOf}
-use Rattle.walk.specs.Steps.{headerStep, bodyIn, recordStep, containerStep, stepOf}
+use Rattle.walk.specs.Steps.{headerStep, bodyIn, recordStep, containerStep, stepIn}
 
 -- ---- what stands at the front
 
-pub too-short : (bs : List ℕ) → length bs < 8 → stands bs ≡ false
+pub too-short : (o : Order) (bs : List ℕ) → length bs < 8 → stands o bs ≡ false
 unfolding stands
-too-short bs h = rw (lt-leb 8 (length bs) h)
+too-short o bs h = rw (lt-leb 8 (length bs) h)
 
-pub long-enough : (bs : List ℕ) → 8 ≤ length bs → stands bs ≡ leb (8 + word 4 bs) (length bs)
+pub long-enough : (o : Order) (bs : List ℕ) → 8 ≤ length bs → stands o bs ≡ leb (8 + word o 4 bs) (length bs)
 unfolding stands
-long-enough bs h = rw (le-leb 8 (length bs) h)
+long-enough o bs h = rw (le-leb 8 (length bs) h)
 
-pub too-long : (bs : List ℕ) (n : ℕ) → n ≡ word 4 bs → 8 ≤ length bs → length bs < 8 + n → stands bs ≡ false
-too-long bs n en l h = long-enough bs l ∙ lt-leb (8 + word 4 bs) (length bs) (omega (arith, en))
+pub too-long : (o : Order) (bs : List ℕ) (n : ℕ) → n ≡ word o 4 bs → 8 ≤ length bs → length bs < 8 + n → stands o bs ≡ false
+too-long o bs n en l h = long-enough o bs l ∙ lt-leb (8 + word o 4 bs) (length bs) (omega (arith, en))
 
-pub standing : (bs : List ℕ) → stands bs ≡ true → (8 ≤ length bs) × (8 + word 4 bs ≤ length bs)
+pub standing : (o : Order) (bs : List ℕ) → stands o bs ≡ true → (8 ≤ length bs) × (8 + word o 4 bs ≤ length bs)
 unfolding stands
-standing bs e =
-    let (l, m) = and-eq-true-iff (leb 8 (length bs)) (leb (8 + word 4 bs) (length bs)) .0 e in
-    (leb-true 8 (length bs) l, leb-true (8 + word 4 bs) (length bs) m)
+standing o bs e =
+    let (l, m) = and-eq-true-iff (leb 8 (length bs)) (leb (8 + word o 4 bs) (length bs)) .0 e in
+    (leb-true 8 (length bs) l, leb-true (8 + word o 4 bs) (length bs) m)
 
 -- ---- counting
 
 -- So many structures were counted, and the rest counts on.
-pub record Counting (bs rest : List ℕ) (count : ℕ) : Type 0 where
+pub record Counting (o : Order) (bs rest : List ℕ) (count : ℕ) : Type 0 where
   pub fuel : ℕ
   pub enough : length rest ≤ fuel
-  pub same : count + countFrom fuel rest ≡ countIn bs
+  pub same : count + countFrom o fuel rest ≡ countIn o bs
   pub low : count + length rest ≤ length bs
 
-pub begin : (bs : List ℕ) → Counting bs bs 0
+pub begin : (o : Order) (bs : List ℕ) → Counting o bs bs 0
 unfolding countIn
-begin bs = record { fuel = length bs; enough = omega arith; same = omega arith; low = omega arith }
+begin o bs = record { fuel = length bs; enough = omega arith; same = omega arith; low = omega arith }
 
-module _ {bs rest : List ℕ} {count : ℕ} (i : Counting bs rest count) where
-  pub counted : stands rest ≡ false → count ≡ countIn bs
+module _ {o : Order} {bs rest : List ℕ} {count : ℕ} (i : Counting o bs rest count) where
+  pub counted : stands o rest ≡ false → count ≡ countIn o bs
   unfolding countFrom
   counted e = go (i .fuel) (i .same)
     where
-      go : (f : ℕ) → count + countFrom f rest ≡ countIn bs → count ≡ countIn bs
+      go : (f : ℕ) → count + countFrom o f rest ≡ countIn o bs → count ≡ countIn o bs
       go zero q = omega (arith, q)
-      go (suc f) q = let z : countFrom (suc f) rest ≡ 0 = rw e in omega (arith, q, z)
+      go (suc f) q = let z : countFrom o (suc f) rest ≡ 0 = rw e in omega (arith, q, z)
 
-  pub counts-on : (n : ℕ) → n ≡ word 4 rest → 8 ≤ length rest → 8 + n ≤ length rest → Counting bs (behindOf (8 + n) rest) (count + 1)
+  pub counts-on : (n : ℕ) → n ≡ word o 4 rest → 8 ≤ length rest → 8 + n ≤ length rest → Counting o bs (behindOf (8 + n) rest) (count + 1)
   unfolding countFrom
   counts-on n en l h = go (i .fuel) (i .enough) (i .same)
     where
       next : List ℕ
       next = behindOf (8 + n) rest
 
-      go : (f : ℕ) → length rest ≤ f → count + countFrom f rest ≡ countIn bs → Counting bs next (count + 1)
+      go : (f : ℕ) → length rest ≤ f → count + countFrom o f rest ≡ countIn o bs → Counting o bs next (count + 1)
       go zero m q = absurd (omega arith)
       go (suc f) m q =
           let same : next ≡ drop (8 + n) rest = sym (left (8 + n) rest) in
           let size : length next ≡ length rest - (8 + n) = length-behind (8 + n) rest in
-          let here : stands rest ≡ true = long-enough rest l ∙ le-leb (8 + word 4 rest) (length rest) (omega (arith, en)) in
-          let step : countFrom (suc f) rest ≡ suc (countFrom f next) = rw (here, same, en) in
+          let here : stands o rest ≡ true = long-enough o rest l ∙ le-leb (8 + word o 4 rest) (length rest) (omega (arith, en)) in
+          let step : countFrom o (suc f) rest ≡ suc (countFrom o f next) = rw (here, same, en) in
           record { fuel = f; enough = omega (arith, size); same = omega (arith, q, step); low = omega (arith, size, i .low) }
 
 -- No more are counted than there are bytes.
-few-counted : (bs : List ℕ) → countIn bs ≤ length bs
+few-counted : (o : Order) (bs : List ℕ) → countIn o bs ≤ length bs
 unfolding countIn countFrom
-few-counted bs = go (length bs) bs
+few-counted o bs = go (length bs) bs
   where
     more : (b : Bool) (f n : ℕ) → n ≤ f → cond b (suc n) 0 ≤ suc f
     more true f n h = omega arith
     more false f n h = omega arith
 
-    go : (f : ℕ) (bs : List ℕ) → countFrom f bs ≤ f
+    go : (f : ℕ) (bs : List ℕ) → countFrom o f bs ≤ f
     go zero bs = omega arith
-    go (suc f) bs = more (stands bs) f (countFrom f (drop (8 + word 4 bs) bs)) (go f (drop (8 + word 4 bs) bs))
+    go (suc f) bs = more (stands o bs) f (countFrom o f (drop (8 + word o 4 bs) bs)) (go f (drop (8 + word o 4 bs) bs))
 
 -- ---- the steps
 
@@ -106,85 +107,85 @@ pub opens-accepted : (bs : List ℕ) (n : ℕ) → Good n ≡ fileRows (readFile
 unfolding startOf
 opens-accepted bs n e = let (f, r, s) = count-good rowsOfFile e in rw r
 
-module _ (bs : List ℕ) (at : Spot) where
-  pub header-none : length bs < 8 → ended at ≡ headerStep bs at
+module _ (o : Order) (bs : List ℕ) (at : Spot) where
+  pub header-none : length bs < 8 → ended at ≡ headerStep o bs at
   unfolding headerStep
   header-none h = rw (lt-leb 8 (length bs) h)
 
-  pub header-here : 8 ≤ length bs → (v : ℕ) → v ≡ word 4 bs → moved at 8 8 0 (Row 1 0 8 0 v 0) ≡ headerStep bs at
+  pub header-here : 8 ≤ length bs → (v : ℕ) → v ≡ word o 4 bs → moved at 8 8 0 (Row 1 0 8 0 v 0) ≡ headerStep o bs at
   unfolding headerStep
   header-here h v e = rw (le-leb 8 (length bs) h, e)
 
-  pub record-none : stands bs ≡ false → ended at ≡ recordStep bs at
+  pub record-none : stands o bs ≡ false → ended at ≡ recordStep o bs at
   unfolding recordStep
   record-none e = rw e
 
-  pub container-none : stands bs ≡ false → ended at ≡ containerStep bs at
+  pub container-none : stands o bs ≡ false → ended at ≡ containerStep o bs at
   unfolding containerStep
   container-none e = rw e
 
 -- A structure stands at the front of the bytes, and n is its length word.
-pub record Found (bs : List ℕ) (n : ℕ) : Type 0 where
-  pub is-here : stands bs ≡ true
-  pub length-is : n ≡ word 4 bs
+pub record Found (o : Order) (bs : List ℕ) (n : ℕ) : Type 0 where
+  pub is-here : stands o bs ≡ true
+  pub length-is : n ≡ word o 4 bs
 
-module _ {bs : List ℕ} {n : ℕ} (f : Found bs n) where
+module _ {o : Order} {bs : List ℕ} {n : ℕ} (f : Found o bs n) where
   pub fits : 8 + n ≤ length bs
-  fits = omega (arith, f .length-is, standing bs (f .is-here) .1)
+  fits = omega (arith, f .length-is, standing o bs (f .is-here) .1)
 
-  cut-is : cutBody n bs ≡ bodyIn bs
+  cut-is : cutBody n bs ≡ bodyIn o bs
   cut-is = cut n bs ∙ ap (λ (m : ℕ). take m (drop 8 bs)) (f .length-is)
 
   -- No more children are counted than the container's length word counts bytes.
-  pub few-children : (c : ℕ) → c ≡ countIn (cutBody n bs) → c ≤ n
-  few-children c ec = omega (arith, ec, few-counted (cutBody n bs), cut-length n bs fits)
+  pub few-children : (c : ℕ) → c ≡ countIn o (cutBody n bs) → c ≤ n
+  few-children c ec = omega (arith, ec, few-counted o (cutBody n bs), cut-length n bs fits)
 
-  module _ (at : Spot) (k : ℕ) (ek : k ≡ word 0 bs) where
-    pub record-empty : hasValues k (cutBody n bs) ≡ false → ended at ≡ recordStep bs at
+  module _ (at : Spot) (k : ℕ) (ek : k ≡ word o 0 bs) where
+    pub record-empty : hasValues o k (cutBody n bs) ≡ false → ended at ≡ recordStep o bs at
     unfolding recordStep
-    record-empty h = let h′ : hasValues (word 0 bs) (bodyIn bs) ≡ false = rw (ek, cut-is) at h in rw (f .is-here, h′)
+    record-empty h = let h′ : hasValues o (word o 0 bs) (bodyIn o bs) ≡ false = rw (ek, cut-is) at h in rw (f .is-here, h′)
 
-    pub record-here : hasValues k (cutBody n bs) ≡ true → (v : Values) → v ≡ valuesOf k (cutBody n bs)
+    pub record-here : hasValues o k (cutBody n bs) ≡ true → (v : Values) → v ≡ valuesOf o k (cutBody n bs)
         → moved at (at .place + (8 + n)) (at .end) (at .parent) (Row (v .kind) (at .place) (8 + n) (at .parent) (v .one) (v .two))
-        ≡ recordStep bs at
+        ≡ recordStep o bs at
     unfolding recordStep
     record-here h v ev =
-        let h′ : hasValues (word 0 bs) (bodyIn bs) ≡ true = rw (ek, cut-is) at h in
-        let v′ : v ≡ valuesOf (word 0 bs) (bodyIn bs) = rw (ek, cut-is) at ev in
+        let h′ : hasValues o (word o 0 bs) (bodyIn o bs) ≡ true = rw (ek, cut-is) at h in
+        let v′ : v ≡ valuesOf o (word o 0 bs) (bodyIn o bs) = rw (ek, cut-is) at ev in
         rw (f .is-here, h′, v′, f .length-is)
 
-    pub container-here : (c : ℕ) → c ≡ countIn (cutBody n bs) → (row : WalkerYield) → row ≡ containerRow (at .place) (8 + n) k c
-        → moved at (at .place + 8) (at .place + (8 + n)) (at .rows + 1) row ≡ containerStep bs at
+    pub container-here : (c : ℕ) → c ≡ countIn o (cutBody n bs) → (row : WalkerYield) → row ≡ containerRow (at .place) (8 + n) k c
+        → moved at (at .place + 8) (at .place + (8 + n)) (at .rows + 1) row ≡ containerStep o bs at
     unfolding containerStep
     container-here c ec row er =
-        let c′ : c ≡ countIn (bodyIn bs) = rw cut-is at ec in
+        let c′ : c ≡ countIn o (bodyIn o bs) = rw cut-is at ec in
         rw (f .is-here, er, ek, c′, f .length-is)
 
 -- ---- which step it is
 
-pub step-refused : (bs : List ℕ) (at : Spot) → (at .number ≡ 0 → ⊥) → refusedAt at ≡ stepOf bs at
-unfolding stepOf
-step-refused bs at n = rw (ne-eqb (at .number) 0 n)
+pub step-refused : (o : Order) (bs : List ℕ) (at : Spot) → (at .number ≡ 0 → ⊥) → refusedAt at ≡ stepIn o bs at
+unfolding stepIn
+step-refused o bs at n = rw (ne-eqb (at .number) 0 n)
 
 -- Of an accepted file: a number that fails its test ends the walk, whatever the others are.
-module _ (bs : List ℕ) (at : Spot) (z : at .number ≡ 0) where
-  unusable : usable bs at ≡ false → ended at ≡ stepOf bs at
-  unfolding stepOf
+module _ (o : Order) (bs : List ℕ) (at : Spot) (z : at .number ≡ 0) where
+  unusable : usable bs at ≡ false → ended at ≡ stepIn o bs at
+  unfolding stepIn
   unusable u = rw (eq-eqb (at .number) 0 z, u)
 
-  pub over-limit : fileLimit < length bs → ended at ≡ stepOf bs at
+  pub over-limit : fileLimit < length bs → ended at ≡ stepIn o bs at
   unfolding usable
   over-limit h = unusable (rw (lt-leb (length bs) fileLimit h))
 
-  pub over-rows : fileLimit < at .rows → ended at ≡ stepOf bs at
+  pub over-rows : fileLimit < at .rows → ended at ≡ stepIn o bs at
   unfolding usable
   over-rows h = unusable (rw (lt-leb (at .rows) fileLimit h) (simp and-false))
 
-  pub over-end : length bs < at .end → ended at ≡ stepOf bs at
+  pub over-end : length bs < at .end → ended at ≡ stepIn o bs at
   unfolding usable
   over-end h = unusable (rw (lt-leb (at .end) (length bs) h) (simp and-false))
 
-  pub over-place : length bs < at .place → ended at ≡ stepOf bs at
+  pub over-place : length bs < at .place → ended at ≡ stepIn o bs at
   unfolding usable
   over-place h = unusable (rw (lt-leb (at .place) (length bs) h) (simp and-false))
 
@@ -209,17 +210,18 @@ module _ {bs : List ℕ} {at : Spot} (u : Usable bs at) where
   zero-is : eqb (at .number) 0 ≡ true
   zero-is = eq-eqb (at .number) 0 (u .accepted)
 
-  pub step-header : at .place ≡ 0 → headerStep bs at ≡ stepOf bs at
-  unfolding stepOf
-  step-header h = rw (zero-is, used, eq-eqb (at .place) 0 h)
+module _ (o : Order) {bs : List ℕ} {at : Spot} (u : Usable bs at) where
+  pub step-header : at .place ≡ 0 → headerStep o bs at ≡ stepIn o bs at
+  unfolding stepIn
+  step-header h = rw (zero-is u, used u, eq-eqb (at .place) 0 h)
 
   module _ (h : at .place ≡ 0 → ⊥) where
-    pub step-record : at .place < at .end → recordStep (take (at .end - at .place) (drop (at .place) bs)) at ≡ stepOf bs at
-    unfolding stepOf
-    step-record m = rw (zero-is, used, ne-eqb (at .place) 0 h, lt-ltb (at .place) (at .end) m)
+    pub step-record : at .place < at .end → recordStep o (take (at .end - at .place) (drop (at .place) bs)) at ≡ stepIn o bs at
+    unfolding stepIn
+    step-record m = rw (zero-is u, used u, ne-eqb (at .place) 0 h, lt-ltb (at .place) (at .end) m)
 
-    pub step-container : at .end ≤ at .place → containerStep (behindOf (at .place) bs) at ≡ stepOf bs at
-    unfolding stepOf
+    pub step-container : at .end ≤ at .place → containerStep o (behindOf (at .place) bs) at ≡ stepIn o bs at
+    unfolding stepIn
     step-container m =
         let all : behindOf (at .place) bs ≡ drop (at .place) bs = sym (left (at .place) bs) in
-        rw (zero-is, used, ne-eqb (at .place) 0 h, le-ltb (at .place) (at .end) m, all)
+        rw (zero-is u, used u, ne-eqb (at .place) 0 h, le-ltb (at .place) (at .end) m, all)

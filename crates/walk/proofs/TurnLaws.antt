@@ -6,6 +6,7 @@ use mathlib.Core.List.{List, [], _++_}
 use Prim.Native.Nat.{ℕ, _+_, _-_, _≤_, _<_}
 use native.Mathlib.Omega.{arith}
 use lib.ListN.{length, take, drop}
+use Rattle.theory.specs.declared.Order.{Order}
 use Rattle.theory.specs.Words.{Fits}
 use Rattle.theory.specs.Layout.{childRow}
 use Rattle.note.specs.Limits.{fileLimit}
@@ -21,7 +22,7 @@ use Rattle.rows.specs.Values.{hasValues, valuesOf}
 use Rattle.rows.proofs.ValueLaws.{rule-has-values}
 use Rattle.containers.proofs.RecordLoop.{behindOf, left}
 use Rattle.walk.specs.declared.Spot.{Spot}
-use Rattle.walk.specs.Steps.{countIn, containerRow, stayed, recordStep, containerStep, stepOf, rowYield}
+use Rattle.walk.specs.Steps.{countIn, containerRow, stayed, recordStep, containerStep, stepIn, rowYield}
 use Rattle.walk.proofs.StepLaws.{too-short, header-here, record-here, container-here, container-none}
 use Rattle.walk.proofs.StepLaws.{Usable, step-header, step-record, step-container}
 use Rattle.walk.proofs.FrontLaws.{Front, front, records-counted}
@@ -30,7 +31,7 @@ use Rattle.walk.proofs.FrontLaws.{Front, front, records-counted}
 abbrev pub here : ℕ → ℕ → ℕ → ℕ → WalkerYield → Spot
 here place end parent n y = record { number = 0; fault = 0; place = place; end = end; parent = parent; rows = n; last = y }
 
-module _ (bs : List ℕ) (limit : length bs ≤ fileLimit) where
+module _ (o : Order) (bs : List ℕ) (limit : length bs ≤ fileLimit) where
   -- Within the file the numbers are usable: a row has bytes of its own, so no more rows than bytes lie before a place.
   ready : {place end parent n : ℕ} (y : WalkerYield) → n ≤ place → end ≤ length bs → place ≤ length bs
       → Usable bs (here place end parent n y)
@@ -38,47 +39,49 @@ module _ (bs : List ℕ) (limit : length bs ≤ fileLimit) where
       record { accepted = refl; limit = limit; rows-low = omega arith; end-within = within; place-within = inside }
 
   -- At a record of its container.
-  pub record-turn : (place end parent n : ℕ) (y : WalkerYield) (c : Context) (r : Record) (rest : List ℕ) → ValidRecord c r
-      → take (end - place) (drop place bs) ≡ recordBytes r ++ rest → 1 ≤ place → n ≤ place → place < end → end ≤ length bs
-      → stepOf bs (here place end parent n y) ≡ here (place + recordSize r) end parent (n + 1) (rowYield (childRow parent place (childOf r)))
+  pub record-turn : (place end parent n : ℕ) (y : WalkerYield) (c : Context) (r : Record) (rest : List ℕ) → ValidRecord o c r
+      → take (end - place) (drop place bs) ≡ recordBytes o r ++ rest → 1 ≤ place → n ≤ place → place < end → end ≤ length bs
+      → stepIn o bs (here place end parent n y) ≡ here (place + recordSize r) end parent (n + 1) (rowYield (childRow parent place (childOf o r)))
   unfolding childOf valuesOf
   record-turn place end parent n y c r rest v part one low inside within =
       let at : Spot = here place end parent n y in
-      let p : List ℕ = recordBytes r ++ rest in
-      let w : Front p (r .kind) (r .body) rest = front (λ (b : List ℕ). b) r rest (v .kind-fits) (v .length-fits) in
-      let held : hasValues (r .kind) (cutBody (length (r .body)) p) ≡ true = rw (w .body-is) (rule-has-values (r .kind) (r .body) (v .body-rule)) in
-      let values : valuesOf (r .kind) (r .body) ≡ valuesOf (r .kind) (cutBody (length (r .body)) p) = ap (valuesOf (r .kind)) (sym (w .body-is)) in
-      sym (step-record (ready y low within (omega arith)) (λ z. absurd (omega arith)) inside)
-      ∙ ap (λ (x : List ℕ). recordStep x at) part
-      ∙ sym (record-here (w .found) at (r .kind) (w .kind-is) held (valuesOf (r .kind) (r .body)) values)
+      let p : List ℕ = recordBytes o r ++ rest in
+      let w : Front o p (r .kind) (r .body) rest = front o (λ (b : List ℕ). b) r rest (v .kind-fits) (v .length-fits) in
+      let held : hasValues o (r .kind) (cutBody (length (r .body)) p) ≡ true =
+      rw (w .body-is) (rule-has-values o (r .kind) (r .body) (v .body-rule)) in
+      let values : valuesOf o (r .kind) (r .body) ≡ valuesOf o (r .kind) (cutBody (length (r .body)) p) =
+      ap (valuesOf o (r .kind)) (sym (w .body-is)) in
+      sym (step-record o (ready y low within (omega arith)) (λ z. absurd (omega arith)) inside)
+      ∙ ap (λ (x : List ℕ). recordStep o x at) part
+      ∙ sym (record-here (w .found) at (r .kind) (w .kind-is) held (valuesOf o (r .kind) (r .body)) values)
 
   -- At a container: the configuration, at byte 8, or an event.
   pub container-turn : (place end parent n : ℕ) (y : WalkerYield) (inner : Context) (c : Container) (rest : List ℕ)
-      → Fits 4 (c .kind) → Fits 4 (length (recordsBytes (c .body))) → ValidRecords inner (c .body)
-      → drop place bs ≡ containerBytes c ++ rest → 1 ≤ place → n ≤ place → end ≤ place → place ≤ length bs
-      → stepOf bs (here place end parent n y)
-      ≡ here (place + 8) (place + containerSize c) (n + 1) (n + 1) (containerRow place (containerSize c) (c .kind) (length (c .body)))
+      → Fits 4 (c .kind) → Fits 4 (length (recordsBytes o (c .body))) → ValidRecords o inner (c .body)
+      → drop place bs ≡ containerBytes o c ++ rest → 1 ≤ place → n ≤ place → end ≤ place → place ≤ length bs
+      → stepIn o bs (here place end parent n y)
+      ≡ here (place + 8) (place + containerSize o c) (n + 1) (n + 1) (containerRow place (containerSize o c) (c .kind) (length (c .body)))
   container-turn place end parent n y inner c rest hk hn v part one low inner-end within =
       let at : Spot = here place end parent n y in
-      let w = front recordsBytes c rest hk hn in
-      let count : countIn (cutBody (length (recordsBytes (c .body))) (containerBytes c ++ rest)) ≡ length (c .body) =
-      ap countIn (w .body-is) ∙ records-counted inner (c .body) v in
-      sym (step-container (ready y low (omega arith) within) (λ z. absurd (omega arith)) inner-end)
-      ∙ ap (λ (x : List ℕ). containerStep x at) (sym (left place bs) ∙ part)
+      let w = front o (recordsBytes o) c rest hk hn in
+      let count : countIn o (cutBody (length (recordsBytes o (c .body))) (containerBytes o c ++ rest)) ≡ length (c .body) =
+      ap (countIn o) (w .body-is) ∙ records-counted o inner (c .body) v in
+      sym (step-container o (ready y low (omega arith) within) (λ z. absurd (omega arith)) inner-end)
+      ∙ ap (λ (x : List ℕ). containerStep o x at) (sym (left place bs) ∙ part)
       ∙ sym (container-here (w .found) at (c .kind) (w .kind-is) (length (c .body)) (sym count) _ refl)
 
   -- At the header.
-  pub header-turn : (v : ℕ) → v ≡ word 4 bs → 8 ≤ length bs → stepOf bs (here 0 0 0 0 End) ≡ here 8 8 0 1 (Row 1 0 8 0 v 0)
+  pub header-turn : (v : ℕ) → v ≡ word o 4 bs → 8 ≤ length bs → stepIn o bs (here 0 0 0 0 End) ≡ here 8 8 0 1 (Row 1 0 8 0 v 0)
   header-turn v e h =
-      sym (step-header (ready End (omega arith) (omega arith) (omega arith)) refl) ∙ sym (header-here bs (here 0 0 0 0 End) h v e)
+      sym (step-header o (ready End (omega arith) (omega arith) (omega arith)) refl) ∙ sym (header-here o bs (here 0 0 0 0 End) h v e)
 
   -- At the end of the file.
   pub end-turn : (end parent n : ℕ) (y : WalkerYield) → 1 ≤ length bs → n ≤ length bs → end ≤ length bs
-      → stepOf bs (here (length bs) end parent n y) ≡ here (length bs) end parent n End
+      → stepIn o bs (here (length bs) end parent n y) ≡ here (length bs) end parent n End
   unfolding stayed
   end-turn end parent n y one low within =
       let rest : List ℕ = behindOf (length bs) bs in
       let none : length bs - length bs ≡ 0 = omega arith in
       let empty : rest ≡ [] = ap (λ (m : ℕ). take m (drop (length bs) bs)) none in
-      sym (step-container (ready y low within (omega arith)) (λ z. absurd (omega arith)) within)
-      ∙ sym (container-none rest (here (length bs) end parent n y) (too-short rest (omega (arith, ap length empty))))
+      sym (step-container o (ready y low within (omega arith)) (λ z. absurd (omega arith)) within)
+      ∙ sym (container-none o rest (here (length bs) end parent n y) (too-short o rest (omega (arith, ap length empty))))

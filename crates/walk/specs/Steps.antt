@@ -6,27 +6,28 @@ use mathlib.Core.Path.{_≡_}
 use mathlib.Core.List.{List, [], _∷_}
 use lib.Dec.{leb, ltb, eqb}
 use lib.ListN.{length, take, drop}
+use Rattle.theory.specs.declared.Order.{Order}
 use Rattle.theory.specs.Tests.{Res, ok, bad}
 use Rattle.theory.specs.Layout as Layout
 use Rattle.note.specs.Limits.{fileLimit}
 use Rattle.note.specs.Words.{word}
-use Rattle.note.specs.Files.{File, readFile}
+use Rattle.note.specs.Files.{File, orderOf, readFile}
 use Rattle.note.specs.declared.WalkerYield.{WalkerYield}
 use Rattle.note.specs.declared.WalkerYield.the-variants.{Row, End, Refused}
 use Rattle.rows.specs.Values.{hasValues, valuesOf}
 use Rattle.walk.specs.declared.Spot.{Spot}
 
 -- A structure's two words stand at the front of the bytes, and its length lies within them.
-unfoldable pub stands : List ℕ → Bool
-stands bs = leb 8 (length bs) && leb (8 + word 4 bs) (length bs)
+unfoldable pub stands : Order → List ℕ → Bool
+stands o bs = leb 8 (length bs) && leb (8 + word o 4 bs) (length bs)
 
 -- Structures back to back, by their length words alone; the first number only bounds the steps.
-unfoldable pub countFrom : ℕ → List ℕ → ℕ
-countFrom zero bs = 0
-countFrom (suc f) bs = cond (stands bs) (suc (countFrom f (drop (8 + word 4 bs) bs))) 0
+unfoldable pub countFrom : Order → ℕ → List ℕ → ℕ
+countFrom o zero bs = 0
+countFrom o (suc f) bs = cond (stands o bs) (suc (countFrom o f (drop (8 + word o 4 bs) bs))) 0
 
-unfoldable pub countIn : List ℕ → ℕ
-countIn bs = countFrom (length bs) bs
+unfoldable pub countIn : Order → List ℕ → ℕ
+countIn o bs = countFrom o (length bs) bs
 
 -- "Configuration .. at byte 8": its row and an event's.
 unfoldable pub containerRow : ℕ → ℕ → ℕ → ℕ → WalkerYield
@@ -55,44 +56,48 @@ moved at place end parent row = record {
 }
 
 -- The header's row; a record's, at the front of what is left of its container; a container's, of what is left of the file.
-unfoldable pub headerStep : List ℕ → Spot → Spot
-headerStep bs at = cond (leb 8 (length bs)) (moved at 8 8 0 (Row 1 0 8 0 (word 4 bs) 0)) (ended at)
+unfoldable pub headerStep : Order → List ℕ → Spot → Spot
+headerStep o bs at = cond (leb 8 (length bs)) (moved at 8 8 0 (Row 1 0 8 0 (word o 4 bs) 0)) (ended at)
 
-abbrev pub bodyIn : List ℕ → List ℕ
-bodyIn bs = take (word 4 bs) (drop 8 bs)
+abbrev pub bodyIn : Order → List ℕ → List ℕ
+bodyIn o bs = take (word o 4 bs) (drop 8 bs)
 
-abbrev pub recordRow : List ℕ → Spot → WalkerYield
-recordRow bs at =
-    Row (valuesOf (word 0 bs) (bodyIn bs) .kind) (at .place) (8 + word 4 bs) (at .parent)
-    (valuesOf (word 0 bs) (bodyIn bs) .one) (valuesOf (word 0 bs) (bodyIn bs) .two)
+abbrev pub recordRow : Order → List ℕ → Spot → WalkerYield
+recordRow o bs at =
+    Row (valuesOf o (word o 0 bs) (bodyIn o bs) .kind) (at .place) (8 + word o 4 bs) (at .parent)
+    (valuesOf o (word o 0 bs) (bodyIn o bs) .one) (valuesOf o (word o 0 bs) (bodyIn o bs) .two)
 
-unfoldable pub recordStep : List ℕ → Spot → Spot
-recordStep bs at =
-    cond (stands bs)
-    (cond (hasValues (word 0 bs) (bodyIn bs)) (moved at (at .place + (8 + word 4 bs)) (at .end) (at .parent) (recordRow bs at)) (ended at))
+unfoldable pub recordStep : Order → List ℕ → Spot → Spot
+recordStep o bs at =
+    cond (stands o bs)
+    (cond (hasValues o (word o 0 bs) (bodyIn o bs)) (moved at (at .place + (8 + word o 4 bs)) (at .end) (at .parent) (recordRow o bs at)) (ended at))
     (ended at)
 
-unfoldable pub containerStep : List ℕ → Spot → Spot
-containerStep bs at =
-    cond (stands bs)
-    (moved at (at .place + 8) (at .place + (8 + word 4 bs)) (at .rows + 1)
-    (containerRow (at .place) (8 + word 4 bs) (word 0 bs) (countIn (bodyIn bs))))
+unfoldable pub containerStep : Order → List ℕ → Spot → Spot
+containerStep o bs at =
+    cond (stands o bs)
+    (moved at (at .place + 8) (at .place + (8 + word o 4 bs)) (at .rows + 1)
+    (containerRow (at .place) (8 + word o 4 bs) (word o 0 bs) (countIn o (bodyIn o bs))))
     (ended at)
 
 -- Numbers that a walk over this file can have.
 unfoldable pub usable : List ℕ → Spot → Bool
 usable bs at = leb (length bs) fileLimit && (leb (at .rows) fileLimit && (leb (at .end) (length bs) && leb (at .place) (length bs)))
 
--- One step. "Over a refused file it yields that refusal each time."
-unfoldable pub stepOf : List ℕ → Spot → Spot
-stepOf bs at =
+-- One step, over a file whose words are of that order. "Over a refused file it yields that refusal each time."
+unfoldable pub stepIn : Order → List ℕ → Spot → Spot
+stepIn o bs at =
     cond (eqb (at .number) 0)
     (cond (usable bs at)
-    (cond (eqb (at .place) 0) (headerStep bs at)
-    (cond (ltb (at .place) (at .end)) (recordStep (take (at .end - at .place) (drop (at .place) bs)) at)
-    (containerStep (drop (at .place) bs) at)))
+    (cond (eqb (at .place) 0) (headerStep o bs at)
+    (cond (ltb (at .place) (at .end)) (recordStep o (take (at .end - at .place) (drop (at .place) bs)) at)
+    (containerStep o (drop (at .place) bs) at)))
     (ended at))
     (refusedAt at)
+
+-- One step, in the order that the file's bytes show.
+unfoldable pub stepOf : List ℕ → Spot → Spot
+stepOf bs at = stepIn (orderOf bs) bs at
 
 -- Where a walk starts, and its first yield: "walkers come only from opening a file and from yields".
 abbrev pub startGiven : Res File → Spot

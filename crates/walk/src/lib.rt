@@ -6,11 +6,13 @@ use note::WalkerYield;
 use record::FILE_LIMIT;
 use rows::has_values;
 use rows::values_in;
+use theory::Order;
+use words::order_of;
 use words::word_at;
 ghost use mathlib.Core.Path.{_≡_};
 ghost use Prim.Native.Nat.{_+_, _≤_};
 ghost use lib.ListN.{length};
-ghost use Rattle.walk.specs.Steps.{stands, countIn, containerRow, stayed, headerStep, recordStep, containerStep, stepOf, startOf, openedOf};
+ghost use Rattle.walk.specs.Steps.{stands, countIn, containerRow, stayed, headerStep, recordStep, containerStep, stepIn, stepOf, startOf, openedOf};
 
 /// Where a walk stands: the file's refusal (number 0: accepted) and its place, the next byte, the end of the container that it is in,
 /// that container's row number, the rows so far, and what was yielded last.
@@ -25,23 +27,23 @@ pub struct Spot {
 }
 
 // Whether a structure's two words stand at the front of a part, and its length lies within it.
-fn stands(part: &[u8]) -> bool
-    ensures { λ r. ⌜ r ≡ stands (now (part .entry)) ⌝ }
+fn stands(part: &[u8], order: Order) -> bool
+    ensures { λ r. ⌜ r ≡ stands order (now (part .entry)) ⌝ }
 {
     if part.len() < 8 {
         return false;
     }
-    8 + word_at(part, 4) as usize <= part.len()
+    8 + word_at(part, 4, order) as usize <= part.len()
 }
 
 // How many structures stand back to back in a part, by their length words.
-fn count_in(part: &[u8]) -> usize
-    ensures { λ r. ⌜ r ≡ countIn (now (part .entry)) ⌝ }
+fn count_in(part: &[u8], order: Order) -> usize
+    ensures { λ r. ⌜ r ≡ countIn order (now (part .entry)) ⌝ }
 {
     let mut rest = part;
     let mut count = 0;
     while 8 <= rest.len() {
-        let size = 8 + word_at(rest, 4) as usize;
+        let size = 8 + word_at(rest, 4, order) as usize;
         if rest.len() < size {
             return count;
         }
@@ -92,9 +94,9 @@ fn stayed(at: Spot, last: WalkerYield) -> Spot
 }
 
 // The header's step.
-fn header_step(file: &[u8], at: Spot) -> Spot
+fn header_step(file: &[u8], at: Spot, order: Order) -> Spot
     requires { ⌜ at .rows ≤ 0x1000000 ⌝ }
-    ensures { λ r. ⌜ r ≡ headerStep (now (file .entry)) at ⌝ }
+    ensures { λ r. ⌜ r ≡ headerStep order (now (file .entry)) at ⌝ }
 {
     if file.len() < 8 {
         return stayed(at, WalkerYield::End);
@@ -111,26 +113,26 @@ fn header_step(file: &[u8], at: Spot) -> Spot
             start: 0,
             whole: 8,
             parent: 0,
-            one: word_at(file, 4),
+            one: word_at(file, 4, order),
             two: 0,
         },
     }
 }
 
 // A record's step, at the front of what is left of its container.
-fn record_step(part: &[u8], at: Spot) -> Spot
+fn record_step(part: &[u8], at: Spot, order: Order) -> Spot
     requires { ⌜ (at .place + length (now part) ≤ 0x1000000) × (at .rows ≤ 0x1000000) ⌝ }
-    ensures { λ r. ⌜ r ≡ recordStep (now (part .entry)) at ⌝ }
+    ensures { λ r. ⌜ r ≡ recordStep order (now (part .entry)) at ⌝ }
 {
-    if !stands(part) {
+    if !stands(part, order) {
         return stayed(at, WalkerYield::End);
     }
-    let kind = word_at(part, 0);
-    let size = 8 + word_at(part, 4) as usize;
-    if !has_values(kind, &part[8..size]) {
+    let kind = word_at(part, 0, order);
+    let size = 8 + word_at(part, 4, order) as usize;
+    if !has_values(kind, &part[8..size], order) {
         return stayed(at, WalkerYield::End);
     }
-    let v = values_in(kind, &part[8..size]);
+    let v = values_in(kind, &part[8..size], order);
     Spot {
         number: at.number,
         fault: at.fault,
@@ -150,16 +152,16 @@ fn record_step(part: &[u8], at: Spot) -> Spot
 }
 
 // A configuration's or an event's step, at the front of what is left of the file.
-fn container_step(part: &[u8], at: Spot) -> Spot
+fn container_step(part: &[u8], at: Spot, order: Order) -> Spot
     requires { ⌜ (at .place + length (now part) ≤ 0x1000000) × (at .rows ≤ 0x1000000) ⌝ }
-    ensures { λ r. ⌜ r ≡ containerStep (now (part .entry)) at ⌝ }
+    ensures { λ r. ⌜ r ≡ containerStep order (now (part .entry)) at ⌝ }
 {
-    if !stands(part) {
+    if !stands(part, order) {
         return stayed(at, WalkerYield::End);
     }
-    let size = 8 + word_at(part, 4) as usize;
-    let count = count_in(&part[8..size]);
-    let row = container_row(at.place, size as u32, word_at(part, 0), count as u32);
+    let size = 8 + word_at(part, 4, order) as usize;
+    let count = count_in(&part[8..size], order);
+    let row = container_row(at.place, size as u32, word_at(part, 0, order), count as u32);
     Spot {
         number: at.number,
         fault: at.fault,
@@ -171,9 +173,10 @@ fn container_step(part: &[u8], at: Spot) -> Spot
     }
 }
 
-/// One step: the row at the spot is yielded and the walk moves on; at the end and over a refused file it stays.
-pub fn step(file: &[u8], at: Spot) -> Spot
-    ensures { λ r. ⌜ r ≡ stepOf (now (file .entry)) at ⌝ }
+// One step over a file whose words are of that order: the row at the spot is yielded and the walk moves on; at the end and over a refused
+// file it stays.
+fn step_in(file: &[u8], at: Spot, order: Order) -> Spot
+    ensures { λ r. ⌜ r ≡ stepIn order (now (file .entry)) at ⌝ }
 {
     let room = file.len();
     let place = at.place;
@@ -198,12 +201,19 @@ pub fn step(file: &[u8], at: Spot) -> Spot
         return stayed(at, WalkerYield::End);
     }
     if place == 0 {
-        return header_step(file, at);
+        return header_step(file, at, order);
     }
     if place < end {
-        return record_step(&file[place..end], at);
+        return record_step(&file[place..end], at, order);
     }
-    container_step(&file[place..], at)
+    container_step(&file[place..], at, order)
+}
+
+/// One step, in the order that the file's first bytes show.
+pub fn step(file: &[u8], at: Spot) -> Spot
+    ensures { λ r. ⌜ r ≡ stepOf (now (file .entry)) at ⌝ }
+{
+    step_in(file, at, order_of(file))
 }
 
 /// Where a walk over a file starts: the whole file is checked, once.

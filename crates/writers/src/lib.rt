@@ -22,6 +22,7 @@ use stores::admitted;
 use stores::put_part;
 use stores::put_words;
 use stores::write_structure;
+use theory::Order;
 ghost use mathlib.Core.Path.{_≡_};
 ghost use mathlib.Core.List.{[], map};
 ghost use Prim.Native.Nat.{_+_, _*_, _%_, _^_, _≤_, _<_};
@@ -49,13 +50,21 @@ fn put_signed(ws: &mut [u32], fields: &[i32])
 }
 
 // Writes an entry of this kind word from its signed fields, which have this fault.
-fn write_entry(out: &mut [u8], place: usize, fault: u32, kind: u32, fields: &[i32]) -> WriterAnswer
+fn write_entry(
+    out: &mut [u8],
+    place: usize,
+    fault: u32,
+    kind: u32,
+    fields: &[i32],
+    order: Order,
+) -> WriterAnswer
     requires { ⌜ length (now fields) ≤ 11 ⌝ }
-    ensures { λ r. ⌜ Wrote (now (out .entry)) place (structureWritten fault kind (map unsigned (now (fields .entry))) []) r (now (out .exit)) ⌝ }
+    ensures { λ r. ⌜ Wrote (now (out .entry)) place (structureWritten order fault kind (map unsigned (now (fields .entry))) [])
+        r (now (out .exit)) ⌝ }
 {
     let mut ws = [0u32; 11];
     put_signed(&mut ws, fields);
-    write_structure(out, place, fault, kind, &ws[..fields.len()], &[])
+    write_structure(out, place, fault, kind, &ws[..fields.len()], &[], order)
 }
 
 /// Writes a phonon entry: detector code, tower, gain x100, QET bias x100, SQUID bias x100, lockpoint x100, RTF offset, variable gain,
@@ -74,8 +83,9 @@ pub fn write_phonon(
     delta_t: i32,
     t0: i32,
     trace_length: i32,
+    order: Order,
 ) -> WriterAnswer
-    ensures { λ r. ⌜ Wrote (now (out .entry)) place (phononWritten (record {
+    ensures { λ r. ⌜ Wrote (now (out .entry)) place (phononWritten order (record {
       code = code;
       tower = tower;
       gain = gain;
@@ -107,6 +117,7 @@ pub fn write_phonon(
             t0,
             trace_length,
         ],
+        order,
     )
 }
 
@@ -122,8 +133,9 @@ pub fn write_charge(
     delta_t: i32,
     t0: i32,
     trace_length: i32,
+    order: Order,
 ) -> WriterAnswer
-    ensures { λ r. ⌜ Wrote (now (out .entry)) place (chargeWritten (record {
+    ensures { λ r. ⌜ Wrote (now (out .entry)) place (chargeWritten order (record {
       code = code;
       tower = tower;
       gain = gain;
@@ -149,6 +161,7 @@ pub fn write_charge(
             t0,
             trace_length,
         ],
+        order,
     )
 }
 
@@ -164,8 +177,9 @@ pub fn write_administrative(
     time: u32,
     since: u32,
     live: u32,
+    order: Order,
 ) -> WriterAnswer
-    ensures { λ r. ⌜ Wrote (now (out .entry)) place (administrativeWritten (record {
+    ensures { λ r. ⌜ Wrote (now (out .entry)) place (administrativeWritten order (record {
       date = date;
       clock = clock;
       number = number;
@@ -181,6 +195,7 @@ pub fn write_administrative(
         ADMINISTRATIVE,
         &[date, clock, number, time, since, live],
         &[],
+        order,
     )
 }
 
@@ -197,8 +212,9 @@ pub fn write_trace(
     delta_t: u32,
     n: u32,
     samples: &[u8],
+    order: Order,
 ) -> WriterAnswer
-    ensures { λ r. ⌜ Wrote (now (out .entry)) place (traceWritten (record {
+    ensures { λ r. ⌜ Wrote (now (out .entry)) place (traceWritten order (record {
       address = address;
       channel = channel;
       code = code;
@@ -229,6 +245,7 @@ pub fn write_trace(
             n,
         ],
         samples,
+        order,
     )
 }
 
@@ -246,9 +263,17 @@ fn history_size(fault: u32, a: usize, b: usize, c: usize, d: usize) -> usize
 }
 
 // Stores a history section from a place on.
-fn put_section(part: &mut [u8], at: usize, count: u32, times: &[u8], width: u32, masks: &[u8])
+fn put_section(
+    part: &mut [u8],
+    at: usize,
+    count: u32,
+    times: &[u8],
+    width: u32,
+    masks: &[u8],
+    order: Order,
+)
     requires { ⌜ at + (8 + (length (now times) + length (now masks))) ≤ length (now part) ⌝ }
-    ensures { λ _. ⌜ now (part .exit) ≡ sets (now (part .entry)) at (sectionBytes (record {
+    ensures { λ _. ⌜ now (part .exit) ≡ sets (now (part .entry)) at (sectionBytes order (record {
       count = count;
       times = now (times .entry);
       width = width;
@@ -256,9 +281,9 @@ fn put_section(part: &mut [u8], at: usize, count: u32, times: &[u8], width: u32,
     })) ⌝ }
 {
     let middle = at + 4 + times.len();
-    put_words(part, at, &[count]);
+    put_words(part, at, &[count], order);
     put_part(part, at + 4, times);
-    put_words(part, middle, &[width]);
+    put_words(part, middle, &[width], order);
     put_part(part, middle + 4, masks);
 }
 
@@ -273,11 +298,12 @@ fn put_history(
     trigger_times: &[u8],
     trigger_width: u32,
     trigger_masks: &[u8],
+    order: Order,
 )
     requires { ⌜ (24 + ((length (now «veto_times») + length (now «veto_masks»))
         + (length (now «trigger_times») + length (now «trigger_masks»))) ≤ length (now part))
         × (length (now part) ≤ 0xFFFFFFFF) ⌝ }
-    ensures { λ _. ⌜ now (part .exit) ≡ sets (now (part .entry)) 0 (historyWritten (record {
+    ensures { λ _. ⌜ now (part .exit) ≡ sets (now (part .entry)) 0 (historyWritten order (record {
       veto = record {
         count = «veto_count»;
         times = now («veto_times» .entry);
@@ -294,8 +320,16 @@ fn put_history(
 {
     let veto = 8 + (veto_times.len() + veto_masks.len());
     let trigger = 8 + (trigger_times.len() + trigger_masks.len());
-    put_words(part, 0, &[HISTORY, (veto + trigger) as u32]);
-    put_section(part, 8, veto_count, veto_times, veto_width, veto_masks);
+    put_words(part, 0, &[HISTORY, (veto + trigger) as u32], order);
+    put_section(
+        part,
+        8,
+        veto_count,
+        veto_times,
+        veto_width,
+        veto_masks,
+        order,
+    );
     put_section(
         part,
         8 + veto,
@@ -303,6 +337,7 @@ fn put_history(
         trigger_times,
         trigger_width,
         trigger_masks,
+        order,
     );
 }
 
@@ -318,8 +353,9 @@ pub fn write_history(
     trigger_times: &[u8],
     trigger_width: u32,
     trigger_masks: &[u8],
+    order: Order,
 ) -> WriterAnswer
-    ensures { λ r. ⌜ Wrote (now (out .entry)) place (historyWritten (record {
+    ensures { λ r. ⌜ Wrote (now (out .entry)) place (historyWritten order (record {
       veto = record {
         count = «veto_count»;
         times = now («veto_times» .entry);
@@ -364,6 +400,7 @@ pub fn write_history(
                 trigger_times,
                 trigger_width,
                 trigger_masks,
+                order,
             );
             WriterAnswer::Next { place: next }
         }
@@ -401,8 +438,9 @@ pub fn write_gps(
     minute: u32,
     second: u32,
     tenths: u32,
+    order: Order,
 ) -> WriterAnswer
-    ensures { λ r. ⌜ Wrote (now (out .entry)) place (gpsWritten (record {
+    ensures { λ r. ⌜ Wrote (now (out .entry)) place (gpsWritten order (record {
       year = year;
       day = day;
       status = status;
@@ -425,6 +463,7 @@ pub fn write_gps(
             digits(8, tenths),
         ],
         &[],
+        order,
     )
 }
 
@@ -440,8 +479,9 @@ pub fn write_trigger(
     mask4: u32,
     mask5: u32,
     mask6: u32,
+    order: Order,
 ) -> WriterAnswer
-    ensures { λ r. ⌜ Wrote (now (out .entry)) place (triggerWritten (record {
+    ensures { λ r. ⌜ Wrote (now (out .entry)) place (triggerWritten order (record {
       mask1 = mask1;
       mask2 = mask2;
       mask3 = mask3;
@@ -457,6 +497,7 @@ pub fn write_trigger(
         TRIGGER,
         &[0, mask1, mask2, mask3, mask4, mask5, mask6],
         &[],
+        order,
     )
 }
 
@@ -470,8 +511,9 @@ pub fn write_tlb(
     tower4: u32,
     tower5: u32,
     tower6: u32,
+    order: Order,
 ) -> WriterAnswer
-    ensures { λ r. ⌜ Wrote (now (out .entry)) place (tlbWritten (record {
+    ensures { λ r. ⌜ Wrote (now (out .entry)) place (tlbWritten order (record {
       tower1 = tower1;
       tower2 = tower2;
       tower3 = tower3;
@@ -487,5 +529,6 @@ pub fn write_tlb(
         TLB,
         &[tower1, tower2, tower3, tower4, tower5, tower6],
         &[],
+        order,
     )
 }

@@ -1,26 +1,13 @@
--- A writer asks the fields alone, so what was handed over reaches it; the numbers of a lent array are the fields in the order of their words.
-use mathlib.Core.Path.{_≡_, refl, subst}
-use mathlib.Core.List.{List, [], _∷_}
-use lib.IntN.{ℤ}
-use Prim.Native.Nat.{ℕ}
-use Rattle.note.specs.Answers.{Given}
+-- The numbers of a lent array are the fields in the order of their words.
+use mathlib.Core.Path.{_≡_, refl}
+use mathlib.Core.List.{[], _∷_}
 use Rattle.note.specs.Phonon.{Phonon}
 use Rattle.note.specs.Charge.{Charge}
 use Rattle.note.specs.Administrative.{Administrative}
 use Rattle.note.specs.Gps.{Gps}
 use Rattle.note.specs.Trigger.{Trigger}
 use Rattle.note.specs.Tlb.{Tlb}
-use Rattle.note.specs.Writers.{Written, writerGiven, recordWrote, recordOutput}
 use Rattle.writing.specs.Handed.{phononFrom, chargeFrom, administrativeFrom, gpsFrom, triggerFrom, tlbFrom}
-
--- What a writer did with fields it did with the same fields.
-pub same-fields : {F : Type 0} (w : F → Written) (out : List ℕ) (place : ℕ) {f g : F} → f ≡ g → {given : Given} {after : List ℕ}
-    → (given ≡ writerGiven (recordWrote out place (w f))) × (after ≡ recordOutput out place (w f))
-    → (given ≡ writerGiven (recordWrote out place (w g))) × (after ≡ recordOutput out place (w g))
-same-fields w out place e {given} {after} h =
-    subst (λ x. (given ≡ writerGiven (recordWrote out place (w x))) × (after ≡ recordOutput out place (w x))) e h
-
--- ---- the fields of a lent array, by their names
 
 pub phonon-handed : (f : Phonon) → phononFrom (f .code ∷ f .tower ∷ f .gain ∷ f .qetBias ∷ f .squidBias ∷ f .lockpoint ∷ f .rtfOffset
     ∷ f .variableGain ∷ f .deltaT ∷ f .t0 ∷ f .traceLength ∷ []) ≡ f

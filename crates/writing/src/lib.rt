@@ -1,5 +1,6 @@
 // The writers and the closings for C: numbers, lent arrays and buffers alone. include/dwejrasq.h documents each.
 use telling::told;
+ghost use Rattle.theory.specs.declared.Order.the-variants.{Little};
 ghost use Rattle.note.specs.Writers.{headerWrote, headerOutput, configurationClosed, configurationOutput, eventClosed, eventOutput, phononWritten, chargeWritten, administrativeWritten, traceWritten, historyWritten, gpsWritten, triggerWritten, tlbWritten};
 ghost use Rattle.telling.specs.Told.{Told};
 ghost use Rattle.writing.specs.Handed.{RecordTold, phononFrom, chargeFrom, administrativeFrom, gpsFrom, triggerFrom, tlbFrom};
@@ -13,7 +14,7 @@ pub extern "C" fn dwj_write_phonon(
     next: &mut u64,
     refusal: &mut u64,
 ) -> u32
-    ensures { λ r. ⌜ RecordTold (now (out .entry)) place (phononWritten (phononFrom (now (fields .entry))))
+    ensures { λ r. ⌜ RecordTold (now (out .entry)) place (phononWritten Little (phononFrom (now (fields .entry))))
         (record { next = now (next .entry); refusal = now (refusal .entry) })
         (record { number = r; next = now (next .exit); refusal = now (refusal .exit) }) (now (out .exit)) ⌝ }
 {
@@ -44,7 +45,7 @@ pub extern "C" fn dwj_write_charge(
     next: &mut u64,
     refusal: &mut u64,
 ) -> u32
-    ensures { λ r. ⌜ RecordTold (now (out .entry)) place (chargeWritten (chargeFrom (now (fields .entry))))
+    ensures { λ r. ⌜ RecordTold (now (out .entry)) place (chargeWritten Little (chargeFrom (now (fields .entry))))
         (record { next = now (next .entry); refusal = now (refusal .entry) })
         (record { number = r; next = now (next .exit); refusal = now (refusal .exit) }) (now (out .exit)) ⌝ }
 {
@@ -72,7 +73,7 @@ pub extern "C" fn dwj_write_administrative(
     next: &mut u64,
     refusal: &mut u64,
 ) -> u32
-    ensures { λ r. ⌜ RecordTold (now (out .entry)) place (administrativeWritten (administrativeFrom (now (fields .entry))))
+    ensures { λ r. ⌜ RecordTold (now (out .entry)) place (administrativeWritten Little (administrativeFrom (now (fields .entry))))
         (record { next = now (next .entry); refusal = now (refusal .entry) })
         (record { number = r; next = now (next .exit); refusal = now (refusal .exit) }) (now (out .exit)) ⌝ }
 {
@@ -104,7 +105,7 @@ pub extern "C" fn dwj_write_trace(
     next: &mut u64,
     refusal: &mut u64,
 ) -> u32
-    ensures { λ r. ⌜ RecordTold (now (out .entry)) place (traceWritten (record {
+    ensures { λ r. ⌜ RecordTold (now (out .entry)) place (traceWritten Little (record {
       address = address;
       channel = channel;
       code = code;
@@ -136,7 +137,7 @@ pub extern "C" fn dwj_write_history(
     next: &mut u64,
     refusal: &mut u64,
 ) -> u32
-    ensures { λ r. ⌜ RecordTold (now (out .entry)) place (historyWritten (record {
+    ensures { λ r. ⌜ RecordTold (now (out .entry)) place (historyWritten Little (record {
       veto = record {
         count = «veto_count»;
         times = now («veto_times» .entry);
@@ -177,7 +178,7 @@ pub extern "C" fn dwj_write_gps(
     next: &mut u64,
     refusal: &mut u64,
 ) -> u32
-    ensures { λ r. ⌜ RecordTold (now (out .entry)) place (gpsWritten (gpsFrom (now (fields .entry))))
+    ensures { λ r. ⌜ RecordTold (now (out .entry)) place (gpsWritten Little (gpsFrom (now (fields .entry))))
         (record { next = now (next .entry); refusal = now (refusal .entry) })
         (record { number = r; next = now (next .exit); refusal = now (refusal .exit) }) (now (out .exit)) ⌝ }
 {
@@ -204,7 +205,7 @@ pub extern "C" fn dwj_write_trigger(
     next: &mut u64,
     refusal: &mut u64,
 ) -> u32
-    ensures { λ r. ⌜ RecordTold (now (out .entry)) place (triggerWritten (triggerFrom (now (fields .entry))))
+    ensures { λ r. ⌜ RecordTold (now (out .entry)) place (triggerWritten Little (triggerFrom (now (fields .entry))))
         (record { next = now (next .entry); refusal = now (refusal .entry) })
         (record { number = r; next = now (next .exit); refusal = now (refusal .exit) }) (now (out .exit)) ⌝ }
 {
@@ -230,7 +231,7 @@ pub extern "C" fn dwj_write_tlb(
     next: &mut u64,
     refusal: &mut u64,
 ) -> u32
-    ensures { λ r. ⌜ RecordTold (now (out .entry)) place (tlbWritten (tlbFrom (now (fields .entry))))
+    ensures { λ r. ⌜ RecordTold (now (out .entry)) place (tlbWritten Little (tlbFrom (now (fields .entry))))
         (record { next = now (next .entry); refusal = now (refusal .entry) })
         (record { number = r; next = now (next .exit); refusal = now (refusal .exit) }) (now (out .exit)) ⌝ }
 {
@@ -256,7 +257,7 @@ pub extern "C" fn dwj_write_header(
     next: &mut u64,
     refusal: &mut u64,
 ) -> u32
-    ensures { λ r. ⌜ Told (headerWrote (now (out .entry))) (headerOutput (now (out .entry)) major minor)
+    ensures { λ r. ⌜ Told (headerWrote (now (out .entry))) (headerOutput Little (now (out .entry)) major minor)
         (record { next = now (next .entry); refusal = now (refusal .entry) })
         (record { number = r; next = now (next .exit); refusal = now (refusal .exit) }) (now (out .exit)) ⌝ }
 {
@@ -273,7 +274,7 @@ pub extern "C" fn dwj_close_configuration(
     next: &mut u64,
     refusal: &mut u64,
 ) -> u32
-    ensures { λ r. ⌜ Told (configurationClosed (now (out .entry)) place end) (configurationOutput (now (out .entry)) place end)
+    ensures { λ r. ⌜ Told (configurationClosed Little (now (out .entry)) place end) (configurationOutput Little (now (out .entry)) place end)
         (record { next = now (next .entry); refusal = now (refusal .entry) })
         (record { number = r; next = now (next .exit); refusal = now (refusal .exit) }) (now (out .exit)) ⌝ }
 {
@@ -293,8 +294,8 @@ pub extern "C" fn dwj_close_event(
     next: &mut u64,
     refusal: &mut u64,
 ) -> u32
-    ensures { λ r. ⌜ Told (eventClosed (now (out .entry)) place end class category kind)
-        (eventOutput (now (out .entry)) place end class category kind)
+    ensures { λ r. ⌜ Told (eventClosed Little (now (out .entry)) place end class category kind)
+        (eventOutput Little (now (out .entry)) place end class category kind)
         (record { next = now (next .entry); refusal = now (refusal .entry) })
         (record { number = r; next = now (next .exit); refusal = now (refusal .exit) }) (now (out .exit)) ⌝ }
 {

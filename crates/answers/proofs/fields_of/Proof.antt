@@ -14,7 +14,7 @@ use denote.Ref.{now}
 
 -- From the start on: the body is as long as its kind asks.
 long : (c : tie.After-shared-slice-known) → least (c .before .args .kind) ≤ length (now (c .before .args .b))
-long c = long-enough _ _ (c .before .pre .0)
+long c = long-enough _ _ _ (c .before .pre .0)
 
 phonon-of-requires : tie.Need-phonon-of-requires
 phonon-of-requires c κs = rw (c .match .keys1) at (long (c .before))
@@ -75,7 +75,9 @@ returns-8 c = rw (c .before .match .keys8) (c .tlb-of .ensures)
 
 returns-9 : tie.Need-returns-9
 returns-9 c =
-    let five = sym (ap (λ (k : Kind). k .rule (now (c .before .before .args .b))) (no-arm (c .match .rest))) ∙ c .before .before .pre .0 in
+    let five =
+    sym (ap (λ (k : Kind). k .rule (c .before .before .args .order) (now (c .before .before .args .b))) (no-arm (c .match .rest)))
+    ∙ c .before .before .pre .0 in
     absurd (omega arith)
 
 pub fields-of-spec : {M : Type 1} → statement M

@@ -15,18 +15,18 @@ add-from c = search needs
 section-of-requires : tie.Need-section-of-requires
 section-of-requires c κs =
     let b = now (c .before .args .b) in
-    (room _ 0 b (veto-follows b (c .before .pre .0)), omega arith)
+    (room _ _ 0 b (veto-follows _ b (c .before .pre .0)), omega arith)
 
 section-end-requires : tie.Need-section-end-requires
 section-end-requires c κs =
     let b = now (c .before .before .args .b) in
-    let e = veto-follows b (c .before .before .pre .0) in
-    (room _ 0 b e, thin _ 0 b e, omega arith)
+    let e = veto-follows _ b (c .before .before .pre .0) in
+    (room _ _ 0 b e, thin _ _ 0 b e, omega arith)
 
 section-of-requires-2 : tie.Need-section-of-requires-2
 section-of-requires-2 c κs =
     let b = now (c .before .before .before .args .b) in
-    (rw (c .section-end .ensures) (room _ _ b (trigger-follows b (c .before .before .before .pre .0))), omega arith)
+    (rw (c .section-end .ensures) (room _ _ _ b (trigger-follows _ b (c .before .before .before .pre .0))), omega arith)
 
 returns : tie.Need-returns
 unfolding givenRecord

@@ -6,10 +6,10 @@ use Rattle.answers.proofs.record_found.Tie as tie
 use Rattle.record.specs.Steps.{contextOf}
 
 returns : tie.Need-returns
-returns c = over _ _ (c .if1 .taken)
+returns c = over _ _ _ (c .if1 .taken)
 
 returns-2 : tie.Need-returns-2
-returns-2 c = past _ _ (c .before .if1 .left) (c .if2 .taken)
+returns-2 c = past _ _ _ (c .before .if1 .left) (c .if2 .taken)
 
 sub-record-in : tie.Need-sub-record-in
 sub-record-in c = search needs
@@ -25,7 +25,7 @@ record-in-requires c κs = search needs
 
 returns-3 : tie.Need-returns-3
 unfolding contextOf
-returns-3 c = inside _ _ (c .before .before .before .if1 .left) (c .record-in .ensures)
+returns-3 c = inside _ _ _ (c .before .before .before .if1 .left) (c .record-in .ensures)
 
 pub record-found-spec : {M : Type 1} → statement M
 record-found-spec =

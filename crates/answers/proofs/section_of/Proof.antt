@@ -27,33 +27,33 @@ add-width-at-2 : tie.Need-add-width-at-2
 unfolding widthAt
 add-width-at-2 c = omega arith
 
-add-t6 : tie.Need-add-t6
+add-t7 : tie.Need-add-t7
 unfolding widthAt
-add-t6 c = omega arith
+add-t7 c = omega arith
 
-add-t8 : tie.Need-add-t8
+add-t9 : tie.Need-add-t9
 unfolding widthAt
-add-t8 c = omega arith
+add-t9 c = omega arith
 
-cast-t9 : tie.Need-cast-t9
+cast-t10 : tie.Need-cast-t10
 unfolding widthAt
-cast-t9 c = omega arith
+cast-t10 c = omega arith
 
 word-at-requires-2 : tie.Need-word-at-requires-2
 unfolding widthAt
 word-at-requires-2 c κs = omega arith
 
-add-t7 : tie.Need-add-t7
+add-t8 : tie.Need-add-t8
 unfolding widthAt
-add-t7 c = omega arith
+add-t8 c = omega arith
 
-add-t11 : tie.Need-add-t11
+add-t12 : tie.Need-add-t12
 unfolding widthAt
-add-t11 c = omega arith
+add-t12 c = omega arith
 
-cast-t12 : tie.Need-cast-t12
+cast-t13 : tie.Need-cast-t13
 unfolding widthAt
-cast-t12 c = omega arith
+cast-t13 c = omega arith
 
 returns : tie.Need-returns
 unfolding widthAt widthOf sectionValues
@@ -68,11 +68,11 @@ section-of-spec =
     cast-width-at
     mul-width-at
     add-width-at-2
-    add-t6
-    add-t8
-    cast-t9
-    word-at-requires-2
     add-t7
-    add-t11
-    cast-t12
+    add-t9
+    cast-t10
+    word-at-requires-2
+    add-t8
+    add-t12
+    cast-t13
     returns)

@@ -11,7 +11,7 @@ use denote.Ref.{now}
 
 -- From the start on: the body is as long as its kind asks.
 long : (c : tie.After-shared-slice-known) → least (c .before .args .kind) ≤ length (now (c .before .args .b))
-long c = long-enough _ _ (c .before .pre)
+long c = long-enough _ _ _ (c .before .pre)
 
 phonon-setting-requires : tie.Need-phonon-setting-requires
 phonon-setting-requires c κs = rw (c .match .keys1) at (long (c .before))

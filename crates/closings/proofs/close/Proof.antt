@@ -43,7 +43,7 @@ call s =
 
 -- Where the end was answered: there is room.
 room : (c : tie.After-next) → (let a = start (asked c) .args in HasRoom (length (now (a .out))) (a .place) (a .end))
-room c = told (call (start (asked c))) (asked c .bounded .ensures) (c .next .given .1) .room
+room c = told (start (asked c) .args .order) (call (start (asked c))) (asked c .bounded .ensures) (c .next .given .1) .room
 
 bounded-requires : tie.Need-bounded-requires
 bounded-requires c κs = search needs
@@ -84,7 +84,7 @@ put-head-requires c κs = room (granted (c .before .before .before))
 returns : tie.Need-returns
 returns c =
     let first = c .before .before .before in
-    refuses (call (start first)) (first .bounded .ensures) (c .before .number .given .1)
+    refuses _ (call (start first)) (first .bounded .ensures) (c .before .number .given .1)
 
 same-length : tie.Need-same-length
 same-length c = search needs
@@ -94,7 +94,7 @@ returns-2 c =
     let read = c .before .before .before in
     let next = granted read in
     let first = asked next in
-    contents-refuse (call (start first)) (first .bounded .ensures) (next .next .given .1) (read .records-in .ensures) (c .before .number2 .given .1)
+    contents-refuse _ (call (start first)) (first .bounded .ensures) (next .next .given .1) (read .records-in .ensures) (c .before .number2 .given .1)
 
 same-length-2 : tie.Need-same-length-2
 same-length-2 c = search needs
@@ -106,7 +106,7 @@ returns-3 c =
     let read = good .before .before in
     let next = granted read in
     let first = asked next in
-    shuts (call (start first)) (first .bounded .ensures) (next .next .given .1) (read .records-in .ensures) (good .enum-told .given .1)
+    shuts _ (call (start first)) (first .bounded .ensures) (next .next .given .1) (read .records-in .ensures) (good .enum-told .given .1)
     (stored .put-head .ensures)
 
 pub close-spec : {M : Type 1} → statement M

@@ -17,7 +17,7 @@ same-length c = search needs
 
 returns : tie.Need-returns
 unfolding contextOf
-returns c = configuration-ends _ _ _ (c .before .before .close .ensures)
+returns c = configuration-ends _ _ _ _ (c .before .before .close .ensures)
 
 pub close-configuration-spec : {M : Type 1} → statement M
 close-configuration-spec = tie.close (tie.spec close-requires same-length returns)

@@ -31,7 +31,7 @@ returns c =
     let call = c .before .before in
     let context = call .before in
     let word = context .before in
-    event-ends _ _ _ _ _ _ (word .before .event-fault .ensures) (word .event-word .ensures) (context .fresh .ensures) (call .close .ensures)
+    event-ends _ _ _ _ _ _ _ (word .before .event-fault .ensures) (word .event-word .ensures) (context .fresh .ensures) (call .close .ensures)
 
 pub close-event-spec : {M : Type 1} → statement M
 close-event-spec =

@@ -14,14 +14,14 @@ use Rattle.closings.proofs.put_head.Reads as reads
 use Rattle.closings.proofs.put_head.Lts as lts
 use Rattle.stores.proofs.put_words.Reads as put-words-reads
 
-sub-t9 : tie.Need-sub-t9
-sub-t9 c = search needs
-
 sub-t10 : tie.Need-sub-t10
 sub-t10 c = search needs
 
-cast-t11 : tie.Need-cast-t11
-cast-t11 c = search needs
+sub-t11 : tie.Need-sub-t11
+sub-t11 c = search needs
+
+cast-t12 : tie.Need-cast-t12
+cast-t12 c = search needs
 
 slice-aggregate-put-words : tie.Need-slice-aggregate-put-words
 slice-aggregate-put-words c = search needs
@@ -36,15 +36,15 @@ returns : tie.Need-returns
 returns c =
     let a = c .before .before .before .before .before .before .args in
     let n : a .end - a .place - 8 ≡ a .end - (a .place + 8) = omega arith in
-    c .before .before .put-words .ensures ∙ ap (λ (m : ℕ). sets (now (a .out)) (a .place) (words (a .word ∷ m ∷ []))) n
+    c .before .before .put-words .ensures ∙ ap (λ (m : ℕ). sets (now (a .out)) (a .place) (words (a .order) (a .word ∷ m ∷ []))) n
 
 pub put-head-spec : {M : Type 1} → statement M
 put-head-spec =
     tie.close
     (tie.spec
-    sub-t9
     sub-t10
-    cast-t11
+    sub-t11
+    cast-t12
     slice-aggregate-put-words
     put-words-requires
     same-length

@@ -1,13 +1,16 @@
 -- `closings::write_header` meets its contract: a refusal of `admitted` is its own, and the next place tells that there is room.
 -- The idea: the two words that are stored are the header.
 use Prim.Native.Nat.{ℕ}
-use mathlib.Core.Path.{refl, ap, _∙_}
+use mathlib.Core.Path.{_≡_, refl, sym, ap, _∙_}
 use mathlib.Core.List.{[], _∷_}
 use denote.Ref.{now}
 use lib.Seq.{sets}
-use Rattle.theory.specs.Words.{bytes, put, puts}
+use native.Mathlib.Omega.{arith}
+use lib.ListN.{length}
+use Rattle.theory.proofs.WordLaws.{length-puts}
 use Rattle.note.specs.Words.{words}
 use Rattle.note.specs.Files.{fileMark, versionWord, headerBytes}
+use Rattle.note.proofs.FileBytes.{header-bytes}
 use Rattle.note.specs.Writers.{Written, headerWrote, headerOutput, recordWrote, recordOutput}
 use Rattle.stores.proofs.WriterLaws.{Admitted, refuses, has-room, lays}
 use borrow.Author.Needs.{needs}
@@ -28,12 +31,17 @@ start c = c .before .before
 
 -- The header, written as a record without a fault.
 abbrev header : tie.Start → Written
-header s = record { fault = 0; bytes = headerBytes (versionWord (s .args .major) (s .args .minor)) }
+header s = record { fault = 0; bytes = headerBytes (s .args .order) (versionWord (s .args .major) (s .args .minor)) }
+
+eight : (s : tie.Start) → length (header s .bytes) ≡ 8
+eight s =
+    let o = s .args .order in
+    let v = versionWord (s .args .major) (s .args .minor) in
+    ap length (header-bytes o v) ∙ length-puts o 4 (fileMark ∷ v ∷ [])
 
 -- `admitted` was asked the header's size.
 admitted : (c : tie.After-admitted) → Admitted (now (start c .args .out)) 0 (header (start c)) (c .admitted .result)
-unfolding put bytes
-admitted c = record { fault = 0; size = 8; fault-is = refl; size-is = λ z. refl; said = c .admitted .ensures }
+admitted c = record { fault = 0; size = 8; fault-is = refl; size-is = λ z. eight (start c); said = c .admitted .ensures }
 
 admitted-requires : tie.Need-admitted-requires
 admitted-requires c κs = search needs
@@ -51,27 +59,36 @@ slice-aggregate-put-words : tie.Need-slice-aggregate-put-words
 slice-aggregate-put-words c = search needs
 
 put-words-requires : tie.Need-put-words-requires
-unfolding put bytes
 put-words-requires c κs =
     let next = c .before .before .before .before in
-    has-room (admitted (asked next)) (next .place .given .1) .1
+    let room = has-room (admitted (asked next)) (next .place .given .1) .1 in
+    omega (arith, room, eight (start (asked next)))
 
 returns : tie.Need-returns
-unfolding headerWrote headerOutput recordWrote recordOutput put bytes
-returns c = refuses (admitted (c .before .before .before)) (c .before .number .given .1)
+unfolding headerWrote headerOutput recordWrote recordOutput
+returns c =
+    let a = c .before .before .before in
+    let given = refuses (admitted a) (c .before .number .given .1) in
+    rw (eight (start a)) at given
 
 same-length : tie.Need-same-length
 same-length c = search needs
 
 returns-2 : tie.Need-returns-2
-unfolding headerWrote headerOutput recordWrote recordOutput puts put bytes
+unfolding headerWrote headerOutput recordWrote recordOutput
 returns-2 c =
     let stored = c .before .before in
     let version = stored .before .before in
     let next = version .before .before .before in
-    let out = now (start (asked next) .args .out) in
+    let s = start (asked next) in
+    let out = now (s .args .out) in
+    let o = s .args .order in
+    let given =
     lays (admitted (asked next)) (next .place .given .1)
-    (stored .put-words .ensures ∙ ap (λ (v : ℕ). sets out 0 (words (fileMark ∷ v ∷ []))) (version .version-word .ensures))
+    (stored .put-words .ensures
+    ∙ ap (λ (v : ℕ). sets out 0 (words o (fileMark ∷ v ∷ []))) (version .version-word .ensures)
+    ∙ ap (sets out 0) (sym (header-bytes o (versionWord (s .args .major) (s .args .minor))))) in
+    rw (eight s) at given
 
 pub write-header-spec : {M : Type 1} → statement M
 write-header-spec =

@@ -5,6 +5,7 @@ use Prim.Native.Nat.{ℕ}
 use native.Mathlib.Omega.{arith}
 use denote.Ref.{now}
 use borrow.Author.Tests.{le-leb, lt-leb}
+use Rattle.theory.specs.declared.Order.{Order}
 use Rattle.theory.proofs.WordLaws.{Bytes-from}
 use Rattle.note.specs.Words.{word}
 use Rattle.note.specs.Records.{Context, event, none}
@@ -27,7 +28,10 @@ start c = c .before .before .before .before .before
 abbrev part : tie.Else2 → List ℕ
 part c = now (start c .args .part)
 
-allowed : (c : tie.Else2) → eventHead tt (word 0 (part c)) ≡ 0
+abbrev order : tie.Else2 → Order
+order c = start c .args .order
+
+allowed : (c : tie.Else2) → eventHead tt (word (order c) 0 (part c)) ≡ 0
 allowed c = ap eventWordRule (sym (c .before .before .word-at .ensures)) ∙ sym (c .before .event-word-rule .ensures) ∙ c .if2 .left
 
 -- Where the length has passed too: an event begins here.
@@ -37,7 +41,8 @@ named c = c .before .before .before
 abbrev size : tie.Else4 → ℕ
 size c = c .before .before .word-at2 .result
 
-begun : (c : tie.Else4) → Begun eventHead eventLate (part (named c)) (named c .before .before .word-at .result) (size c)
+begun : (c : tie.Else4)
+    → Begun (order (named c)) eventHead eventLate (part (named c)) (named c .before .before .word-at .result) (size c)
 begun c = record {
   bytes = Bytes-from (part (named c)) (λ i l. omega (arith, named c .before .before .before .before .shared-slice-known .given i));
   room = named c .before .before .before .if1 .left;
@@ -53,15 +58,16 @@ abbrev opened : tie.After-records-in → tie.Else4
 opened c = c .before .before .before
 
 contents : (c : tie.After-records-in)
-    → c .records-in .result ≡ contentsAnswer (event none) (start (named (opened c)) .args .at) (part (named (opened c))) (size (opened c))
+    → (let n = named (opened c) in
+    c .records-in .result ≡ contentsAnswer (order n) (event none) (start n .args .at) (part n) (size (opened c)))
 contents c =
     let e = opened c in
     c .records-in .ensures
-    ∙ ap (λ (x : Context). contentsAnswer x (start (named e) .args .at) (part (named e)) (size e)) (c .before .fresh .ensures)
+    ∙ ap (λ (x : Context). contentsAnswer (order (named e)) x (start (named e) .args .at) (part (named e)) (size e)) (c .before .fresh .ensures)
 
 returns : tie.Need-returns
 unfolding readEvent
-returns c = let a = c .before .before .args in short eventHead eventLate (event none) (a .at) (now (a .part)) (c .if1 .taken)
+returns c = let a = c .before .before .args in short _ eventHead eventLate (event none) (a .at) (now (a .part)) (c .if1 .taken)
 
 word-at-requires : tie.Need-word-at-requires
 word-at-requires c κs = search needs
@@ -74,7 +80,7 @@ unfolding readEvent
 returns-2 c =
     let first = c .before .before in
     let a = first .before .before .before .args in
-    fault eventHead eventLate (event none) (a .at) (now (a .part)) (first .before .if1 .left)
+    fault _ eventHead eventLate (event none) (a .at) (now (a .part)) (first .before .if1 .left)
     _ (c .before .event-word-rule .ensures ∙ ap eventWordRule (first .word-at .ensures)) (c .if2 .taken)
 
 word-at-requires-2 : tie.Need-word-at-requires-2
@@ -87,14 +93,14 @@ returns-3 : tie.Need-returns-3
 unfolding readEvent
 returns-3 c =
     let two = c .before .before in
-    long eventHead eventLate (event none) (start two .args .at) (part two) (two .before .before .before .if1 .left) (allowed two)
+    long _ eventHead eventLate (event none) (start two .args .at) (part two) (two .before .before .before .if1 .left) (allowed two)
     _ (c .before .word-at2 .ensures) (c .if3 .taken)
 
 returns-4 : tie.Need-returns-4
 unfolding readEvent
 returns-4 c =
     let two = c .before .before .before in
-    late-fault eventHead eventLate (event none) (start two .args .at) (part two) (two .before .before .before .if1 .left) (allowed two)
+    late-fault _ eventHead eventLate (event none) (start two .args .at) (part two) (two .before .before .before .if1 .left) (allowed two)
     _ (c .before .before .word-at2 .ensures) (c .before .if3 .left) 9 (rw (lt-leb _ _ (c .if4 .taken))) (λ e. omega arith)
 
 add-records-in : tie.Need-add-records-in

@@ -5,6 +5,7 @@ use native.Mathlib.Omega.{arith}
 use denote.Ref.{now}
 use lib.ListN.{length}
 use borrow.Author.Needs.{needs}
+use Rattle.theory.specs.declared.Order.{Order}
 use Rattle.theory.proofs.WordLaws.{Bytes-from}
 use Rattle.note.specs.Events.{readEvent}
 use Rattle.containers.specs.declared.Holding.the-variants.{Good}
@@ -17,10 +18,10 @@ use Rattle.containers.proofs.events_in.Lts as lts
 use Rattle.containers.proofs.event_in.Reads as event-in-reads
 
 abbrev Inv-loop : tie.InvT-loop
-Inv-loop part from rest₀ at₀ count₀ rest at count = Rows from part at rest count
+Inv-loop part from order rest₀ at₀ count₀ rest at count = Rows order from part at rest count
 
 abbrev μ-loop : tie.MeasureT-loop
-μ-loop part from rest₀ at₀ count₀ rest at count = length rest
+μ-loop part from order rest₀ at₀ count₀ rest at count = length rest
 
 -- The turn of an event that was read: its length and how many records it has.
 abbrev turn : tie.After-length Inv-loop μ-loop → tie.In-loop Inv-loop μ-loop
@@ -32,9 +33,12 @@ size c = c .length .given .0 .1 .0
 abbrev records : tie.After-length Inv-loop μ-loop → ℕ
 records c = c .length .given .0 .1 .1 .0
 
+abbrev order : tie.After-length Inv-loop μ-loop → Order
+order c = turn c .before .before .before .args .order
+
 read : (c : tie.After-length Inv-loop μ-loop)
     → Good (c .length .given .0 .0) (size c) (records c)
-    ≡ containerStep (readEvent tt (turn c .before .loop .at) (now (turn c .before .loop .rest)))
+    ≡ containerStep (order c) (readEvent (order c) tt (turn c .before .loop .at) (now (turn c .before .loop .rest)))
 read c = sym (c .length .given .1) ∙ c .before .before .event-in .ensures
 
 -- It stays in the rest, and has no more records than bytes.
@@ -44,7 +48,7 @@ fit c = fits (turn c .before .loop .inv) (turn c .loop-test .taken) _ _ _ (read 
 loop-holds : tie.Need-loop-holds Inv-loop μ-loop
 loop-holds c =
     let a = c .before .args in
-    begin (a .from) (now (a .part)) (Bytes-from (now (a .part)) (λ i l. omega (arith, c .shared-slice-known .given i)))
+    begin _ (a .from) (now (a .part)) (Bytes-from (now (a .part)) (λ i l. omega (arith, c .shared-slice-known .given i)))
 
 event-in-requires : tie.Need-event-in-requires Inv-loop μ-loop
 event-in-requires c κs = omega (arith, place (c .before .loop .inv))

@@ -33,7 +33,9 @@ unfolding administrativeOf
 returns c =
     let call = c .before .before in
     let read = call .before .before in
-    six-copied administrativeKind administrativeWritten administrativeOf administrative-again _ (read .before .before .before .pre .1) fields
+    let s = read .before .before .before in
+    let o = s .args .order in
+    six-copied o administrativeKind (administrativeWritten o) (administrativeOf o) (administrative-again o) _ (s .pre .1) fields
     (read .six-at .ensures) refl (call .write-administrative .ensures .1)
 
 pub copy-administrative-spec : {M : Type 1} → statement M

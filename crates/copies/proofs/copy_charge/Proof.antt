@@ -58,15 +58,16 @@ returns c =
     let code = tower .before in
     let s = code .before .before .before .before in
     let b = now (s .args .body) in
-    copied chargeKind chargeWritten chargeOf charge-again _ (s .pre .1) (λ i. record {
-      code = handed (word 0 b) (code .signed-at .ensures) i;
-      tower = handed (word 4 b) (tower .signed-at2 .ensures) i;
-      gain = handed (word 8 b) (gain .signed-at3 .ensures) i;
-      bias = handed (word 12 b) (bias .signed-at4 .ensures) i;
-      rtfOffset = handed (word 16 b) (rtf-offset .signed-at5 .ensures) i;
-      deltaT = handed (word 20 b) (delta-t .signed-at6 .ensures) i;
-      t0 = handed (word 24 b) (t0 .signed-at7 .ensures) i;
-      traceLength = handed (word 28 b) (trace-length .signed-at8 .ensures) i;
+    let o = s .args .order in
+    copied o chargeKind (chargeWritten o) (chargeOf o) (charge-again o) _ (s .pre .1) (λ i. record {
+      code = handed (word o 0 b) (code .signed-at .ensures) i;
+      tower = handed (word o 4 b) (tower .signed-at2 .ensures) i;
+      gain = handed (word o 8 b) (gain .signed-at3 .ensures) i;
+      bias = handed (word o 12 b) (bias .signed-at4 .ensures) i;
+      rtfOffset = handed (word o 16 b) (rtf-offset .signed-at5 .ensures) i;
+      deltaT = handed (word o 20 b) (delta-t .signed-at6 .ensures) i;
+      t0 = handed (word o 24 b) (t0 .signed-at7 .ensures) i;
+      traceLength = handed (word o 28 b) (trace-length .signed-at8 .ensures) i;
     }) (call .write-charge .ensures .1)
 
 pub copy-charge-spec : {M : Type 1} → statement M

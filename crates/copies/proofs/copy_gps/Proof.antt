@@ -62,7 +62,8 @@ returns c =
     let clock = clock-read .word-at2 .ensures in
     let date = clock-read .before .word-at .ensures in
     let s = clock-read .before .before .before .before in
-    copied gpsKind gpsWritten gpsOf gps-again _ (s .pre .1) (λ i. record {
+    let o = s .args .order in
+    copied o gpsKind (gpsWritten o) (gpsOf o) (gps-again o) _ (s .pre .1) (λ i. record {
       year = (year .decimal .ensures ∙ ap (λ (w : ℕ). decimal 4 (w / 65536)) date) i;
       day = (day .decimal2 .ensures ∙ ap (λ (w : ℕ). decimal 4 w) date) i;
       status = clock i / 268435456;

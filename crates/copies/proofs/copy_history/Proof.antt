@@ -31,7 +31,8 @@ start c = c .before .before .before .before .before
 
 -- Where the three places are known: what they are, and that they lie in order.
 cuts : (c : tie.After-width-at2)
-    → Cuts (now (start c .args .body)) (c .before .before .width-at .result) (c .before .section-end .result) (c .width-at2 .result)
+    → Cuts (start c .args .order) (now (start c .args .body))
+    (c .before .before .width-at .result) (c .before .section-end .result) (c .width-at2 .result)
 cuts c = record { veto-is = c .before .before .width-at .ensures; middle-is = c .before .section-end .ensures; trigger-is = c .width-at2 .ensures }
 
 placed : (c : tie.After-width-at2)
@@ -45,13 +46,13 @@ width-at-requires c κs = search needs
 section-end-requires : tie.Need-section-end-requires
 section-end-requires c κs =
     let s = c .before .before .before in
-    let e = veto-follows (now (s .args .body)) (s .pre .1 .follows) in
-    (room _ 0 _ e, thin _ 0 _ e, omega (arith, s .pre .1 .room, s .pre .1 .limit))
+    let e = veto-follows _ (now (s .args .body)) (s .pre .1 .follows) in
+    (room _ _ 0 _ e, thin _ _ 0 _ e, omega (arith, s .pre .1 .room, s .pre .1 .limit))
 
 width-at-requires-2 : tie.Need-width-at-requires-2
 width-at-requires-2 c κs =
     let s = c .before .before .before .before in
-    omega (arith, c .section-end .ensures, trigger-count (now (s .args .body)) (s .pre .1 .follows))
+    omega (arith, c .section-end .ensures, trigger-count _ (now (s .args .body)) (s .pre .1 .follows))
 
 word-at-requires : tie.Need-word-at-requires
 word-at-requires c κs = search needs
@@ -127,11 +128,13 @@ returns c =
     let placed-at = known (trigger-count .before) in
     let k = cuts placed-at in
     let b = now (start placed-at .args .body) in
+    let o = start placed-at .args .order in
     let pre = start placed-at .pre .1 in
-    copied historyKind historyWritten historyOf history-again _ pre (λ i. record {
-      veto = section-cut b 0 _ _ _ _ (k .veto-is) (k .middle-is) (veto-count .word-at .ensures) (veto-width .word-at2 .ensures) i;
-      trigger = (section-cut b _ _ _ _ _ (k .trigger-is) (ends (pre .follows) k) (trigger-count .word-at3 .ensures) (trigger-width .word-at4 .ensures)
-          ∙ ap (λ (p : ℕ). sectionOf p b) (k .middle-is)) i;
+    copied o historyKind (historyWritten o) (historyOf o) (history-again o) _ pre (λ i. record {
+      veto = section-cut _ b 0 _ _ _ _ (k .veto-is) (k .middle-is) (veto-count .word-at .ensures) (veto-width .word-at2 .ensures) i;
+      trigger =
+          (section-cut _ b _ _ _ _ _ (k .trigger-is) (ends (pre .follows) k) (trigger-count .word-at3 .ensures) (trigger-width .word-at4 .ensures)
+          ∙ ap (λ (p : ℕ). sectionOf o p b) (k .middle-is)) i;
     }) (call .write-history .ensures .1)
 
 pub copy-history-spec : {M : Type 1} → statement M

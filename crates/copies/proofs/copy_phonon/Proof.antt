@@ -70,18 +70,19 @@ returns c =
     let code = tower .before in
     let s = code .before .before .before .before in
     let b = now (s .args .body) in
-    copied phononKind phononWritten phononOf phonon-again _ (s .pre .1) (λ i. record {
-      code = handed (word 0 b) (code .signed-at .ensures) i;
-      tower = handed (word 4 b) (tower .signed-at2 .ensures) i;
-      gain = handed (word 8 b) (gain .signed-at3 .ensures) i;
-      qetBias = handed (word 12 b) (qet-bias .signed-at4 .ensures) i;
-      squidBias = handed (word 16 b) (squid-bias .signed-at5 .ensures) i;
-      lockpoint = handed (word 20 b) (lockpoint .signed-at6 .ensures) i;
-      rtfOffset = handed (word 24 b) (rtf-offset .signed-at7 .ensures) i;
-      variableGain = handed (word 28 b) (variable-gain .signed-at8 .ensures) i;
-      deltaT = handed (word 32 b) (delta-t .signed-at9 .ensures) i;
-      t0 = handed (word 36 b) (t0 .signed-at10 .ensures) i;
-      traceLength = handed (word 40 b) (trace-length .signed-at11 .ensures) i;
+    let o = s .args .order in
+    copied o phononKind (phononWritten o) (phononOf o) (phonon-again o) _ (s .pre .1) (λ i. record {
+      code = handed (word o 0 b) (code .signed-at .ensures) i;
+      tower = handed (word o 4 b) (tower .signed-at2 .ensures) i;
+      gain = handed (word o 8 b) (gain .signed-at3 .ensures) i;
+      qetBias = handed (word o 12 b) (qet-bias .signed-at4 .ensures) i;
+      squidBias = handed (word o 16 b) (squid-bias .signed-at5 .ensures) i;
+      lockpoint = handed (word o 20 b) (lockpoint .signed-at6 .ensures) i;
+      rtfOffset = handed (word o 24 b) (rtf-offset .signed-at7 .ensures) i;
+      variableGain = handed (word o 28 b) (variable-gain .signed-at8 .ensures) i;
+      deltaT = handed (word o 32 b) (delta-t .signed-at9 .ensures) i;
+      t0 = handed (word o 36 b) (t0 .signed-at10 .ensures) i;
+      traceLength = handed (word o 40 b) (trace-length .signed-at11 .ensures) i;
     }) (call .write-phonon .ensures .1)
 
 pub copy-phonon-spec : {M : Type 1} → statement M

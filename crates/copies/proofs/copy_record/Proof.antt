@@ -31,14 +31,15 @@ start c = c .before .before
 -- In the arm of a kind word: what is asked of the record is asked of that word's kind.
 own-kind : (c : tie.After-slice-known) {w : ℕ} → start c .args .kind ≡ w
     → (let a = start c .args in
-    (least w ≤ length (now (a .body))) × Copyable (kindOf w) (now (a .body)) (length (now (a .out))) (a .place))
-own-kind c e = asked e _ _ _ (start c .pre)
+    (least w ≤ length (now (a .body))) × Copyable (a .order) (kindOf w) (now (a .body)) (length (now (a .out))) (a .place))
+own-kind c e = asked _ e _ _ _ (start c .pre)
 
 -- And what a copy of that kind leaves is what a copy of the record leaves.
 any-kind : (c : tie.After-slice-known) {w : ℕ} → start c .args .kind ≡ w → {new : List ℕ}
     → (let a = start c .args in
-    Copied (kindOf w) (now (a .body)) (now (a .out)) (a .place) new → Copied (kindOf (a .kind)) (now (a .body)) (now (a .out)) (a .place) new)
-any-kind c e = left e (now (start c .args .body)) _ _ _
+    Copied (a .order) (kindOf w) (now (a .body)) (now (a .out)) (a .place) new
+    → Copied (a .order) (kindOf (a .kind)) (now (a .body)) (now (a .out)) (a .place) new)
+any-kind c e = left _ e (now (start c .args .body)) _ _ _
 
 copy-phonon-requires : tie.Need-copy-phonon-requires
 unfolding kindOf

@@ -33,7 +33,9 @@ unfolding tlbOf
 returns c =
     let call = c .before .before in
     let read = call .before .before in
-    six-copied tlbKind tlbWritten tlbOf tlb-again _ (read .before .before .before .pre .1) fields
+    let s = read .before .before .before in
+    let o = s .args .order in
+    six-copied o tlbKind (tlbWritten o) (tlbOf o) (tlb-again o) _ (s .pre .1) fields
     (read .six-at .ensures) refl (call .write-tlb .ensures .1)
 
 pub copy-tlb-spec : {M : Type 1} → statement M

@@ -62,11 +62,12 @@ returns c =
     let address = channel .before in
     let s = address .before .before .before .before in
     let b = now (s .args .body) in
-    copied traceKind traceWritten traceOf trace-again _ (s .pre .1) (λ i. record {
+    let o = s .args .order in
+    copied o traceKind (traceWritten o) (traceOf o) (trace-again o) _ (s .pre .1) (λ i. record {
       address = address .word-at .ensures i;
       channel = channel .word-at2 .ensures i;
       code = code .word-at3 .ensures i;
-      t0 = handed (word 28 b) (t0 .signed-at .ensures) i;
+      t0 = handed (word o 28 b) (t0 .signed-at .ensures) i;
       delta = delta .word-at4 .ensures i;
       n = n .word-at5 .ensures i;
       samples = sym (left 48 b) i;

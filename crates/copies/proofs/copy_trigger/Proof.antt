@@ -33,7 +33,9 @@ unfolding triggerOf
 returns c =
     let call = c .before .before in
     let read = call .before .before in
-    six-copied triggerKind triggerWritten triggerOf trigger-again _ (read .before .before .before .pre .1) fields
+    let s = read .before .before .before in
+    let o = s .args .order in
+    six-copied o triggerKind (triggerWritten o) (triggerOf o) (trigger-again o) _ (s .pre .1) fields
     (read .six-at .ensures) refl (call .write-trigger .ensures .1)
 
 pub copy-trigger-spec : {M : Type 1} → statement M

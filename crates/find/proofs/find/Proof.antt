@@ -7,7 +7,7 @@ use native.Mathlib.Omega.{arith}
 use denote.Ref.{now}
 use Rattle.theory.proofs.WordLaws.{Bytes-from}
 use Rattle.note.specs.Answers.{givenFind}
-use Rattle.containers.proofs.FileParts.{Checked, checked}
+use Rattle.containers.proofs.FileParts.{Checked, checked, CheckedIn, checked-in}
 use Rattle.find.proofs.CallLaws.{refused, word-fits, events-fit, searchable, searched}
 use borrow.Author.Needs.{needs}
 use Rattle.find.proofs.find.Statement.{statement}
@@ -16,6 +16,7 @@ use Rattle.find.proofs.find.Reads as reads
 use Rattle.find.proofs.find.Lts as lts
 use Rattle.containers.proofs.check.Reads as check-reads
 use Rattle.find.proofs.search.Reads as search-reads
+use Rattle.words.proofs.order_of.Reads as order-of-reads
 use Rattle.words.proofs.word_at.Reads as word-at-reads
 
 -- Where check accepted the file.
@@ -39,8 +40,15 @@ enum-known-fault c = search needs
 enum-told : tie.Need-enum-told
 enum-told c = search needs
 
+order-of-requires : tie.Need-order-of-requires
+order-of-requires c κs = search needs
+
+-- Where its order was asked.
+ordered : (c : tie.After-order-of) → CheckedIn (c .order-of .result) (file (c .before))
+ordered c = checked-in (accepted (c .before)) (c .order-of .ensures)
+
 word-at-requires : tie.Need-word-at-requires
-word-at-requires c κs = word-fits (accepted c)
+word-at-requires c κs = word-fits (ordered c)
 
 cast-from : tie.Need-cast-from
 cast-from c = search needs
@@ -49,16 +57,16 @@ add-from : tie.Need-add-from
 add-from c = search needs
 
 sub-search : tie.Need-sub-search
-sub-search c = events-fit (accepted (c .before)) _ (c .word-at .ensures)
+sub-search c = events-fit (ordered (c .before)) _ (c .word-at .ensures)
 
 part-search-start : tie.Need-part-search-start
-part-search-start c = events-fit (accepted (c .before)) _ (c .word-at .ensures)
+part-search-start c = events-fit (ordered (c .before)) _ (c .word-at .ensures)
 
 part-search-end : tie.Need-part-search-end
 part-search-end c = search needs
 
 search-requires : tie.Need-search-requires
-search-requires c κs = searchable (accepted (c .before .before)) _ (c .before .word-at .ensures)
+search-requires c κs = searchable (ordered (c .before .before)) _ (c .before .word-at .ensures)
 
 returns : tie.Need-returns
 unfolding givenFind
@@ -69,9 +77,9 @@ returns c =
 
 returns-2 : tie.Need-returns-2
 returns-2 c =
-    let good = c .before .before .before in
-    let a = start good .args in
-    searched (accepted good) _ (c .before .before .word-at .ensures) (a .number) (a .code) _ (c .search .ensures)
+    let asked = c .before .before .before in
+    let a = start (asked .before) .args in
+    searched (ordered asked) _ (c .before .before .word-at .ensures) (a .number) (a .code) _ (c .search .ensures)
 
 pub find-spec : {M : Type 1} → statement M
 find-spec =
@@ -80,6 +88,7 @@ find-spec =
     check-requires
     enum-known-fault
     enum-told
+    order-of-requires
     word-at-requires
     cast-from
     add-from

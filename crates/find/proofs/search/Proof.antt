@@ -8,6 +8,7 @@ use native.Mathlib.Omega.{arith}
 use denote.Ref.{now}
 use lib.ListN.{length}
 use borrow.Author.Needs.{needs}
+use Rattle.theory.specs.declared.Order.{Order}
 use Rattle.theory.proofs.WordLaws.{Bytes-from}
 use Rattle.note.specs.declared.FindAnswer.the-variants.{Nothing}
 use Rattle.note.specs.Answers.{accepted, counts, givenFind}
@@ -23,22 +24,22 @@ use Rattle.find.proofs.search.Lts as lts
 use Rattle.words.proofs.word_at.Reads as word-at-reads
 
 -- What the search is to give.
-abbrev sought : ℕ → ℕ → ℕ → List ℕ → List ℕ
-sought number code from part = firstMatch number code (tracesRead from (readEvents tt from part))
+abbrev sought : Order → ℕ → ℕ → ℕ → List ℕ → List ℕ
+sought o number code from part = firstMatch number code (tracesRead o from (readEvents o tt from part))
 
 abbrev Inv-loop : tie.InvT-loop
-Inv-loop part from number code found₀ rest at size records₀ place₀ found records place =
-    (found ≡ Nothing) × Looking number code (sought number code from part) (at + size) (laterTraces size at rest) place records
+Inv-loop part from number code order found₀ rest at size records₀ place₀ found records place =
+    (found ≡ Nothing) × Looking order number code (sought order number code from part) (at + size) (laterTraces order size at rest) place records
 
 abbrev μ-loop : tie.MeasureT-loop
-μ-loop part from number code found₀ rest at size records₀ place₀ found records place = length records
+μ-loop part from number code order found₀ rest at size records₀ place₀ found records place = length records
 
 abbrev Inv-events : tie.InvT-events
-Inv-events part from number code found₀ rest₀ at₀ found rest at =
-    (found ≡ Nothing) × Searching number code (sought number code from part) at rest
+Inv-events part from number code order found₀ rest₀ at₀ found rest at =
+    (found ≡ Nothing) × Searching order number code (sought order number code from part) at rest
 
 abbrev μ-events : tie.MeasureT-events
-μ-events part from number code found₀ rest₀ at₀ found rest at = length rest
+μ-events part from number code order found₀ rest₀ at₀ found rest at = length rest
 
 -- The event that stands next, where its length word was read: it stays in the rest.
 event-stays : (c : tie.After-word-at Inv-loop μ-loop Inv-events μ-events)
@@ -61,7 +62,7 @@ events-holds : tie.Need-events-holds Inv-loop μ-loop Inv-events μ-events
 events-holds c =
     let a = c .before .args in
     let h = Bytes-from (now (a .part)) (λ i l. omega (arith, c .shared-slice-known .given i)) in
-    (refl, begin (a .number) (a .code) (a .from) (now (a .part)) (c .before .pre) h)
+    (refl, begin _ (a .number) (a .code) (a .from) (now (a .part)) (c .before .pre) h)
 
 word-at-requires : tie.Need-word-at-requires Inv-loop μ-loop Inv-events μ-events
 word-at-requires c κs = omega (arith, event-fits (c .before .events .inv .1) (c .events-test .taken))

@@ -5,6 +5,7 @@ use mathlib.Core.List.{List}
 use Prim.Native.Nat.{ℕ}
 use denote.Ref.{now}
 use borrow.Author.Tests.{not-true, not-false}
+use Rattle.theory.specs.declared.Order.{Order}
 use Rattle.note.specs.Records.{Context, isAllowed}
 use Rattle.record.specs.Steps.{contextOf}
 use Rattle.record.proofs.StepLaws.{short, unknown, Named, long, Sized, misplaced, fault, good}
@@ -22,6 +23,9 @@ use Rattle.words.proofs.word_at.Reads as word-at-reads
 abbrev start : tie.Else2 → tie.Start
 start c = c .before .before .before .before .before
 
+abbrev order : tie.Else2 → Order
+order c = start c .args .order
+
 abbrev context : tie.Else2 → Context
 context c = contextOf (start c .args .context)
 
@@ -31,7 +35,7 @@ part c = now (start c .args .part)
 abbrev kind : tie.Else2 → ℕ
 kind c = c .before .before .word-at .result
 
-named : (c : tie.Else2) → Named (context c) (part c) (kind c)
+named : (c : tie.Else2) → Named (order c) (context c) (part c) (kind c)
 named c = record {
   room = c .before .before .before .if1 .left;
   kind-is = c .before .before .word-at .ensures;
@@ -42,7 +46,7 @@ named c = record {
 abbrev first : tie.Else3 → tie.Else2
 first c = c .before .before
 
-sized : (c : tie.Else3) → Sized (context (first c)) (part (first c)) (kind (first c)) (c .before .word-at2 .result)
+sized : (c : tie.Else3) → Sized (order (first c)) (context (first c)) (part (first c)) (kind (first c)) (c .before .word-at2 .result)
 sized c = record { named = named (first c); length-is = c .before .word-at2 .ensures; fits = c .if3 .left }
 
 -- Where the record may stand.
@@ -50,7 +54,7 @@ allowed : (c : tie.Else4) → isAllowed (context (first (c .before .before))) (k
 allowed c = sym (c .before .is-allowed .ensures) ∙ not-false _ (c .if4 .left)
 
 returns : tie.Need-returns
-returns c = let a = c .before .before .args in short (contextOf (a .context)) (a .at) (now (a .part)) (c .if1 .taken)
+returns c = let a = c .before .before .args in short _ (contextOf (a .context)) (a .at) (now (a .part)) (c .if1 .taken)
 
 word-at-requires : tie.Need-word-at-requires
 word-at-requires c κs = search needs
@@ -62,7 +66,7 @@ returns-2 : tie.Need-returns-2
 returns-2 c =
     let word = c .before .before in
     let a = word .before .before .before .args in
-    unknown (contextOf (a .context)) (a .at) (now (a .part)) (word .before .if1 .left) _ (word .word-at .ensures)
+    unknown _ (contextOf (a .context)) (a .at) (now (a .part)) (word .before .if1 .left) _ (word .word-at .ensures)
     (sym (c .before .is-kind .ensures) ∙ not-true _ (c .if2 .taken))
 
 word-at-requires-2 : tie.Need-word-at-requires-2

@@ -28,7 +28,7 @@ returns c =
     let test = c .before .before .before .before in
     let a = test .before .before .args in
     c .before .before .begin-configuration .ensures
-    ∙ ap (λ (w : ℕ). sets (now (a .out)) (a .place) (closingBytes w (a .place) (a .end))) (sym (test .if1 .taken))
+    ∙ ap (λ (w : ℕ). sets (now (a .out)) (a .place) (closingBytes (a .order) w (a .place) (a .end))) (sym (test .if1 .taken))
 
 class-of-requires : tie.Need-class-of-requires
 class-of-requires c κs = search needs
@@ -68,7 +68,7 @@ returns-2 c =
     let parts = c .before .before .before .before in
     let a = start (tested parts) .args in
     c .before .before .begin-event .ensures
-    ∙ ap (λ (w : ℕ). sets (now (a .out)) (a .place) (closingBytes w (a .place) (a .end))) (apart parts .1)
+    ∙ ap (λ (w : ℕ). sets (now (a .out)) (a .place) (closingBytes (a .order) w (a .place) (a .end))) (apart parts .1)
 
 pub begin-container-spec : {M : Type 1} → statement M
 begin-container-spec =

@@ -20,10 +20,10 @@ use Rattle.rewriting.proofs.copy_records.Reads as copy-records-reads
 use Rattle.words.proofs.word_at.Reads as word-at-reads
 
 abbrev Inv-loop : tie.InvT-loop
-Inv-loop part out₀ place rest₀ at₀ out rest at = Copying containerItem out₀ place part out rest at
+Inv-loop part out₀ place order rest₀ at₀ out rest at = Copying (containerItem order) out₀ place part out rest at
 
 abbrev μ-loop : tie.MeasureT-loop
-μ-loop part out₀ place rest₀ at₀ out rest at = length rest
+μ-loop part out₀ place order rest₀ at₀ out rest at = length rest
 
 -- From a turn's end back to where its contents were written, from there to where its two words were stored, to where these were read, and to
 -- the loop's head.
@@ -46,7 +46,8 @@ start c = c .before .before .before
 found : (c : tie.After-word-at2 Inv-loop μ-loop)
     → (let a = start (head c) .args in
     let l = head c .loop in
-    Found containerItem (now (a .out)) (a .place) (now (a .part)) (l .out) (now (l .rest)) (l .at) (c .before .word-at .result) (c .word-at2 .result))
+    Found (containerItem (a .order)) (a .order) (now (a .out)) (a .place) (now (a .part))
+    (l .out) (now (l .rest)) (l .at) (c .before .word-at .result) (c .word-at2 .result))
 found c =
     let turn = c .before .before in
     record { so-far = head c .loop .inv; more = turn .loop-test .taken; kind-is = c .before .word-at .ensures; length-is = c .word-at2 .ensures }
@@ -64,7 +65,7 @@ loop-holds c =
     let s = c .before .before in
     let (first, ready) = s .pre in
     let h = Bytes-from (now (s .args .part)) (λ i l. omega (arith, c .before .shared-slice-known .given i)) in
-    begin containerItem _ first (same-containers first) ready h
+    begin (containerItem _) _ first (same-containers _ first) ready h
 
 word-at-requires : tie.Need-word-at-requires Inv-loop μ-loop
 word-at-requires c κs = omega (arith, words c)
@@ -121,7 +122,7 @@ same-length : tie.Need-same-length Inv-loop μ-loop
 same-length c = c .before .loop .inv .laid .size
 
 returns : tie.Need-returns Inv-loop μ-loop
-returns c = ended containerItem (c .before .loop .inv) (c .loop-test .left)
+returns c = ended (containerItem _) (c .before .loop .inv) (c .loop-test .left)
 
 pub copy-containers-spec : {M : Type 1} → statement M
 copy-containers-spec =

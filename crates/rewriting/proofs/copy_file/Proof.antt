@@ -7,7 +7,7 @@ use lib.ListN.{length}
 use lib.Bits.{and-mask}
 use Rattle.theory.specs.Words.{Bytes}
 use Rattle.theory.proofs.WordLaws.{Bytes-from}
-use Rattle.note.specs.Files.{versionOf, headerBytes}
+use Rattle.note.specs.Files.{headerBytes}
 use Rattle.demands.specs.Outputs.{Laid}
 use Rattle.rewriting.proofs.FileCopy.{words-fit, header-copied, containers-ready, file-copied}
 use borrow.Author.Needs.{needs}
@@ -25,7 +25,7 @@ held c = Bytes-from (now (c .before .before .args .file)) (λ i l. omega (arith,
 
 -- It has its header's and its configuration's words.
 enough : (c : tie.After-slice-known) → 16 ≤ length (now (c .before .before .args .file))
-enough c = words-fit _ (now (c .before .before .args .out)) (held c) (c .before .before .pre)
+enough c = words-fit _ _ (now (c .before .before .args .out)) (held c) (c .before .before .pre)
 
 -- From where the header was written back to the start.
 abbrev known : tie.After-write-header → tie.After-slice-known
@@ -36,10 +36,10 @@ start c = known c .before .before
 
 -- Where the header was written: it stands.
 header : (c : tie.After-write-header)
-    → Laid (now (start c .args .out)) (c .write-header .last .0) 0 8 (headerBytes (versionOf (start c .pre .is)))
+    → Laid (now (start c .args .out)) (c .write-header .last .0) 0 8 (headerBytes (start c .args .order) (start c .pre .parts .0))
 header c =
     let version = c .before .before .word-at in
-    header-copied _ _ (held (known c)) (start c .pre) _ _ _ (version .ensures)
+    header-copied _ _ _ (held (known c)) (start c .pre) _ _ _ (version .ensures)
     (and-mask (version .result / 16777216) 8) (and-mask (version .result / 65536) 8) _ (c .write-header .ensures .1)
 
 word-at-requires : tie.Need-word-at-requires
@@ -66,7 +66,7 @@ part-copy-containers-end c = search needs
 copy-containers-requires : tie.Need-copy-containers-requires
 copy-containers-requires c κs =
     let top = c .before .before .before .before in
-    containers-ready _ _ (held (known top)) (start top .pre) _ (header top)
+    containers-ready _ _ _ (held (known top)) (start top .pre) _ (header top)
 
 same-length : tie.Need-same-length
 same-length c = search needs
@@ -75,7 +75,7 @@ returns : tie.Need-returns
 returns c =
     let copied = c .before .before in
     let top = copied .before .before .before .before .before in
-    file-copied _ _ (held (known top)) (start top .pre) _ (header top) _ (copied .copy-containers .ensures)
+    file-copied _ _ _ (held (known top)) (start top .pre) _ (header top) _ (copied .copy-containers .ensures)
 
 pub copy-file-spec : {M : Type 1} → statement M
 copy-file-spec =

@@ -19,10 +19,10 @@ use Rattle.copies.proofs.copy_record.Reads as copy-record-reads
 use Rattle.words.proofs.word_at.Reads as word-at-reads
 
 abbrev Inv-loop : tie.InvT-loop
-Inv-loop part out₀ place rest₀ at₀ out rest at = Copying recordItem out₀ place part out rest at
+Inv-loop part out₀ place order rest₀ at₀ out rest at = Copying (recordItem order) out₀ place part out rest at
 
 abbrev μ-loop : tie.MeasureT-loop
-μ-loop part out₀ place rest₀ at₀ out rest at = length rest
+μ-loop part out₀ place order rest₀ at₀ out rest at = length rest
 
 -- From a turn's end back to where its record was written, from there to where its two words were read, and to the loop's head.
 abbrev written : tie.After-slice-known2 Inv-loop μ-loop → tie.After-copy-record Inv-loop μ-loop
@@ -46,7 +46,8 @@ sized c = record-fits (head c .loop .inv) (c .before .loop-test .taken) _ (c .wo
 found : (c : tie.After-word-at2 Inv-loop μ-loop)
     → (let a = start (head (c .before)) .args in
     let l = head (c .before) .loop in
-    Found recordItem (now (a .out)) (a .place) (now (a .part)) (l .out) (now (l .rest)) (l .at) (c .word-at2 .result) (c .before .word-at .result))
+    Found (recordItem (a .order)) (a .order) (now (a .out)) (a .place) (now (a .part))
+    (l .out) (now (l .rest)) (l .at) (c .word-at2 .result) (c .before .word-at .result))
 found c =
     let own = c .before in
     record { so-far = head own .loop .inv; more = own .before .loop-test .taken; kind-is = c .word-at2 .ensures; length-is = own .word-at .ensures }
@@ -56,7 +57,7 @@ loop-holds c =
     let s = c .before .before in
     let (context, ready) = s .pre in
     let h = Bytes-from (now (s .args .part)) (λ i l. omega (arith, c .before .shared-slice-known .given i)) in
-    begin recordItem _ context (same-records context) ready h
+    begin (recordItem _) _ context (same-records _ context) ready h
 
 word-at-requires : tie.Need-word-at-requires Inv-loop μ-loop
 word-at-requires c κs = let (fits, limit) = record-fits (c .before .loop .inv) (c .loop-test .taken) _ refl in omega (arith, fits)
@@ -104,7 +105,7 @@ same-length : tie.Need-same-length Inv-loop μ-loop
 same-length c = c .before .loop .inv .laid .size
 
 returns : tie.Need-returns Inv-loop μ-loop
-returns c = ended recordItem (c .before .loop .inv) (c .loop-test .left)
+returns c = ended (recordItem _) (c .before .loop .inv) (c .loop-test .left)
 
 pub copy-records-spec : {M : Type 1} → statement M
 copy-records-spec =

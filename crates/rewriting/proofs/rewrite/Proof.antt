@@ -48,8 +48,14 @@ returns-2 : tie.Need-returns-2
 unfolding givenWriter
 returns-2 c = no-room (accepted (c .before)) _ (tested (c .before) .if1 .left) (c .if2 .taken)
 
+order-of-requires : tie.Need-order-of-requires
+order-of-requires c κs = search needs
+
 copy-file-requires : tie.Need-copy-file-requires
-copy-file-requires c κs = let good = c .before .before in ready (accepted good) (tested good .if1 .left) (c .before .if2 .left)
+copy-file-requires c κs =
+    let test = c .before .before in
+    let good = test .before in
+    ready (accepted good) (tested good .if1 .left) (test .if2 .left) (c .order-of .ensures)
 
 returns-3 : tie.Need-returns-3
 unfolding givenWriter
@@ -64,7 +70,7 @@ returns-4 : tie.Need-returns-4
 unfolding givenWriter
 returns-4 c =
     let copied = c .before .before in
-    let test = copied .before .before in
+    let test = copied .before .before .before in
     rewrites (accepted (test .before)) _ (tested (test .before) .if1 .left) (test .if2 .left) _ (copied .copy-file .ensures)
 
 pub rewrite-spec : {M : Type 1} → statement M
@@ -76,6 +82,7 @@ rewrite-spec =
     enum-known-number
     enum-told
     returns-2
+    order-of-requires
     copy-file-requires
     returns-3
     same-length

@@ -20,10 +20,10 @@ history-rule-requires c κs = search needs
 returns : tie.Need-returns
 returns c =
     let looked = c .before .before .before in
-    rw (c .history-rule .ensures) (sym (history-has _ _ (looked .value-places .ensures) (c .before .if1 .taken)))
+    rw (c .history-rule .ensures) (sym (history-has _ _ _ (looked .value-places .ensures) (c .before .if1 .taken)))
 
 returns-2 : tie.Need-returns-2
-returns-2 c = let looked = c .before .before .before .before in sym (none-has _ _ (looked .value-places .ensures) (c .if2 .taken))
+returns-2 c = let looked = c .before .before .before .before in sym (none-has _ _ _ (looked .value-places .ensures) (c .if2 .taken))
 
 add-result : tie.Need-add-result
 add-result c = omega (arith, ordered _ (c .before .before .before .before .before .value-places .ensures))
@@ -32,7 +32,7 @@ returns-3 : tie.Need-returns-3
 returns-3 c =
     let test = c .before in
     let looked = test .before .before .before .before in
-    sym (others-have _ _ (looked .value-places .ensures) (test .before .before .if1 .left) (test .if2 .left))
+    sym (others-have _ _ _ (looked .value-places .ensures) (test .before .before .if1 .left) (test .if2 .left))
 
 pub has-values-spec : {M : Type 1} → statement M
 has-values-spec =

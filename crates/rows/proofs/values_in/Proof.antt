@@ -25,33 +25,33 @@ value-places-requires c κs = search needs
 abbrev found : tie.Then1 → tie.After-value-places
 found c = c .before .before
 
-follows : (c : tie.Then1) → historyRule (now (found c .before .before .args .b)) ≡ 0
-follows c = let s = found c .before .before in history-follows _ _ (found c .value-places .ensures) (s .pre .0) (c .if1 .taken)
+follows : (c : tie.Then1) → historyRule (found c .before .before .args .order) (now (found c .before .before .args .b)) ≡ 0
+follows c = let s = found c .before .before in history-follows _ _ _ (found c .value-places .ensures) (s .pre .0) (c .if1 .taken)
 
 section-end-requires : tie.Need-section-end-requires
 section-end-requires c κs =
-    let v = veto-follows _ (follows c) in
-    (room _ 0 _ v, thin _ 0 _ v, found c .before .before .pre .1)
+    let v = veto-follows _ _ (follows c) in
+    (room _ _ 0 _ v, thin _ _ 0 _ v, found c .before .before .pre .1)
 
 word-at-requires : tie.Need-word-at-requires
-word-at-requires c κs = omega (arith, trigger-count _ (follows (c .before)))
+word-at-requires c κs = omega (arith, trigger-count _ _ (follows (c .before)))
 
 word-at-requires-2 : tie.Need-word-at-requires-2
-word-at-requires-2 c κs = rw (c .before .section-end .ensures) (trigger-count _ (follows (c .before .before)))
+word-at-requires-2 c κs = rw (c .before .section-end .ensures) (trigger-count _ _ (follows (c .before .before)))
 
 returns : tie.Need-returns
 returns c =
     let read = c .before in
     let test = read .before .before in
     let looked = found test in
-    history-values _ _ (looked .value-places .ensures) (looked .before .before .pre .0) (test .if1 .taken)
+    history-values _ _ _ (looked .value-places .ensures) (looked .before .before .pre .0) (test .if1 .taken)
     (read .word-at .ensures) (read .before .section-end .ensures) (c .word-at2 .ensures)
 
 -- Where it isn't: both words lie in the body.
 inside : (c : tie.Else1)
     → (c .before .before .value-places .result .one + 4 ≤ length (now (c .before .before .before .before .args .b)))
     × (c .before .before .value-places .result .two + 4 ≤ length (now (c .before .before .before .before .args .b)))
-inside c = let looked = c .before .before in others-room _ _ (looked .value-places .ensures) (looked .before .before .pre .0) (c .if1 .left)
+inside c = let looked = c .before .before in others-room _ _ _ (looked .value-places .ensures) (looked .before .before .pre .0) (c .if1 .left)
 
 word-at-requires-3 : tie.Need-word-at-requires-3
 word-at-requires-3 c κs = inside c .0
@@ -63,7 +63,7 @@ returns-2 : tie.Need-returns-2
 returns-2 c =
     let test = c .before .before in
     let looked = test .before .before in
-    others-values _ _ (looked .value-places .ensures) (looked .before .before .pre .0) (test .if1 .left)
+    others-values _ _ _ (looked .value-places .ensures) (looked .before .before .pre .0) (test .if1 .left)
     (c .before .word-at3 .ensures) (c .word-at4 .ensures)
 
 pub values-in-spec : {M : Type 1} → statement M

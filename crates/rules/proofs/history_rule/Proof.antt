@@ -6,6 +6,7 @@ use mathlib.Core.List.{List, [], _∷_}
 use lib.Dec.{eqb}
 use lib.ListN.{length}
 use denote.Ref.{now}
+use Rattle.theory.specs.declared.Order.{Order}
 use Rattle.rules.proofs.SectionLaws.{room, thin, small}
 use borrow.Author.Tests.{eq-eqb, le-leb, lt-leb, ne-eqb}
 use Rattle.note.specs.History.{historyRule, sectionRule, after}
@@ -34,10 +35,13 @@ section-rule-requires c κs = search needs
 abbrev body : tie.Else2 → List ℕ
 body c = now (c .before .before .before .args .b)
 
+abbrev order : tie.Else2 → Order
+order c = c .before .before .before .args .order
+
 sized : (c : tie.Else2)
-    → historyRule (body c)
-    ≡ first (sectionRule false 0 (body c) ∷ sectionRule true (after 0 (body c)) (body c)
-    ∷ unless (eqb (length (body c)) (after (after 0 (body c)) (body c))) 6 ∷ [])
+    → historyRule (order c) (body c)
+    ≡ first (sectionRule (order c) false 0 (body c) ∷ sectionRule (order c) true (after (order c) 0 (body c)) (body c)
+    ∷ unless (eqb (length (body c)) (after (order c) (after (order c) 0 (body c)) (body c))) 6 ∷ [])
 unfolding historyRule first
 sized c = rw (le-leb _ _ (c .before .if1 .left), eq-eqb _ _ (c .if2 .left))
 
@@ -46,18 +50,18 @@ unfolding first
 returns-3 c = rw (sized (c .before .before), ← c .before .section-rule .ensures, positive (c .before .section-rule .result) (c .if3 .taken))
 
 -- Where the veto section has passed: it follows its rule.
-veto-passed : (c : tie.Else3) → sectionRule false 0 (body (c .before .before)) ≡ 0
+veto-passed : (c : tie.Else3) → sectionRule (order (c .before .before)) false 0 (body (c .before .before)) ≡ 0
 veto-passed c = sym (c .before .section-rule .ensures) ∙ c .if3 .left
 
 section-end-requires : tie.Need-section-end-requires
 section-end-requires c κs =
     let e = veto-passed c in
-    (room _ 0 _ e, thin _ 0 _ e, c .before .before .before .before .before .pre)
+    (room _ _ 0 _ e, thin _ _ 0 _ e, c .before .before .before .before .before .pre)
 
 section-rule-requires-2 : tie.Need-section-rule-requires-2
 section-rule-requires-2 c κs =
     let short = c .before .before .before .before .before .before .pre in
-    (rw (c .section-end .ensures) (small _ 0 _ (veto-passed (c .before)) short), short)
+    (rw (c .section-end .ensures) (small _ _ 0 _ (veto-passed (c .before)) short), short)
 
 returns-4 : tie.Need-returns-4
 unfolding first
@@ -76,14 +80,17 @@ returns-4 c =
 abbrev middle : tie.Else4 → tie.After-section-end
 middle c = c .before .before
 
+abbrev asked : tie.Else4 → Order
+asked c = order (middle c .before .before .before)
+
 abbrev whole : tie.Else4 → List ℕ
 whole c = body (middle c .before .before .before)
 
-trigger-passed : (c : tie.Else4) → sectionRule true (middle c .section-end .result) (whole c) ≡ 0
+trigger-passed : (c : tie.Else4) → sectionRule (asked c) true (middle c .section-end .result) (whole c) ≡ 0
 trigger-passed c = sym (c .before .section-rule2 .ensures) ∙ c .if4 .left
 
 end-asked : (c : tie.Else4)
-    → historyRule (whole c) ≡ first (unless (eqb (length (whole c)) (after (middle c .section-end .result) (whole c))) 6 ∷ [])
+    → historyRule (asked c) (whole c) ≡ first (unless (eqb (length (whole c)) (after (asked c) (middle c .section-end .result) (whole c))) 6 ∷ [])
 unfolding first
 end-asked c =
     let veto = middle c .before in
@@ -92,7 +99,7 @@ end-asked c =
 section-end-requires-2 : tie.Need-section-end-requires-2
 section-end-requires-2 c κs =
     let e = trigger-passed c in
-    (room _ _ _ e, thin _ _ _ e, middle c .before .before .before .before .before .before .pre)
+    (room _ _ _ _ e, thin _ _ _ _ e, middle c .before .before .before .before .before .before .pre)
 
 returns-5 : tie.Need-returns-5
 unfolding first

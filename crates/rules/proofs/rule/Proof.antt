@@ -75,7 +75,7 @@ unfolding kindOf
 returns-8 c = rw (c .before .match .keys8) (c .tlb-rule .ensures)
 
 returns-9 : tie.Need-returns-9
-returns-9 c = sym (ap (λ (k : Kind). k .rule (now (c .before .before .args .b))) (no-arm (c .match .rest)))
+returns-9 c = sym (ap (λ (k : Kind). k .rule (c .before .before .args .order) (now (c .before .before .args .b))) (no-arm (c .match .rest)))
 
 pub rule-spec : {M : Type 1} → statement M
 rule-spec =

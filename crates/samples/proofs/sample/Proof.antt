@@ -23,14 +23,16 @@ enum-known-kind c = search needs
 abbrev start : tie.After-kind → tie.Start
 start c = c .before .before .before .before
 
-found : (c : tie.After-kind) → Found (now (start c .args .file)) (start c .args .place) (c .kind .given .0 .0) (c .kind .given .0 .1 .0)
+found : (c : tie.After-kind)
+    → Found (start c .args .order) (now (start c .args .file)) (start c .args .place) (c .kind .given .0 .0) (c .kind .given .0 .1 .0)
 found c = good-found (c .kind .given .1) (c .before .before .record-found .ensures)
 
 -- Where its kind is asked: it's a trace.
 abbrev good : tie.Else1 → tie.After-kind
 good c = c .before .before
 
-trace : (c : tie.Else1) → Found (now (start (good c) .args .file)) (start (good c) .args .place) 0x11 (good c .kind .given .0 .1 .0)
+trace : (c : tie.Else1)
+    → Found (start (good c) .args .order) (now (start (good c) .args .file)) (start (good c) .args .place) 0x11 (good c .kind .given .0 .1 .0)
 trace c = trace-found (found (good c)) (c .if1 .left)
 
 returns : tie.Need-returns
@@ -84,7 +86,8 @@ returns-5 : tie.Need-returns-5
 unfolding givenSample sampleAt
 returns-5 c =
     let called = c .before .before .before in
-    bad-given _ _ (c .before .why .given .1) (called .record-found .ensures) (sampleGiven (called .before .before .args .place) _)
+    let a = called .before .before .args in
+    bad-given _ _ _ (c .before .why .given .1) (called .record-found .ensures) (sampleGiven (a .order) (a .place) _)
 
 pub sample-spec : {M : Type 1} → statement M
 sample-spec =

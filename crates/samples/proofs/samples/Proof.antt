@@ -20,14 +20,16 @@ enum-known-kind c = search needs
 abbrev start : tie.After-kind → tie.Start
 start c = c .before .before .before .before
 
-found : (c : tie.After-kind) → Found (now (start c .args .file)) (start c .args .place) (c .kind .given .0 .0) (c .kind .given .0 .1 .0)
+found : (c : tie.After-kind)
+    → Found (start c .args .order) (now (start c .args .file)) (start c .args .place) (c .kind .given .0 .0) (c .kind .given .0 .1 .0)
 found c = good-found (c .kind .given .1) (c .before .before .record-found .ensures)
 
 -- Where its kind was asked: it's a trace, so its samples lie between its 48 first bytes and its end.
 abbrev good : tie.Then1 → tie.After-kind
 good c = c .before .before
 
-trace : (c : tie.Then1) → Found (now (start (good c) .args .file)) (start (good c) .args .place) 0x11 (good c .kind .given .0 .1 .0)
+trace : (c : tie.Then1)
+    → Found (start (good c) .args .order) (now (start (good c) .args .file)) (start (good c) .args .place) 0x11 (good c .kind .given .0 .1 .0)
 trace c = trace-found (found (good c)) (c .if1 .taken)
 
 add-result : tie.Need-add-result
@@ -76,12 +78,12 @@ returns-2 : tie.Need-returns-2
 returns-2 c =
     let test = c .before in
     let none = no-part (found (test .before .before)) (test .if1 .left) in
-    (empty-part _ _ none, rw none)
+    (empty-part _ _ _ none, rw none)
 
 returns-3 : tie.Need-returns-3
 returns-3 c =
-    let none = refused-part _ _ (c .before .enum-told .given .1) (c .before .before .before .record-found .ensures) in
-    (empty-part _ _ none, rw none)
+    let none = refused-part _ _ _ (c .before .enum-told .given .1) (c .before .before .before .record-found .ensures) in
+    (empty-part _ _ _ none, rw none)
 
 pub samples-spec : {M : Type 1} → statement M
 samples-spec =

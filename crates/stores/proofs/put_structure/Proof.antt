@@ -14,11 +14,11 @@ use Rattle.stores.proofs.put_words.Reads as put-words-reads
 mul-words : tie.Need-mul-words
 mul-words c = search needs
 
-add-t11 : tie.Need-add-t11
-add-t11 c = search needs
+add-t12 : tie.Need-add-t12
+add-t12 c = search needs
 
-cast-t12 : tie.Need-cast-t12
-cast-t12 c = search needs
+cast-t13 : tie.Need-cast-t13
+cast-t13 c = search needs
 
 slice-aggregate-put-words : tie.Need-slice-aggregate-put-words
 slice-aggregate-put-words c = search needs
@@ -45,15 +45,15 @@ returns c =
     let first = middle .before .before .before .before in
     let a = first .before .before .before .before .before .before .args in
     rw (last .put-part .ensures, middle .put-words2 .ensures, first .put-words .ensures)
-    (structured-stored (a .kind) (now (a .ws)) (now (a .bytes)) (now (a .part)) _ refl)
+    (structured-stored _ (a .kind) (now (a .ws)) (now (a .bytes)) (now (a .part)) _ refl)
 
 pub put-structure-spec : {M : Type 1} → statement M
 put-structure-spec =
     tie.close
     (tie.spec
     mul-words
-    add-t11
-    cast-t12
+    add-t12
+    cast-t13
     slice-aggregate-put-words
     put-words-requires
     put-words-requires-2

@@ -46,7 +46,8 @@ whole c = sized (start c .pre) (held (c .before)) _ (c .word-at .ensures)
 
 -- Where the header's row was stored: what the buffer holds.
 begun : (c : tie.After-put-row)
-    → Begun (now (start (read c) .args .file)) (now (start (read c) .args .rows)) (read c .word-at .result) (c .put-row .last .0)
+    → (let a = start (read c) .args in
+    Begun (a .order) (now (a .file)) (now (a .rows)) (read c .word-at .result) (c .put-row .last .0))
 begun c =
     begin (held (read c .before)) (start (read c) .pre) _ (read c .word-at .ensures) _ (c .before .word-at2 .ensures) _ (c .put-row .ensures)
 
@@ -86,14 +87,14 @@ part-fill-records-end c = omega (arith, whole (read (c .before .before)))
 fill-records-requires : tie.Need-fill-records-requires
 fill-records-requires c κs = fillable (begun (c .before .before .before .before))
 
-cast-t6 : tie.Need-cast-t6
-cast-t6 c = let records = c .before .before .before in omega (arith, whole (read (headed records)))
+cast-t7 : tie.Need-cast-t7
+cast-t7 c = let records = c .before .before .before in omega (arith, whole (read (headed records)))
 
-sub-t7 : tie.Need-sub-t7
-sub-t7 c = omega (arith, rows (c .before .before .before))
+sub-t8 : tie.Need-sub-t8
+sub-t8 c = omega (arith, rows (c .before .before .before))
 
-cast-t19 : tie.Need-cast-t19
-cast-t19 c = let records = c .before .before .before in omega (arith, rows records, whole (read (headed records)))
+cast-t20 : tie.Need-cast-t20
+cast-t20 c = let records = c .before .before .before in omega (arith, rows records, whole (read (headed records)))
 
 put-row-requires-2 : tie.Need-put-row-requires-2
 put-row-requires-2 c κs =
@@ -139,9 +140,9 @@ fill-spec =
     part-fill-records-start
     part-fill-records-end
     fill-records-requires
-    cast-t6
-    sub-t7
-    cast-t19
+    cast-t7
+    sub-t8
+    cast-t20
     put-row-requires-2
     sub-fill-events
     part-fill-events-start

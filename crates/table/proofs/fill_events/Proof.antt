@@ -18,10 +18,10 @@ use Rattle.rows.proofs.put_row.Reads as put-row-reads
 use Rattle.words.proofs.word_at.Reads as word-at-reads
 
 abbrev Inv-loop : tie.InvT-loop
-Inv-loop part from rows₀ first rest₀ at₀ n₀ rows rest at n = FillingEvents from part rows₀ first rows rest at n
+Inv-loop part from rows₀ first order rest₀ at₀ n₀ rows rest at n = FillingEvents order from part rows₀ first rows rest at n
 
 abbrev μ-loop : tie.MeasureT-loop
-μ-loop part from rows₀ first rest₀ at₀ n₀ rows rest at n = length rest
+μ-loop part from rows₀ first order rest₀ at₀ n₀ rows rest at n = length rest
 
 -- From a turn back to the function's start; from its end back to where the event's two words were read, its records filled between them,
 -- and to the loop's head.
@@ -63,7 +63,7 @@ rows c =
     next-row (turn .before .loop .inv) (start turn .pre) (turn .loop-test .taken) _ (read c .word-at .ensures) _ _ (c .fill-records .ensures)
 
 loop-holds : tie.Need-loop-holds Inv-loop μ-loop
-loop-holds c = begin _ _ _ _ (Bytes-from (now (c .before .before .args .part)) (λ i l. omega (arith, c .before .shared-slice-known .given i)))
+loop-holds c = begin _ _ _ _ _ (Bytes-from (now (c .before .before .args .part)) (λ i l. omega (arith, c .before .shared-slice-known .given i)))
 
 word-at-requires : tie.Need-word-at-requires Inv-loop μ-loop
 word-at-requires c κs = words c
@@ -101,23 +101,23 @@ fill-records-requires c κs =
     let turn = sized .before in
     fillable (turn .before .loop .inv) (start turn .pre) (turn .loop-test .taken) _ (sized .word-at .ensures)
 
-cast-t12 : tie.Need-cast-t12 Inv-loop μ-loop
-cast-t12 c = search needs
+cast-t13 : tie.Need-cast-t13 Inv-loop μ-loop
+cast-t13 c = search needs
 
-cast-t24 : tie.Need-cast-t24 Inv-loop μ-loop
-cast-t24 c = omega (arith, whole (read (c .before .before .before)))
+cast-t25 : tie.Need-cast-t25 Inv-loop μ-loop
+cast-t25 c = omega (arith, whole (read (c .before .before .before)))
 
 word-at-requires-2 : tie.Need-word-at-requires-2 Inv-loop μ-loop
 word-at-requires-2 c κs = omega (arith, whole (read (c .before .before .before)))
 
-sub-t10 : tie.Need-sub-t10 Inv-loop μ-loop
-sub-t10 c = omega (arith, rows (filled c))
+sub-t11 : tie.Need-sub-t11 Inv-loop μ-loop
+sub-t11 c = omega (arith, rows (filled c))
 
-sub-t20 : tie.Need-sub-t20 Inv-loop μ-loop
-sub-t20 c = omega (arith, rows (filled c))
+sub-t21 : tie.Need-sub-t21 Inv-loop μ-loop
+sub-t21 c = omega (arith, rows (filled c))
 
-cast-t27 : tie.Need-cast-t27 Inv-loop μ-loop
-cast-t27 c = omega (arith, rows (filled c), whole (read (filled c)))
+cast-t28 : tie.Need-cast-t28 Inv-loop μ-loop
+cast-t28 c = omega (arith, rows (filled c), whole (read (filled c)))
 
 put-row-requires : tie.Need-put-row-requires Inv-loop μ-loop
 put-row-requires c κs = rows (filled c) .2
@@ -169,12 +169,12 @@ fill-events-spec =
     add-fill-records-3
     cast-fill-records
     fill-records-requires
-    cast-t12
-    cast-t24
+    cast-t13
+    cast-t25
     word-at-requires-2
-    sub-t10
-    sub-t20
-    cast-t27
+    sub-t11
+    sub-t21
+    cast-t28
     put-row-requires
     sub-rest
     part-rest-start

@@ -33,8 +33,14 @@ enum-known-count c = search needs
 returns : tie.Need-returns
 returns c = too-few _ _ _ (counted (c .before .before)) (c .if1 .taken)
 
+order-of-requires : tie.Need-order-of-requires
+order-of-requires c κs = search needs
+
 fill-requires : tie.Need-fill-requires
-fill-requires c κs = let count = c .before .before .before in fillable _ (now (start count .args .rows)) _ (counted count) (c .before .if1 .left)
+fill-requires c κs =
+    let test = c .before .before in
+    let count = test .before .before in
+    fillable _ (now (start count .args .rows)) _ (counted count) (test .if1 .left) _ (c .order-of .ensures)
 
 returns-2 : tie.Need-returns-2
 returns-2 c = refused _ _ _ _ (sym (c .before .number .given .1) ∙ c .before .before .before .check .ensures)
@@ -44,7 +50,7 @@ same-length c = search needs
 
 returns-3 : tie.Need-returns-3
 returns-3 c =
-    let lent = c .before .before .before .before in
+    let lent = c .before .before .before .before .before in
     filled _ _ _ (counted (lent .before .before)) (lent .if1 .left) _ (c .before .before .fill .ensures)
 
 pub table-spec : {M : Type 1} → statement M
@@ -55,6 +61,7 @@ table-spec =
     enum-known-number
     enum-known-count
     returns
+    order-of-requires
     fill-requires
     returns-2
     same-length

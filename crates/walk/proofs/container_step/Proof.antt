@@ -19,14 +19,14 @@ use Rattle.walk.proofs.stayed.Reads as stayed-reads
 use Rattle.words.proofs.word_at.Reads as word-at-reads
 
 -- Where the test was passed: a structure stands at the part's front.
-here : (c : tie.Else1) → stands (now (c .before .before .before .args .part)) ≡ true
+here : (c : tie.Else1) → stands (c .before .before .before .args .order) (now (c .before .before .before .args .part)) ≡ true
 here c = sym (c .before .stands .ensures) ∙ not-false _ (c .if1 .left)
 
 -- Where its length word was read: its size lies within the part.
 abbrev start : tie.After-word-at → tie.Start
 start c = c .before .before .before .before
 
-found : (c : tie.After-word-at) → Found (now (start c .args .part)) (c .word-at .result)
+found : (c : tie.After-word-at) → Found (start c .args .order) (now (start c .args .part)) (c .word-at .result)
 found c = record { is-here = here (c .before); length-is = c .word-at .ensures }
 
 stands-requires : tie.Need-stands-requires
@@ -36,10 +36,10 @@ stayed-requires : tie.Need-stayed-requires
 stayed-requires c κs = search needs
 
 returns : tie.Need-returns
-returns c = c .stayed .ensures ∙ container-none _ _ (sym (c .before .before .stands .ensures) ∙ not-true _ (c .before .if1 .taken))
+returns c = c .stayed .ensures ∙ container-none _ _ _ (sym (c .before .before .stands .ensures) ∙ not-true _ (c .before .if1 .taken))
 
 word-at-requires : tie.Need-word-at-requires
-word-at-requires c κs = standing _ (here c) .0
+word-at-requires c κs = standing _ _ (here c) .0
 
 cast-size : tie.Need-cast-size
 cast-size c = search needs
@@ -63,7 +63,7 @@ cast-container-row : tie.Need-cast-container-row
 cast-container-row c = let sized = c .before .before in omega (arith, fits (found sized), start sized .pre .0)
 
 word-at-requires-2 : tie.Need-word-at-requires-2
-word-at-requires-2 c κs = omega (arith, standing _ (here (c .before .before .before)) .0)
+word-at-requires-2 c κs = omega (arith, standing _ _ (here (c .before .before .before)) .0)
 
 cast-container-row-2 : tie.Need-cast-container-row-2
 cast-container-row-2 c =
@@ -74,17 +74,17 @@ cast-container-row-2 c =
 container-row-requires : tie.Need-container-row-requires
 container-row-requires c κs = search needs
 
-add-t10 : tie.Need-add-t10
-add-t10 c = search needs
+add-t11 : tie.Need-add-t11
+add-t11 c = search needs
+
+add-t17 : tie.Need-add-t17
+add-t17 c = search needs
 
 add-t16 : tie.Need-add-t16
 add-t16 c = search needs
 
 add-t15 : tie.Need-add-t15
 add-t15 c = search needs
-
-add-t14 : tie.Need-add-t14
-add-t14 c = search needs
 
 returns-2 : tie.Need-returns-2
 returns-2 c =
@@ -112,8 +112,8 @@ container-step-spec =
     word-at-requires-2
     cast-container-row-2
     container-row-requires
-    add-t10
+    add-t11
+    add-t17
     add-t16
     add-t15
-    add-t14
     returns-2)

@@ -12,13 +12,13 @@ use Rattle.walk.proofs.count_in.Lts as lts
 use Rattle.words.proofs.word_at.Reads as word-at-reads
 
 abbrev Inv-loop : tie.InvT-loop
-Inv-loop part rest₀ count₀ rest count = Counting part rest count
+Inv-loop part order rest₀ count₀ rest count = Counting order part rest count
 
 abbrev μ-loop : tie.MeasureT-loop
-μ-loop part rest₀ count₀ rest count = length rest
+μ-loop part order rest₀ count₀ rest count = length rest
 
 loop-holds : tie.Need-loop-holds Inv-loop μ-loop
-loop-holds c = begin (now (c .before .args .part))
+loop-holds c = begin _ (now (c .before .args .part))
 
 word-at-requires : tie.Need-word-at-requires Inv-loop μ-loop
 word-at-requires c κs = omega (arith, c .loop-test .taken)
@@ -32,7 +32,7 @@ add-size c = search needs
 returns : tie.Need-returns Inv-loop μ-loop
 returns c =
     let turn = c .before .before in
-    counted (turn .before .loop .inv) (too-long _ _ (c .before .word-at .ensures) (turn .loop-test .taken) (c .if1 .taken))
+    counted (turn .before .loop .inv) (too-long _ _ _ (c .before .word-at .ensures) (turn .loop-test .taken) (c .if1 .taken))
 
 sub-rest : tie.Need-sub-rest Inv-loop μ-loop
 sub-rest c = search needs
@@ -55,7 +55,7 @@ loop-again c =
     counts-on (read .before .before .loop .inv) _ (read .word-at .ensures) (read .before .loop-test .taken) (c .before .if1 .left)
 
 returns-2 : tie.Need-returns-2 Inv-loop μ-loop
-returns-2 c = counted (c .before .loop .inv) (too-short _ (c .loop-test .left))
+returns-2 c = counted (c .before .loop .inv) (too-short _ _ (c .loop-test .left))
 
 pub count-in-spec : {M : Type 1} → statement M
 count-in-spec =

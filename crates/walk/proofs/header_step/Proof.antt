@@ -14,16 +14,16 @@ stayed-requires : tie.Need-stayed-requires
 stayed-requires c κs = search needs
 
 returns : tie.Need-returns
-returns c = c .stayed .ensures ∙ header-none _ _ (c .before .if1 .taken)
+returns c = c .stayed .ensures ∙ header-none _ _ _ (c .before .if1 .taken)
 
-add-t6 : tie.Need-add-t6
-add-t6 c = search needs
+add-t7 : tie.Need-add-t7
+add-t7 c = search needs
 
 word-at-requires : tie.Need-word-at-requires
 word-at-requires c κs = search needs
 
 returns-2 : tie.Need-returns-2
-returns-2 c = header-here _ _ (c .before .before .if1 .left) _ (c .word-at .ensures)
+returns-2 c = header-here _ _ _ (c .before .before .if1 .left) _ (c .word-at .ensures)
 
 pub header-step-spec : {M : Type 1} → statement M
-header-step-spec = tie.close (tie.spec stayed-requires returns add-t6 word-at-requires returns-2)
+header-step-spec = tie.close (tie.spec stayed-requires returns add-t7 word-at-requires returns-2)

@@ -21,14 +21,14 @@ use Rattle.walk.proofs.stayed.Reads as stayed-reads
 use Rattle.words.proofs.word_at.Reads as word-at-reads
 
 -- Where the first test was passed: a structure stands at the part's front.
-here : (c : tie.Else1) → stands (now (c .before .before .before .args .part)) ≡ true
+here : (c : tie.Else1) → stands (c .before .before .before .args .order) (now (c .before .before .before .args .part)) ≡ true
 here c = sym (c .before .stands .ensures) ∙ not-false _ (c .if1 .left)
 
 -- Where both words were read: its length word is known, so its size lies within the part.
 abbrev start : tie.After-word-at2 → tie.Start
 start c = c .before .before .before .before .before
 
-found : (c : tie.After-word-at2) → Found (now (start c .args .part)) (c .word-at2 .result)
+found : (c : tie.After-word-at2) → Found (start c .args .order) (now (start c .args .part)) (c .word-at2 .result)
 found c = record { is-here = here (c .before .before); length-is = c .word-at2 .ensures }
 
 -- Where the second test was passed: the body has its row's values.
@@ -36,7 +36,8 @@ abbrev read : tie.Else2 → tie.After-word-at2
 read c = c .before .before .before
 
 filled : (c : tie.Else2)
-    → hasValues (read c .before .word-at .result) (cutBody (read c .word-at2 .result) (now (start (read c) .args .part))) ≡ true
+    → (let a = start (read c) .args in
+    hasValues (a .order) (read c .before .word-at .result) (cutBody (read c .word-at2 .result) (now (a .part))) ≡ true)
 filled c = sym (c .before .has-values .ensures) ∙ not-false _ (c .if2 .left)
 
 stands-requires : tie.Need-stands-requires
@@ -46,13 +47,13 @@ stayed-requires : tie.Need-stayed-requires
 stayed-requires c κs = search needs
 
 returns : tie.Need-returns
-returns c = c .stayed .ensures ∙ record-none _ _ (sym (c .before .before .stands .ensures) ∙ not-true _ (c .before .if1 .taken))
+returns c = c .stayed .ensures ∙ record-none _ _ _ (sym (c .before .before .stands .ensures) ∙ not-true _ (c .before .if1 .taken))
 
 word-at-requires : tie.Need-word-at-requires
-word-at-requires c κs = omega (arith, standing _ (here c) .0)
+word-at-requires c κs = omega (arith, standing _ _ (here c) .0)
 
 word-at-requires-2 : tie.Need-word-at-requires-2
-word-at-requires-2 c κs = standing _ (here (c .before)) .0
+word-at-requires-2 c κs = standing _ _ (here (c .before)) .0
 
 cast-size : tie.Need-cast-size
 cast-size c = search needs
@@ -94,17 +95,17 @@ part-values-in-end c = fits (found (read c))
 values-in-requires : tie.Need-values-in-requires
 values-in-requires c κs = (filled (c .before), search needs)
 
+add-t11 : tie.Need-add-t11
+add-t11 c = search needs
+
 add-t10 : tie.Need-add-t10
 add-t10 c = search needs
 
-add-t9 : tie.Need-add-t9
-add-t9 c = search needs
-
-cast-t18 : tie.Need-cast-t18
-cast-t18 c = search needs
-
 cast-t19 : tie.Need-cast-t19
-cast-t19 c =
+cast-t19 c = search needs
+
+cast-t20 : tie.Need-cast-t20
+cast-t20 c =
     let words = read (c .before .before .before .before .before) in
     omega (arith, fits (found words), start words .pre .0)
 
@@ -136,8 +137,8 @@ record-step-spec =
     part-values-in-start
     part-values-in-end
     values-in-requires
+    add-t11
     add-t10
-    add-t9
-    cast-t18
     cast-t19
+    cast-t20
     returns-3)

@@ -10,7 +10,7 @@ use Rattle.walk.proofs.stands.Lts as lts
 use Rattle.words.proofs.word_at.Reads as word-at-reads
 
 returns : tie.Need-returns
-returns c = sym (too-short _ (c .if1 .taken))
+returns c = sym (too-short _ _ (c .if1 .taken))
 
 word-at-requires : tie.Need-word-at-requires
 word-at-requires c κs = search needs
@@ -22,7 +22,7 @@ add-result : tie.Need-add-result
 add-result c = search needs
 
 returns-2 : tie.Need-returns-2
-returns-2 c = rw (c .word-at .ensures) (sym (long-enough _ (c .before .if1 .left)))
+returns-2 c = rw (c .word-at .ensures) (sym (long-enough _ _ (c .before .if1 .left)))
 
 pub stands-spec : {M : Type 1} → statement M
 stands-spec = tie.close (tie.spec returns word-at-requires cast-result add-result returns-2)

@@ -24,11 +24,11 @@ add-trigger c = search needs
 add-trigger-2 : tie.Need-add-trigger-2
 add-trigger-2 c = search needs
 
-add-t12 : tie.Need-add-t12
-add-t12 c = search needs
+add-t13 : tie.Need-add-t13
+add-t13 c = search needs
 
-cast-t19 : tie.Need-cast-t19
-cast-t19 c = search needs
+cast-t20 : tie.Need-cast-t20
+cast-t20 c = search needs
 
 slice-aggregate-put-words : tie.Need-slice-aggregate-put-words
 slice-aggregate-put-words c = search needs
@@ -76,7 +76,7 @@ returns c =
     let veto = second trigger in
     let head = first veto in
     let s = start (known head) in
-    history-stored (fields s) (now (s .args .part)) _ refl (head .put-words .ensures) (veto .put-section .ensures) (trigger .put-section2 .ensures)
+    history-stored _ (fields s) (now (s .args .part)) _ refl (head .put-words .ensures) (veto .put-section .ensures) (trigger .put-section2 .ensures)
 
 pub put-history-spec : {M : Type 1} → statement M
 put-history-spec =
@@ -86,8 +86,8 @@ put-history-spec =
     add-veto-2
     add-trigger
     add-trigger-2
-    add-t12
-    cast-t19
+    add-t13
+    cast-t20
     slice-aggregate-put-words
     put-words-requires
     put-section-requires

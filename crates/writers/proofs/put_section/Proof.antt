@@ -65,7 +65,7 @@ returns c =
     let count = first times in
     let a = start count .args in
     let s : Section = record { count = a .count; times = now (a .times); width = a .width; masks = now (a .masks) } in
-    section-stored (now (a .part)) (a .at) s (count .put-words .ensures) (times .put-part .ensures) (width .put-words2 .ensures)
+    section-stored _ (now (a .part)) (a .at) s (count .put-words .ensures) (times .put-part .ensures) (width .put-words2 .ensures)
     (masks .put-part2 .ensures)
 
 pub put-section-spec : {M : Type 1} → statement M

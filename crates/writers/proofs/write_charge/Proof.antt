@@ -4,11 +4,11 @@ use Prim.Native.Nat.{ℕ}
 use mathlib.Core.Path.{ap, _∙_}
 use mathlib.Core.List.{List, [], _∷_}
 use lib.IntN.{ℤ}
-use Rattle.theory.specs.Words.{bytes, put, puts}
 use Rattle.note.specs.Words.{AllSigned}
 use Rattle.note.specs.Charge.{chargeBytes, chargeFault}
 use Rattle.note.specs.Writers.{chargeWritten}
 use Rattle.stores.proofs.WriterLaws.{bytes-unasked}
+use Rattle.stores.proofs.StructureLaws.{structured-bare}
 use Rattle.stores.specs.Structures.{structured}
 use Rattle.writers.proofs.SignedLaws.{handed-on, words-kept}
 use borrow.Author.Needs.{needs}
@@ -47,14 +47,15 @@ fit : (s : tie.Start) → AllSigned (fields s)
 fit s = let h = s .fits in (h .code, (h .tower, (h .gain, (h .bias, (h .rtf-offset, (h .delta-t, (h .t0, (h .trace-length, tt))))))))
 
 returns : tie.Need-returns
-unfolding structured chargeWritten chargeBytes puts put bytes
+unfolding structured chargeWritten chargeBytes
 returns c =
     let stored = c .before .before in
     let asked = stored .before .before in
     let s = start asked in
     let code = handed-on (s .args .code) (s .fits .code) (asked .before .from-signed .ensures) in
     bytes-unasked _ (asked .charge-fault .ensures ∙ ap chargeFault code)
-    (λ z. ap (λ (ws : List ℕ). structured 0x00010002 ws []) (words-kept (fields s) (fit s))) (stored .write-entry .ensures)
+    (λ z. ap (λ (ws : List ℕ). structured (s .args .order) 0x00010002 ws []) (words-kept (fields s) (fit s)) ∙ structured-bare _ _ _)
+    (stored .write-entry .ensures)
 
 pub write-charge-spec : {M : Type 1} → statement M
 write-charge-spec =

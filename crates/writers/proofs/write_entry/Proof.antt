@@ -64,7 +64,8 @@ returns c =
     let stored = c .before .before in
     let lent = stored .before .before in
     let kind = start (filled lent) .args .kind in
-    bytes-unasked _ refl (λ z. ap (λ (ws : List ℕ). structured kind ws []) (held lent)) (stored .write-structure .ensures)
+    let o = start (filled lent) .args .order in
+    bytes-unasked _ refl (λ z. ap (λ (ws : List ℕ). structured o kind ws []) (held lent)) (stored .write-structure .ensures)
 
 pub write-entry-spec : {M : Type 1} → statement M
 write-entry-spec =

@@ -5,11 +5,11 @@ use mathlib.Core.Path.{_≡_, refl, sym, ap, _∙_}
 use mathlib.Core.List.{[], _∷_}
 use native.Mathlib.Omega.{arith}
 use borrow.Author.Tests.{leb-true}
-use Rattle.theory.specs.Words.{bytes, put, puts}
 use Rattle.theory.proofs.TestLaws.{holds-at}
 use Rattle.note.specs.Gps.{Gps, bcd, gpsBytes, gpsFault}
 use Rattle.note.specs.Writers.{gpsWritten}
 use Rattle.stores.proofs.WriterLaws.{bytes-unasked}
+use Rattle.stores.proofs.StructureLaws.{structured-bare}
 use Rattle.stores.specs.Structures.{structured}
 use borrow.Author.Needs.{needs}
 use Rattle.writers.proofs.write_gps.Statement.{statement}
@@ -70,7 +70,7 @@ same-length : tie.Need-same-length
 same-length c = search needs
 
 returns : tie.Need-returns
-unfolding structured gpsWritten gpsBytes puts put bytes
+unfolding structured gpsWritten gpsBytes
 returns c =
     let stored = c .before .before in
     let tenths = made stored in
@@ -82,7 +82,9 @@ returns c =
     let clock-kept : fault .gps-fault .result ≡ 0 → tenths .before .gps-clock .result ≡ clock (a .status) =
     λ z. tenths .before .gps-clock .ensures ∙ ap clock (status-kept _ (sym (fault .gps-fault .ensures) ∙ z)) in
     bytes-unasked _ (fault .gps-fault .ensures)
-    (λ z. λ i. structured 0x60 ((year i * 65536 + day i) ∷ clock-kept z i ∷ tenths .digits3 .ensures .0 i ∷ []) [])
+    (λ z.
+    (λ i. structured (a .order) 0x60 ((year i * 65536 + day i) ∷ clock-kept z i ∷ tenths .digits3 .ensures .0 i ∷ []) [])
+    ∙ structured-bare _ _ _)
     (stored .write-structure .ensures)
 
 pub write-gps-spec : {M : Type 1} → statement M

@@ -41,13 +41,13 @@ fields s =
 
 -- `admitted` was asked the history's fault and, where it has none, its size.
 admitted : (c : tie.After-admitted)
-    → Admitted (now (begun c .args .out)) (begun c .args .place) (historyWritten (fields (begun c))) (c .admitted .result)
+    → Admitted (now (begun c .args .out)) (begun c .args .place) (historyWritten (begun c .args .order) (fields (begun c))) (c .admitted .result)
 unfolding historyWritten
 admitted c = record {
   fault = _;
   size = _;
   fault-is = c .before .before .history-fault .ensures;
-  size-is = λ z. history-size (fields (begun c)) ∙ sym (c .before .history-size .ensures z);
+  size-is = λ z. history-size _ (fields (begun c)) ∙ sym (c .before .history-size .ensures z);
   said = c .admitted .ensures;
 }
 
@@ -57,7 +57,7 @@ room : (c : tie.After-next)
     (length (now (s .args .out)) ≤ fileLimit) × (s .args .place + (24 + partsSize (fields s)) ≤ length (now (s .args .out))))
 room c =
     let (limit, fits) = has-room (admitted (asked c)) (c .next .given .1) in
-    (limit, omega (arith, fits, history-size (fields (begun (asked c)))))
+    (limit, omega (arith, fits, history-size (begun (asked c) .args .order) (fields (begun (asked c)))))
 
 history-fault-requires : tie.Need-history-fault-requires
 history-fault-requires c κs = search needs

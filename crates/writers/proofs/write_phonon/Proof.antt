@@ -4,11 +4,11 @@ use Prim.Native.Nat.{ℕ}
 use mathlib.Core.Path.{ap, _∙_}
 use mathlib.Core.List.{List, [], _∷_}
 use lib.IntN.{ℤ}
-use Rattle.theory.specs.Words.{bytes, put, puts}
 use Rattle.note.specs.Words.{AllSigned}
 use Rattle.note.specs.Phonon.{phononBytes, phononFault}
 use Rattle.note.specs.Writers.{phononWritten}
 use Rattle.stores.proofs.WriterLaws.{bytes-unasked}
+use Rattle.stores.proofs.StructureLaws.{structured-bare}
 use Rattle.stores.specs.Structures.{structured}
 use Rattle.writers.proofs.SignedLaws.{handed-on, words-kept}
 use borrow.Author.Needs.{needs}
@@ -53,14 +53,15 @@ fit s =
     (h .code, (h .tower, (h .gain, (h .qet-bias, (h .squid-bias, (h .lockpoint, (h .rtf-offset, (h .variable-gain, last))))))))
 
 returns : tie.Need-returns
-unfolding structured phononWritten phononBytes puts put bytes
+unfolding structured phononWritten phononBytes
 returns c =
     let stored = c .before .before in
     let asked = stored .before .before in
     let s = start asked in
     let code = handed-on (s .args .code) (s .fits .code) (asked .before .from-signed .ensures) in
     bytes-unasked _ (asked .phonon-fault .ensures ∙ ap phononFault code)
-    (λ z. ap (λ (ws : List ℕ). structured 0x00010001 ws []) (words-kept (fields s) (fit s))) (stored .write-entry .ensures)
+    (λ z. ap (λ (ws : List ℕ). structured (s .args .order) 0x00010001 ws []) (words-kept (fields s) (fit s)) ∙ structured-bare _ _ _)
+    (stored .write-entry .ensures)
 
 pub write-phonon-spec : {M : Type 1} → statement M
 write-phonon-spec =

@@ -1,10 +1,9 @@
 -- `writers::write_tlb` meets its contract: the words handed on are the fields'.
 -- The idea: a structure of those words is the kind's own, and computes to it.
-use mathlib.Core.Path.{refl}
-use Rattle.theory.specs.Words.{bytes, put, puts}
 use Rattle.note.specs.Tlb.{tlbBytes}
 use Rattle.note.specs.Writers.{tlbWritten}
 use Rattle.stores.proofs.WriterLaws.{bytes-unasked}
+use Rattle.stores.proofs.StructureLaws.{structured-bare}
 use Rattle.stores.specs.Structures.{structured}
 use borrow.Author.Needs.{needs}
 use Rattle.writers.proofs.write_tlb.Statement.{statement}
@@ -30,10 +29,10 @@ same-length : tie.Need-same-length
 same-length c = search needs
 
 returns : tie.Need-returns
-unfolding structured tlbWritten tlbBytes puts put bytes
+unfolding structured tlbWritten tlbBytes
 returns c =
     let stored = c .before .before in
-    bytes-unasked _ (stored .before .before .before .tlb-fault .ensures) (λ z. refl) (stored .write-structure .ensures)
+    bytes-unasked _ (stored .before .before .before .tlb-fault .ensures) (λ z. structured-bare _ _ _) (stored .write-structure .ensures)
 
 pub write-tlb-spec : {M : Type 1} → statement M
 write-tlb-spec =

@@ -1,8 +1,10 @@
 -- `writers::write_trigger` meets its contract: the words handed on are the fields'.
 -- The idea: a structure of those words is the kind's own, and computes to it.
-use Rattle.theory.specs.Words.{bytes, put, puts}
+use mathlib.Core.Path.{refl}
 use Rattle.note.specs.Trigger.{triggerBytes}
 use Rattle.note.specs.Writers.{triggerWritten}
+use Rattle.stores.proofs.WriterLaws.{bytes-unasked}
+use Rattle.stores.proofs.StructureLaws.{structured-bare}
 use Rattle.stores.specs.Structures.{structured}
 use borrow.Author.Needs.{needs}
 use Rattle.writers.proofs.write_trigger.Statement.{statement}
@@ -24,8 +26,8 @@ same-length : tie.Need-same-length
 same-length c = search needs
 
 returns : tie.Need-returns
-unfolding structured triggerWritten triggerBytes puts put bytes
-returns c = c .before .before .write-structure .ensures
+unfolding structured triggerWritten triggerBytes
+returns c = bytes-unasked _ refl (λ z. structured-bare _ _ _) (c .before .before .write-structure .ensures)
 
 pub write-trigger-spec : {M : Type 1} → statement M
 write-trigger-spec =
