@@ -27,3 +27,18 @@ NoKindWord k =
 pub no-arm : {k : ℕ} → NoKindWord k → kindOf k ≡ unknownKind
 no-arm {k} ((((((((u, phonon), charge), administrative), trace), history), gps), trigger), tlb) =
     no-kind k phonon charge administrative trace history gps trigger tlb
+
+-- The same where a trace was asked for before the match.
+abbrev NoOtherWord : ℕ → Type 0
+NoOtherWord k =
+    ((((((Unit {0} × (k ≡ phononKind .word → ⊥))
+    × (k ≡ chargeKind .word → ⊥))
+    × (k ≡ administrativeKind .word → ⊥))
+    × (k ≡ historyKind .word → ⊥))
+    × (k ≡ gpsKind .word → ⊥))
+    × (k ≡ triggerKind .word → ⊥))
+    × (k ≡ tlbKind .word → ⊥)
+
+pub no-other-arm : {k : ℕ} → (k ≡ traceKind .word → ⊥) → NoOtherWord k → kindOf k ≡ unknownKind
+no-other-arm trace (((((((u, phonon), charge), administrative), history), gps), trigger), tlb) =
+    no-arm ((((((((u, phonon), charge), administrative), trace), history), gps), trigger), tlb)

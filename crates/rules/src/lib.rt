@@ -94,10 +94,19 @@ fn bookkeeping_rule(b: &[u8], order: Order) -> u32
     requires { ⌜ 48 ≤ length (now b) ⌝ }
     ensures { λ r. ⌜ r ≡ bookkeepingRule order (now (b .entry)) ⌝ }
 {
-    let fault = unless(word_at(b, 0, order) == 0x11, 5);
-    let fault = or_unless(fault, word_at(b, 4, order) == 12, 6);
-    let fault = or_unless(fault, is_channel(word_at(b, 12, order)), 10);
-    or_unless(fault, is_named(word_at(b, 16, order)), 10)
+    if word_at(b, 0, order) != 0x11 {
+        return 5;
+    }
+    if word_at(b, 4, order) != 12 {
+        return 6;
+    }
+    if !is_channel(word_at(b, 12, order)) {
+        return 10;
+    }
+    if !is_named(word_at(b, 16, order)) {
+        return 10;
+    }
+    0
 }
 
 // Its second: the timebase.
@@ -105,9 +114,16 @@ fn timebase_rule(b: &[u8], order: Order) -> u32
     requires { ⌜ 48 ≤ length (now b) ⌝ }
     ensures { λ r. ⌜ r ≡ timebaseRule order (now (b .entry)) ⌝ }
 {
-    let fault = unless(word_at(b, 20, order) == 0x12, 5);
-    let fault = or_unless(fault, word_at(b, 24, order) == 12, 6);
-    or_unless(fault, 1 <= word_at(b, 32, order), 10)
+    if word_at(b, 20, order) != 0x12 {
+        return 5;
+    }
+    if word_at(b, 24, order) != 12 {
+        return 6;
+    }
+    if word_at(b, 32, order) < 1 {
+        return 10;
+    }
+    0
 }
 
 // Its third: the samples' count, the same as the first.
@@ -115,9 +131,18 @@ fn samples_rule(b: &[u8], order: Order) -> u32
     requires { ⌜ 48 ≤ length (now b) ⌝ }
     ensures { λ r. ⌜ r ≡ samplesRule order (now (b .entry)) ⌝ }
 {
+    if word_at(b, 40, order) != 0x13 {
+        return 5;
+    }
     let n = word_at(b, 44, order);
-    let fault = earlier(unless(word_at(b, 40, order) == 0x13, 5), count_fault(n));
-    or_unless(fault, word_at(b, 36, order) == n, 11)
+    let count = count_fault(n);
+    if count != 0 {
+        return count;
+    }
+    if word_at(b, 36, order) != n {
+        return 11;
+    }
+    0
 }
 
 /// A trace's rule: it reads the first 48 bytes and no sample.
@@ -127,9 +152,22 @@ pub fn trace_rule(b: &[u8], order: Order) -> u32
     if b.len() < 48 {
         return 6;
     }
-    let fault = earlier(bookkeeping_rule(b, order), timebase_rule(b, order));
-    let fault = earlier(fault, samples_rule(b, order));
-    or_unless(fault, b.len() == 48 + 2 * word_at(b, 44, order) as usize, 6)
+    let bookkeeping = bookkeeping_rule(b, order);
+    if bookkeeping != 0 {
+        return bookkeeping;
+    }
+    let timebase = timebase_rule(b, order);
+    if timebase != 0 {
+        return timebase;
+    }
+    let samples = samples_rule(b, order);
+    if samples != 0 {
+        return samples;
+    }
+    if b.len() != 48 + 2 * word_at(b, 44, order) as usize {
+        return 6;
+    }
+    0
 }
 
 // A history section's rule, its count standing at place p.
@@ -245,16 +283,18 @@ pub fn tlb_rule(b: &[u8], order: Order) -> u32
     )
 }
 
-/// The rule of a kind word's kind; 5 for a word that names none.
+/// The rule of a kind word's kind; 5 for a word that names none. Most records are traces.
 pub fn rule(kind: u32, b: &[u8], order: Order) -> u32
     requires { ⌜ length (now b) < 0x100000000 ⌝ }
     ensures { λ r. ⌜ r ≡ recordRule order kind (now (b .entry)) ⌝ }
 {
+    if kind == TRACE {
+        return trace_rule(b, order);
+    }
     match kind {
         PHONON => phonon_rule(b, order),
         CHARGE => charge_rule(b, order),
         ADMINISTRATIVE => administrative_rule(b, order),
-        TRACE => trace_rule(b, order),
         HISTORY => history_rule(b, order),
         GPS => gps_rule(b, order),
         TRIGGER => trigger_rule(b, order),
