@@ -4,7 +4,7 @@ use fields::hundredth;
 use fields::to_signed;
 use note::RecordAnswer;
 use note::SettingAnswer;
-use record::Context;
+use record::ALONE;
 use record::Step;
 use record::record_in;
 use rules::section_end;
@@ -261,7 +261,7 @@ pub fn record_found(file: &[u8], place: usize, order: Order) -> Step
     if place > file.len() {
         return Step::Bad { number: 2, place };
     }
-    record_in(&file[place..], place, Context::Alone, order)
+    record_in(&file[place..], place, ALONE, order)
 }
 
 // The n bytes behind the two words of a record at a place.

@@ -8,7 +8,7 @@ use containers::records_in;
 use fields::EVENT_MARK;
 use fields::event_fault;
 use note::WriterAnswer;
-use record::Context;
+use record::ENTRY;
 use record::FILE_LIMIT;
 use record::fresh;
 use stores::admitted;
@@ -107,7 +107,7 @@ fn close(
     fault: u32,
     least: usize,
     word: u32,
-    context: Context,
+    context: u32,
     order: Order,
 ) -> WriterAnswer
     ensures answer { λ r. ⌜ givenWriter r ≡ writerGiven (closed order (now (out .entry)) place end fault least (contextOf context)) ⌝ }
@@ -136,7 +136,7 @@ pub fn close_configuration(out: &mut [u8], place: usize, end: usize, order: Orde
     ensures answer { λ r. ⌜ givenWriter r ≡ writerGiven (configurationClosed order (now (out .entry)) place end) ⌝ }
     ensures output { λ _. ⌜ now (out .exit) ≡ configurationOutput order (now (out .entry)) place end ⌝ }
 {
-    close(out, place, end, 0, 0, CONFIGURATION, Context::Entry, order)
+    close(out, place, end, 0, 0, CONFIGURATION, ENTRY, order)
 }
 
 // An event's first word, of the bits that it has room for.

@@ -1,6 +1,6 @@
 // Containers: the records that fill a part, a configuration, an event, the events of a file, and the file as a whole.
 use fields::event_word_rule;
-use record::Context;
+use record::ENTRY;
 use record::Step;
 use record::fresh;
 use record::next_context;
@@ -70,7 +70,7 @@ fn is_alike(part: &[u8], known: usize, order: Order) -> bool
 
 /// How many records fill a part whose first byte stands at `from`. Over a run of records of one length the step to the next is known, and a
 /// record's own length word is only compared with it: memory is asked for many records at a time.
-pub fn records_in(part: &[u8], from: usize, context: Context, order: Order) -> Count
+pub fn records_in(part: &[u8], from: usize, context: u32, order: Order) -> Count
     requires { ⌜ from + length (now part) ≤ 0x1000000 ⌝ }
     ensures { λ r. ⌜ r ≡ recordCount (readRecords order (contextOf context) from (now (part .entry))) ⌝ }
 {
@@ -126,7 +126,7 @@ pub fn configuration_in(part: &[u8], at: usize, order: Order) -> Holding
             place: at,
         };
     }
-    match records_in(&part[8..8 + length], at + 8, Context::Entry, order) {
+    match records_in(&part[8..8 + length], at + 8, ENTRY, order) {
         Count::Good { count } => Holding::Good {
             word,
             length,

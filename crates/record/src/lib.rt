@@ -13,27 +13,19 @@ use words::word_at;
 ghost use mathlib.Core.Path.{_≡_};
 ghost use lib.ListN.{length};
 ghost use Rattle.theory.specs.Tests.{among};
+ghost use Prim.Native.Nat.{_<_};
 ghost use Rattle.note.specs.Records.{entryKinds, recordKinds, event, none, isKind, isPlaced, isAllowed, behind, readRecord};
 ghost use Rattle.record.specs.Steps.{seenOf, contextOf, stepOf};
 
 /// The greatest length of a lent file.
 pub const FILE_LIMIT: usize = 16_777_216;
 
-/// Which kinds that occur at most once came before in an event.
-pub struct Seen {
-    pub administrative: bool,
-    pub history: bool,
-    pub gps: bool,
-    pub trigger: bool,
-    pub tlb: bool,
-}
+/// Where a record is read, as a number: as an entry of a configuration. A number below this is an event, and its bits are the kinds that
+/// came before, of those that occur at most once: administrative 1, history 2, GPS 4, trigger 8, TLB 16.
+pub const ENTRY: u32 = 32;
 
-/// Where a record is read: as an entry of a configuration, in an event after what came before, or alone.
-pub enum Context {
-    Entry,
-    Event(Seen),
-    Alone,
-}
+/// Where a record is read: alone.
+pub const ALONE: u32 = 33;
 
 /// What stands at the front of a part: a record's kind word and its body's length, or the refusal.
 pub enum Step {
@@ -42,16 +34,10 @@ pub enum Step {
 }
 
 /// An event before its first record.
-pub fn fresh() -> Context
+pub fn fresh() -> u32
     ensures { λ r. ⌜ contextOf r ≡ event none ⌝ }
 {
-    Context::Event(Seen {
-        administrative: false,
-        history: false,
-        gps: false,
-        trigger: false,
-        tlb: false,
-    })
+    0
 }
 
 fn is_entry_kind(kind: u32) -> bool
@@ -64,12 +50,15 @@ fn is_entry_kind(kind: u32) -> bool
     }
 }
 
+// A trace is asked for first: most records are traces.
 fn is_record_kind(kind: u32) -> bool
     ensures { λ r. ⌜ r ≡ among kind recordKinds ⌝ }
 {
+    if kind == TRACE {
+        return true;
+    }
     match kind {
         ADMINISTRATIVE => true,
-        TRACE => true,
         HISTORY => true,
         GPS => true,
         TRIGGER => true,
@@ -79,85 +68,82 @@ fn is_record_kind(kind: u32) -> bool
 }
 
 // Whether a kind is allowed here.
-fn is_kind(context: Context, kind: u32) -> bool
+fn is_kind(context: u32, kind: u32) -> bool
     ensures { λ r. ⌜ r ≡ isKind (contextOf context) kind ⌝ }
 {
-    match context {
-        Context::Entry => is_entry_kind(kind),
-        Context::Event(_) => is_record_kind(kind),
-        Context::Alone => {
-            if is_entry_kind(kind) {
-                return true;
-            }
-            is_record_kind(kind)
-        }
+    if context < ENTRY {
+        return is_record_kind(kind);
     }
+    if context == ENTRY {
+        return is_entry_kind(kind);
+    }
+    if is_entry_kind(kind) {
+        return true;
+    }
+    is_record_kind(kind)
 }
 
 // Whether a record may stand after those that came before.
-fn is_placed(seen: Seen, kind: u32) -> bool
+fn is_placed(seen: u32, kind: u32) -> bool
     ensures { λ r. ⌜ r ≡ isPlaced (seenOf seen) kind ⌝ }
 {
-    if kind == ADMINISTRATIVE {
-        return !seen.administrative;
+    if kind == TRACE {
+        return seen % 2 == 1;
     }
-    if !seen.administrative {
+    if kind == ADMINISTRATIVE {
+        return seen % 2 != 1;
+    }
+    if seen % 2 != 1 {
         return false;
     }
-    if kind == HISTORY {
-        return !seen.history;
+    match kind {
+        HISTORY => seen / 2 % 2 != 1,
+        GPS => seen / 4 % 2 != 1,
+        TRIGGER => seen / 8 % 2 != 1,
+        TLB => seen / 16 % 2 != 1,
+        _ => true,
     }
-    if kind == GPS {
-        return !seen.gps;
-    }
-    if kind == TRIGGER {
-        return !seen.trigger;
-    }
-    if kind == TLB {
-        return !seen.tlb;
+}
+
+fn is_allowed(context: u32, kind: u32) -> bool
+    ensures { λ r. ⌜ r ≡ isAllowed (contextOf context) kind ⌝ }
+{
+    if context < ENTRY {
+        return is_placed(context, kind);
     }
     true
 }
 
-fn is_allowed(context: Context, kind: u32) -> bool
-    ensures { λ r. ⌜ r ≡ isAllowed (contextOf context) kind ⌝ }
+// What came before in an event, with one record more.
+fn noted(seen: u32, kind: u32) -> u32
+    requires { ⌜ seen < 32 ⌝ }
+    ensures { λ r. ⌜ contextOf r ≡ event (Rattle.note.specs.Records.noted (seenOf seen) kind) ⌝ }
 {
-    match context {
-        Context::Entry => true,
-        Context::Event(seen) => is_placed(seen, kind),
-        Context::Alone => true,
-    }
-}
-
-// What came before, with one record more.
-fn noted(seen: Seen, kind: u32) -> Seen
-    ensures { λ r. ⌜ seenOf r ≡ Rattle.note.specs.Records.noted (seenOf seen) kind ⌝ }
-{
-    let mut next = seen;
     match kind {
-        ADMINISTRATIVE => next.administrative = true,
-        HISTORY => next.history = true,
-        GPS => next.gps = true,
-        TRIGGER => next.trigger = true,
-        TLB => next.tlb = true,
-        _ => {}
+        ADMINISTRATIVE => seen | 1,
+        HISTORY => seen | 2,
+        GPS => seen | 4,
+        TRIGGER => seen | 8,
+        TLB => seen | 16,
+        _ => seen,
     }
-    next
 }
 
-/// The context behind a record of that kind.
-pub fn next_context(context: Context, kind: u32) -> Context
+/// The context behind a record of that kind. Most records are traces, which change none.
+pub fn next_context(context: u32, kind: u32) -> u32
     ensures { λ r. ⌜ contextOf r ≡ behind (contextOf context) kind ⌝ }
 {
-    match context {
-        Context::Entry => Context::Entry,
-        Context::Event(seen) => Context::Event(noted(seen, kind)),
-        Context::Alone => Context::Alone,
+    if kind == TRACE {
+        return context;
     }
+    if context < ENTRY {
+        return noted(context, kind);
+    }
+    context
 }
 
 /// The record at the front of a part, whose first byte stands at the place `at`.
-pub fn record_in(part: &[u8], at: usize, context: Context, order: Order) -> Step
+pub fn record_in(part: &[u8], at: usize, context: u32, order: Order) -> Step
     ensures { λ r. ⌜ r ≡ stepOf (readRecord order (contextOf context) at (now (part .entry))) ⌝ }
 {
     let room = part.len();

@@ -19,17 +19,18 @@ use Rattle.record.proofs.next_context.Reads as next-context-reads
 use Rattle.record.proofs.record_in.Reads as record-in-reads
 
 abbrev Inv-loop2 : tie.InvT-loop2
-Inv-loop2 part from order rest₀ at₀ count₀ state₀ known more₀ rest at count state more =
+Inv-loop2 part from context order rest₀ at₀ count₀ state₀ known more₀ rest at count state more =
     Run order from part (contextOf state₀) at₀ rest₀ count₀ known (contextOf state) at rest count more
 
 abbrev μ-loop2 : tie.MeasureT-loop2
-μ-loop2 part from order rest₀ at₀ count₀ state₀ known more₀ rest at count state more = length rest
+μ-loop2 part from context order rest₀ at₀ count₀ state₀ known more₀ rest at count state more = length rest
 
 abbrev Inv-loop : tie.InvT-loop
-Inv-loop part from order rest₀ at₀ count₀ state₀ rest at count state = Counting order (contextOf state₀) from part (contextOf state) at rest count
+Inv-loop part from context order rest₀ at₀ count₀ state₀ rest at count state =
+    Counting order (contextOf state₀) from part (contextOf state) at rest count
 
 abbrev μ-loop : tie.MeasureT-loop
-μ-loop part from order rest₀ at₀ count₀ state₀ rest at count state = length rest
+μ-loop part from context order rest₀ at₀ count₀ state₀ rest at count state = length rest
 
 abbrev start : tie.At-loop2 Inv-loop2 μ-loop2 Inv-loop μ-loop → tie.Start Inv-loop2 μ-loop2 Inv-loop μ-loop
 start c = c .before .before .before .before .before

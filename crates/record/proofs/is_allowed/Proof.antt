@@ -1,6 +1,6 @@
 -- Only in an event does what came before matter.
-use Rattle.note.specs.Records.{isAllowed}
-use Rattle.record.specs.Steps.{contextOf}
+use mathlib.Core.Path.{_∙_}
+use Rattle.record.proofs.SeenLaws.{event-allowed, outside-allowed}
 use borrow.Author.Needs.{needs}
 use Rattle.record.proofs.is_allowed.Statement.{statement}
 use Rattle.record.proofs.is_allowed.Tie as tie
@@ -8,38 +8,14 @@ use Rattle.record.proofs.is_allowed.Reads as reads
 use Rattle.record.proofs.is_allowed.Lts as lts
 use Rattle.record.proofs.is_placed.Reads as is-placed-reads
 
-enum-told : tie.Need-enum-told
-enum-told c = search needs
-
-enum-known-context : tie.Need-enum-known-context
-enum-known-context c = search needs
-
 is-placed-requires : tie.Need-is-placed-requires
 is-placed-requires c κs = search needs
 
-enum-told-2 : tie.Need-enum-told-2
-enum-told-2 c = search needs
-
 returns : tie.Need-returns
-unfolding isAllowed contextOf
-returns c = rw (c .enum-told .given .1)
+returns c = c .is-placed .ensures ∙ event-allowed _ _ (c .before .if1 .taken)
 
 returns-2 : tie.Need-returns-2
-unfolding isAllowed contextOf
-returns-2 c = rw (c .before .before .context .given .1) (c .is-placed .ensures)
-
-returns-3 : tie.Need-returns-3
-unfolding isAllowed contextOf
-returns-3 c = rw (c .enum-told2 .given .1)
+returns-2 c = outside-allowed _ _ (c .if1 .left)
 
 pub is-allowed-spec : {M : Type 1} → statement M
-is-allowed-spec =
-    tie.close
-    (tie.spec
-    enum-told
-    enum-known-context
-    is-placed-requires
-    enum-told-2
-    returns
-    returns-2
-    returns-3)
+is-allowed-spec = tie.close (tie.spec is-placed-requires returns returns-2)

@@ -1,4 +1,5 @@
 -- Each context has its list of kinds; alone has both.
+use borrow.Author.Tests.{le-leb, lt-leb, ne-eqb}
 use Rattle.note.specs.Records.{isKind}
 use Rattle.record.specs.Steps.{contextOf}
 use borrow.Author.Needs.{needs}
@@ -9,57 +10,48 @@ use Rattle.record.proofs.is_kind.Lts as lts
 use Rattle.record.proofs.is_entry_kind.Reads as is-entry-kind-reads
 use Rattle.record.proofs.is_record_kind.Reads as is-record-kind-reads
 
-enum-told : tie.Need-enum-told
-enum-told c = search needs
+is-record-kind-requires : tie.Need-is-record-kind-requires
+is-record-kind-requires c κs = search needs
+
+returns : tie.Need-returns
+unfolding isKind contextOf
+returns c = rw (lt-leb 32 _ (c .before .if1 .taken)) (c .is-record-kind .ensures)
 
 is-entry-kind-requires : tie.Need-is-entry-kind-requires
 is-entry-kind-requires c κs = search needs
 
-enum-told-2 : tie.Need-enum-told-2
-enum-told-2 c = search needs
-
-is-record-kind-requires : tie.Need-is-record-kind-requires
-is-record-kind-requires c κs = search needs
-
-enum-told-3 : tie.Need-enum-told-3
-enum-told-3 c = search needs
+returns-2 : tie.Need-returns-2
+unfolding isKind contextOf
+returns-2 c = rw (c .before .if2 .taken) (c .is-entry-kind .ensures)
 
 is-entry-kind-requires-2 : tie.Need-is-entry-kind-requires-2
 is-entry-kind-requires-2 c κs = search needs
 
-returns : tie.Need-returns
+returns-3 : tie.Need-returns-3
 unfolding isKind contextOf
-returns c = rw (c .before .before .enum-told3 .given .1, ← c .before .is-entry-kind2 .ensures, c .if1 .taken)
+returns-3 c =
+    let asked = c .before in
+    rw (le-leb 32 _ (asked .before .before .if1 .left), ne-eqb _ _ (asked .before .if2 .left), ← asked .is-entry-kind2 .ensures, c .if3 .taken)
 
 is-record-kind-requires-2 : tie.Need-is-record-kind-requires-2
 is-record-kind-requires-2 c κs = search needs
-
-returns-2 : tie.Need-returns-2
-unfolding isKind contextOf
-returns-2 c = rw (c .before .enum-told .given .1) (c .is-entry-kind .ensures)
-
-returns-3 : tie.Need-returns-3
-unfolding isKind contextOf
-returns-3 c = rw (c .before .enum-told2 .given .1) (c .is-record-kind .ensures)
 
 returns-4 : tie.Need-returns-4
 unfolding isKind contextOf
 returns-4 c =
     let asked = c .before .before in
-    rw (asked .before .enum-told3 .given .1, ← asked .is-entry-kind2 .ensures, c .before .if1 .left) (c .is-record-kind2 .ensures)
+    rw (le-leb 32 _ (asked .before .before .if1 .left), ne-eqb _ _ (asked .before .if2 .left), ← asked .is-entry-kind2 .ensures, c .before .if3 .left)
+    (c .is-record-kind2 .ensures)
 
 pub is-kind-spec : {M : Type 1} → statement M
 is-kind-spec =
     tie.close
     (tie.spec
-    enum-told
-    is-entry-kind-requires
-    enum-told-2
     is-record-kind-requires
-    enum-told-3
-    is-entry-kind-requires-2
     returns
-    is-record-kind-requires-2
+    is-entry-kind-requires
     returns-2
+    is-entry-kind-requires-2
     returns-3
+    is-record-kind-requires-2
     returns-4)
