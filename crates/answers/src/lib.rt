@@ -8,12 +8,12 @@ use record::ALONE;
 use record::Step;
 use record::record_in;
 use rules::section_end;
-use theory::Order;
 use words::word_at;
 ghost use mathlib.Core.Path.{_≡_};
 ghost use mathlib.Core.List.{_∷_};
 ghost use Prim.Native.Nat.{_+_, _≤_};
 ghost use lib.ListN.{length};
+ghost use Rattle.theory.specs.Words.{orderFrom};
 ghost use Rattle.theory.specs.Tests.{ok};
 ghost use Rattle.note.specs.Limits.{fileLimit};
 ghost use Rattle.note.specs.Words.{word, signed};
@@ -34,11 +34,11 @@ ghost use Rattle.answers.specs.Bodies.{bodyAt, kindGiven, sixNumbers, si
 // ---- fields of a body: no value of these kinds but a history's is a place, so their answers are those at place 0
 
 /// The signed word at a place of the bytes.
-pub fn signed_at(s: &[u8], at: usize, order: Order) -> i32
+pub fn signed_at(s: &[u8], at: usize, big: bool) -> i32
     requires { ⌜ at + 4 ≤ length (now s) ⌝ }
-    ensures { λ r. ⌜ r ≡ signed (word order at (now (s .entry))) ⌝ }
+    ensures { λ r. ⌜ r ≡ signed (word (orderFrom big) at (now (s .entry))) ⌝ }
 {
-    to_signed(word_at(s, at, order))
+    to_signed(word_at(s, at, big))
 }
 
 /// Six words back to back, in order.
@@ -52,63 +52,63 @@ pub struct Six {
 }
 
 /// The six words from a place of the bytes on.
-pub fn six_at(s: &[u8], at: usize, order: Order) -> Six
+pub fn six_at(s: &[u8], at: usize, big: bool) -> Six
     requires { ⌜ at + 24 ≤ length (now s) ⌝ }
-    ensures { λ r. ⌜ sixNumbers r ≡ sixFrom order at (now (s .entry)) ⌝ }
+    ensures { λ r. ⌜ sixNumbers r ≡ sixFrom (orderFrom big) at (now (s .entry)) ⌝ }
 {
     Six {
-        first: word_at(s, at, order),
-        second: word_at(s, at + 4, order),
-        third: word_at(s, at + 8, order),
-        fourth: word_at(s, at + 12, order),
-        fifth: word_at(s, at + 16, order),
-        sixth: word_at(s, at + 20, order),
+        first: word_at(s, at, big),
+        second: word_at(s, at + 4, big),
+        third: word_at(s, at + 8, big),
+        fourth: word_at(s, at + 12, big),
+        fifth: word_at(s, at + 16, big),
+        sixth: word_at(s, at + 20, big),
     }
 }
 
 // A phonon entry's words.
-fn phonon_of(b: &[u8], order: Order) -> RecordAnswer
+fn phonon_of(b: &[u8], big: bool) -> RecordAnswer
     requires { ⌜ 44 ≤ length (now b) ⌝ }
-    ensures { λ r. ⌜ givenRecord r ≡ kindGiven order phononKind 0 (now (b .entry)) ⌝ }
+    ensures { λ r. ⌜ givenRecord r ≡ kindGiven (orderFrom big) phononKind 0 (now (b .entry)) ⌝ }
 {
     RecordAnswer::Phonon {
-        code: signed_at(b, 0, order),
-        tower: signed_at(b, 4, order),
-        gain: signed_at(b, 8, order),
-        qet_bias: signed_at(b, 12, order),
-        squid_bias: signed_at(b, 16, order),
-        lockpoint: signed_at(b, 20, order),
-        rtf_offset: signed_at(b, 24, order),
-        variable_gain: signed_at(b, 28, order),
-        delta_t: signed_at(b, 32, order),
-        t0: signed_at(b, 36, order),
-        trace_length: signed_at(b, 40, order),
+        code: signed_at(b, 0, big),
+        tower: signed_at(b, 4, big),
+        gain: signed_at(b, 8, big),
+        qet_bias: signed_at(b, 12, big),
+        squid_bias: signed_at(b, 16, big),
+        lockpoint: signed_at(b, 20, big),
+        rtf_offset: signed_at(b, 24, big),
+        variable_gain: signed_at(b, 28, big),
+        delta_t: signed_at(b, 32, big),
+        t0: signed_at(b, 36, big),
+        trace_length: signed_at(b, 40, big),
     }
 }
 
 // A charge entry's words.
-fn charge_of(b: &[u8], order: Order) -> RecordAnswer
+fn charge_of(b: &[u8], big: bool) -> RecordAnswer
     requires { ⌜ 32 ≤ length (now b) ⌝ }
-    ensures { λ r. ⌜ givenRecord r ≡ kindGiven order chargeKind 0 (now (b .entry)) ⌝ }
+    ensures { λ r. ⌜ givenRecord r ≡ kindGiven (orderFrom big) chargeKind 0 (now (b .entry)) ⌝ }
 {
     RecordAnswer::Charge {
-        code: signed_at(b, 0, order),
-        tower: signed_at(b, 4, order),
-        gain: signed_at(b, 8, order),
-        bias: signed_at(b, 12, order),
-        rtf_offset: signed_at(b, 16, order),
-        delta_t: signed_at(b, 20, order),
-        t0: signed_at(b, 24, order),
-        trace_length: signed_at(b, 28, order),
+        code: signed_at(b, 0, big),
+        tower: signed_at(b, 4, big),
+        gain: signed_at(b, 8, big),
+        bias: signed_at(b, 12, big),
+        rtf_offset: signed_at(b, 16, big),
+        delta_t: signed_at(b, 20, big),
+        t0: signed_at(b, 24, big),
+        trace_length: signed_at(b, 28, big),
     }
 }
 
 // An administrative record's words.
-fn administrative_of(b: &[u8], order: Order) -> RecordAnswer
+fn administrative_of(b: &[u8], big: bool) -> RecordAnswer
     requires { ⌜ 24 ≤ length (now b) ⌝ }
-    ensures { λ r. ⌜ givenRecord r ≡ kindGiven order administrativeKind 0 (now (b .entry)) ⌝ }
+    ensures { λ r. ⌜ givenRecord r ≡ kindGiven (orderFrom big) administrativeKind 0 (now (b .entry)) ⌝ }
 {
-    let w = six_at(b, 0, order);
+    let w = six_at(b, 0, big);
     RecordAnswer::Administrative {
         date: w.first,
         clock: w.second,
@@ -120,28 +120,28 @@ fn administrative_of(b: &[u8], order: Order) -> RecordAnswer
 }
 
 // A trace's fields without its samples; n is its second count.
-fn trace_of(b: &[u8], order: Order) -> RecordAnswer
+fn trace_of(b: &[u8], big: bool) -> RecordAnswer
     requires { ⌜ 48 ≤ length (now b) ⌝ }
-    ensures { λ r. ⌜ givenRecord r ≡ kindGiven order traceKind 0 (now (b .entry)) ⌝ }
+    ensures { λ r. ⌜ givenRecord r ≡ kindGiven (orderFrom big) traceKind 0 (now (b .entry)) ⌝ }
 {
     RecordAnswer::Trace {
-        address: word_at(b, 8, order),
-        channel: word_at(b, 12, order),
-        code: word_at(b, 16, order),
-        t0: signed_at(b, 28, order),
-        delta_t: word_at(b, 32, order),
-        samples: word_at(b, 44, order),
+        address: word_at(b, 8, big),
+        channel: word_at(b, 12, big),
+        code: word_at(b, 16, big),
+        t0: signed_at(b, 28, big),
+        delta_t: word_at(b, 32, big),
+        samples: word_at(b, 44, big),
     }
 }
 
 // A GPS record's numbers. By shifts and nibbles (document 01).
-fn gps_of(b: &[u8], order: Order) -> RecordAnswer
+fn gps_of(b: &[u8], big: bool) -> RecordAnswer
     requires { ⌜ 12 ≤ length (now b) ⌝ }
-    ensures { λ r. ⌜ givenRecord r ≡ kindGiven order gpsKind 0 (now (b .entry)) ⌝ }
+    ensures { λ r. ⌜ givenRecord r ≡ kindGiven (orderFrom big) gpsKind 0 (now (b .entry)) ⌝ }
 {
-    let date = word_at(b, 0, order);
-    let clock = word_at(b, 4, order);
-    let tenths = word_at(b, 8, order);
+    let date = word_at(b, 0, big);
+    let clock = word_at(b, 4, big);
+    let tenths = word_at(b, 8, big);
     RecordAnswer::Gps {
         year: decimal(4, date >> 16),
         day: decimal(4, date),
@@ -154,11 +154,11 @@ fn gps_of(b: &[u8], order: Order) -> RecordAnswer
 }
 
 // A trigger record's masks.
-fn trigger_of(b: &[u8], order: Order) -> RecordAnswer
+fn trigger_of(b: &[u8], big: bool) -> RecordAnswer
     requires { ⌜ 28 ≤ length (now b) ⌝ }
-    ensures { λ r. ⌜ givenRecord r ≡ kindGiven order triggerKind 0 (now (b .entry)) ⌝ }
+    ensures { λ r. ⌜ givenRecord r ≡ kindGiven (orderFrom big) triggerKind 0 (now (b .entry)) ⌝ }
 {
-    let w = six_at(b, 4, order);
+    let w = six_at(b, 4, big);
     RecordAnswer::Trigger {
         mask1: w.first,
         mask2: w.second,
@@ -170,11 +170,11 @@ fn trigger_of(b: &[u8], order: Order) -> RecordAnswer
 }
 
 // A TLB mask's words.
-fn tlb_of(b: &[u8], order: Order) -> RecordAnswer
+fn tlb_of(b: &[u8], big: bool) -> RecordAnswer
     requires { ⌜ 24 ≤ length (now b) ⌝ }
-    ensures { λ r. ⌜ givenRecord r ≡ kindGiven order tlbKind 0 (now (b .entry)) ⌝ }
+    ensures { λ r. ⌜ givenRecord r ≡ kindGiven (orderFrom big) tlbKind 0 (now (b .entry)) ⌝ }
 {
-    let w = six_at(b, 0, order);
+    let w = six_at(b, 0, big);
     RecordAnswer::Tlb {
         tower1: w.first,
         tower2: w.second,
@@ -194,28 +194,28 @@ struct Section {
 }
 
 // The section whose count stands at place p of a body that stands at `from`.
-fn section_of(from: usize, p: usize, b: &[u8], order: Order) -> Section
-    requires { ⌜ (widthAt order p (now b) + 4 ≤ length (now b)) × (from + length (now b) ≤ fileLimit) ⌝ }
-    ensures { λ r. ⌜ sectionNumbers r ≡ sectionValues order from p (now (b .entry)) ⌝ }
+fn section_of(from: usize, p: usize, b: &[u8], big: bool) -> Section
+    requires { ⌜ (widthAt (orderFrom big) p (now b) + 4 ≤ length (now b)) × (from + length (now b) ≤ fileLimit) ⌝ }
+    ensures { λ r. ⌜ sectionNumbers r ≡ sectionValues (orderFrom big) from p (now (b .entry)) ⌝ }
 {
-    let count = word_at(b, p, order);
+    let count = word_at(b, p, big);
     let width_at = p + 4 + 4 * count as usize;
     Section {
         count,
         times: (from + (p + 4)) as u32,
-        width: word_at(b, width_at, order),
+        width: word_at(b, width_at, big),
         masks: (from + (width_at + 4)) as u32,
     }
 }
 
 // A history's sections, as places of the file that has the record at `place`.
-fn history_of(place: usize, b: &[u8], order: Order) -> RecordAnswer
-    requires { ⌜ (historyRule order (now b) ≡ 0) × (place + 8 + length (now b) ≤ fileLimit) ⌝ }
-    ensures { λ r. ⌜ givenRecord r ≡ kindGiven order historyKind place (now (b .entry)) ⌝ }
+fn history_of(place: usize, b: &[u8], big: bool) -> RecordAnswer
+    requires { ⌜ (historyRule (orderFrom big) (now b) ≡ 0) × (place + 8 + length (now b) ≤ fileLimit) ⌝ }
+    ensures { λ r. ⌜ givenRecord r ≡ kindGiven (orderFrom big) historyKind place (now (b .entry)) ⌝ }
 {
     let from = place + 8;
-    let veto = section_of(from, 0, b, order);
-    let trigger = section_of(from, section_end(0, b, order), b, order);
+    let veto = section_of(from, 0, b, big);
+    let trigger = section_of(from, section_end(0, b, big), b, big);
     RecordAnswer::History {
         veto_times: veto.count,
         veto_times_at: veto.times,
@@ -229,19 +229,19 @@ fn history_of(place: usize, b: &[u8], order: Order) -> RecordAnswer
 }
 
 // The fields of a body that follows its kind's rule, of a record at `place`. The default isn't reached.
-fn fields_of(kind: u32, place: usize, b: &[u8], order: Order) -> RecordAnswer
-    requires { ⌜ (recordRule order kind (now b) ≡ 0) × (place + 8 + length (now b) ≤ fileLimit) ⌝ }
-    ensures { λ r. ⌜ givenRecord r ≡ kindGiven order (kindOf kind) place (now (b .entry)) ⌝ }
+fn fields_of(kind: u32, place: usize, b: &[u8], big: bool) -> RecordAnswer
+    requires { ⌜ (recordRule (orderFrom big) kind (now b) ≡ 0) × (place + 8 + length (now b) ≤ fileLimit) ⌝ }
+    ensures { λ r. ⌜ givenRecord r ≡ kindGiven (orderFrom big) (kindOf kind) place (now (b .entry)) ⌝ }
 {
     match kind {
-        rules::PHONON => phonon_of(b, order),
-        rules::CHARGE => charge_of(b, order),
-        rules::ADMINISTRATIVE => administrative_of(b, order),
-        rules::TRACE => trace_of(b, order),
-        rules::HISTORY => history_of(place, b, order),
-        rules::GPS => gps_of(b, order),
-        rules::TRIGGER => trigger_of(b, order),
-        rules::TLB => tlb_of(b, order),
+        rules::PHONON => phonon_of(b, big),
+        rules::CHARGE => charge_of(b, big),
+        rules::ADMINISTRATIVE => administrative_of(b, big),
+        rules::TRACE => trace_of(b, big),
+        rules::HISTORY => history_of(place, b, big),
+        rules::GPS => gps_of(b, big),
+        rules::TRIGGER => trigger_of(b, big),
+        rules::TLB => tlb_of(b, big),
         _ => RecordAnswer::Refused { number: 5, place },
     }
 }
@@ -249,8 +249,8 @@ fn fields_of(kind: u32, place: usize, b: &[u8], order: Order) -> RecordAnswer
 // ---- the calls
 
 /// What Record finds at a place: the kind word and the body's length, or Record's refusal. Every call by place begins with it.
-pub fn record_found(file: &[u8], place: usize, order: Order) -> Step
-    ensures { λ r. ⌜ r ≡ stepOf (recordFound order (now (file .entry)) place) ⌝ }
+pub fn record_found(file: &[u8], place: usize, big: bool) -> Step
+    ensures { λ r. ⌜ r ≡ stepOf (recordFound (orderFrom big) (now (file .entry)) place) ⌝ }
 {
     if file.len() > record::FILE_LIMIT {
         return Step::Bad {
@@ -261,7 +261,7 @@ pub fn record_found(file: &[u8], place: usize, order: Order) -> Step
     if place > file.len() {
         return Step::Bad { number: 2, place };
     }
-    record_in(&file[place..], place, ALONE, order)
+    record_in(&file[place..], place, ALONE, big)
 }
 
 // The n bytes behind the two words of a record at a place.
@@ -274,79 +274,79 @@ fn body_at(file: &[u8], place: usize, n: usize) -> &[u8]
 
 /// Record: the record or entry at a place with its fields, the whole file its parent and no event's rules; or a refusal.
 /// A case for each kind (document 01).
-pub fn record(file: &[u8], place: usize, order: Order) -> RecordAnswer
-    ensures { λ r. ⌜ givenRecord r ≡ recordAt order (now (file .entry)) place ⌝ }
+pub fn record(file: &[u8], place: usize, big: bool) -> RecordAnswer
+    ensures { λ r. ⌜ givenRecord r ≡ recordAt (orderFrom big) (now (file .entry)) place ⌝ }
 {
-    match record_found(file, place, order) {
-        Step::Good { kind, length } => fields_of(kind, place, body_at(file, place, length), order),
+    match record_found(file, place, big) {
+        Step::Good { kind, length } => fields_of(kind, place, body_at(file, place, length), big),
         Step::Bad { number, place: at } => RecordAnswer::Refused { number, place: at },
     }
 }
 
 // A x100 word in working units. A float (document 01).
-fn hundredth_at(s: &[u8], at: usize, order: Order) -> f64
+fn hundredth_at(s: &[u8], at: usize, big: bool) -> f64
     requires { ⌜ at + 4 ≤ length (now s) ⌝ }
-    ensures { λ r. ⌜ r ≡ hundredth (signed (word order at (now (s .entry)))) ⌝ }
+    ensures { λ r. ⌜ r ≡ hundredth (signed (word (orderFrom big) at (now (s .entry)))) ⌝ }
 {
-    hundredth(signed_at(s, at, order))
+    hundredth(signed_at(s, at, big))
 }
 
 // A phonon entry's words in working units.
-fn phonon_setting(b: &[u8], order: Order) -> SettingAnswer
+fn phonon_setting(b: &[u8], big: bool) -> SettingAnswer
     requires { ⌜ 44 ≤ length (now b) ⌝ }
-    ensures { λ r. ⌜ givenSetting r ≡ accepted (count (phononKind .row) ∷ phononSetting (phononOf order (now (b .entry)))) ⌝ }
+    ensures { λ r. ⌜ givenSetting r ≡ accepted (count (phononKind .row) ∷ phononSetting (phononOf (orderFrom big) (now (b .entry)))) ⌝ }
 {
     SettingAnswer::Phonon {
-        code: signed_at(b, 0, order),
-        tower: signed_at(b, 4, order),
-        gain: hundredth_at(b, 8, order),
-        qet_bias: hundredth_at(b, 12, order),
-        squid_bias: hundredth_at(b, 16, order),
-        lockpoint: hundredth_at(b, 20, order),
-        rtf_offset: signed_at(b, 24, order),
-        variable_gain: signed_at(b, 28, order),
-        delta_t: signed_at(b, 32, order),
-        t0: signed_at(b, 36, order),
-        trace_length: signed_at(b, 40, order),
+        code: signed_at(b, 0, big),
+        tower: signed_at(b, 4, big),
+        gain: hundredth_at(b, 8, big),
+        qet_bias: hundredth_at(b, 12, big),
+        squid_bias: hundredth_at(b, 16, big),
+        lockpoint: hundredth_at(b, 20, big),
+        rtf_offset: signed_at(b, 24, big),
+        variable_gain: signed_at(b, 28, big),
+        delta_t: signed_at(b, 32, big),
+        t0: signed_at(b, 36, big),
+        trace_length: signed_at(b, 40, big),
     }
 }
 
 // A charge entry's words in working units; its bias stays a whole number.
-fn charge_setting(b: &[u8], order: Order) -> SettingAnswer
+fn charge_setting(b: &[u8], big: bool) -> SettingAnswer
     requires { ⌜ 32 ≤ length (now b) ⌝ }
-    ensures { λ r. ⌜ givenSetting r ≡ accepted (count (chargeKind .row) ∷ chargeSetting (chargeOf order (now (b .entry)))) ⌝ }
+    ensures { λ r. ⌜ givenSetting r ≡ accepted (count (chargeKind .row) ∷ chargeSetting (chargeOf (orderFrom big) (now (b .entry)))) ⌝ }
 {
     SettingAnswer::Charge {
-        code: signed_at(b, 0, order),
-        tower: signed_at(b, 4, order),
-        gain: hundredth_at(b, 8, order),
-        bias: signed_at(b, 12, order),
-        rtf_offset: signed_at(b, 16, order),
-        delta_t: signed_at(b, 20, order),
-        t0: signed_at(b, 24, order),
-        trace_length: signed_at(b, 28, order),
+        code: signed_at(b, 0, big),
+        tower: signed_at(b, 4, big),
+        gain: hundredth_at(b, 8, big),
+        bias: signed_at(b, 12, big),
+        rtf_offset: signed_at(b, 16, big),
+        delta_t: signed_at(b, 20, big),
+        t0: signed_at(b, 24, big),
+        trace_length: signed_at(b, 28, big),
     }
 }
 
 // The setting of a body that follows its kind's rule; 5 at the place for another kind.
-fn setting_of(kind: u32, place: usize, b: &[u8], order: Order) -> SettingAnswer
-    requires { ⌜ recordRule order kind (now b) ≡ 0 ⌝ }
-    ensures { λ r. ⌜ givenSetting r ≡ settingGiven order place (ok (record { kind = kind; body = now (b .entry) })) ⌝ }
+fn setting_of(kind: u32, place: usize, b: &[u8], big: bool) -> SettingAnswer
+    requires { ⌜ recordRule (orderFrom big) kind (now b) ≡ 0 ⌝ }
+    ensures { λ r. ⌜ givenSetting r ≡ settingGiven (orderFrom big) place (ok (record { kind = kind; body = now (b .entry) })) ⌝ }
 {
     match kind {
-        rules::PHONON => phonon_setting(b, order),
-        rules::CHARGE => charge_setting(b, order),
+        rules::PHONON => phonon_setting(b, big),
+        rules::CHARGE => charge_setting(b, big),
         _ => SettingAnswer::Refused { number: 5, place },
     }
 }
 
 /// Setting: the entry at a place in working units; Record's refusals, then 5 there for another kind.
 /// An enum with floats (document 01).
-pub fn setting(file: &[u8], place: usize, order: Order) -> SettingAnswer
-    ensures { λ r. ⌜ givenSetting r ≡ settingAt order (now (file .entry)) place ⌝ }
+pub fn setting(file: &[u8], place: usize, big: bool) -> SettingAnswer
+    ensures { λ r. ⌜ givenSetting r ≡ settingAt (orderFrom big) (now (file .entry)) place ⌝ }
 {
-    match record_found(file, place, order) {
-        Step::Good { kind, length } => setting_of(kind, place, body_at(file, place, length), order),
+    match record_found(file, place, big) {
+        Step::Good { kind, length } => setting_of(kind, place, body_at(file, place, length), big),
         Step::Bad { number, place: at } => SettingAnswer::Refused { number, place: at },
     }
 }

@@ -13,11 +13,11 @@ use record::FILE_LIMIT;
 use record::fresh;
 use stores::admitted;
 use stores::put_words;
-use theory::Order;
 ghost use mathlib.Core.Path.{_≡_};
 ghost use Prim.Native.Nat.{_+_, _*_, _%_, _^_, _≤_, _<_};
 ghost use lib.ListN.{length};
 ghost use lib.Seq.{sets};
+ghost use Rattle.theory.specs.Words.{orderFrom};
 ghost use Rattle.note.specs.Answers.{givenWriter};
 ghost use Rattle.note.specs.Events.{eventWord, eventFault};
 ghost use Rattle.note.specs.Files.{versionWord, configurationWord};
@@ -44,14 +44,14 @@ fn version_word(major: u8, minor: u8) -> u32
 }
 
 /// Writes the file header with these two DAQ bytes, from byte 0 on.
-pub fn write_header(out: &mut [u8], major: u8, minor: u8, order: Order) -> WriterAnswer
+pub fn write_header(out: &mut [u8], major: u8, minor: u8, big: bool) -> WriterAnswer
     ensures answer { λ r. ⌜ givenWriter r ≡ writerGiven (headerWrote (now (out .entry))) ⌝ }
-    ensures output { λ _. ⌜ now (out .exit) ≡ headerOutput order (now (out .entry)) major minor ⌝ }
+    ensures output { λ _. ⌜ now (out .exit) ≡ headerOutput (orderFrom big) (now (out .entry)) major minor ⌝ }
 {
     match admitted(out.len(), 0, 0, 8) {
         WriterAnswer::Refused { number, place } => WriterAnswer::Refused { number, place },
         WriterAnswer::Next { place } => {
-            put_words(out, 0, &[FILE_MARK, version_word(major, minor)], order);
+            put_words(out, 0, &[FILE_MARK, version_word(major, minor)], big);
             WriterAnswer::Next { place }
         }
     }
@@ -92,11 +92,11 @@ fn bounded(room: usize, place: usize, end: usize, fault: u32, least: usize) -> W
 }
 
 // Stores a container's two words in front of its contents.
-fn put_head(out: &mut [u8], place: usize, end: usize, word: u32, order: Order)
+fn put_head(out: &mut [u8], place: usize, end: usize, word: u32, big: bool)
     requires { ⌜ HasRoom (length (now out)) place end ⌝ }
-    ensures { λ _. ⌜ now (out .exit) ≡ sets (now (out .entry)) place (closingBytes order word place end) ⌝ }
+    ensures { λ _. ⌜ now (out .exit) ≡ sets (now (out .entry)) place (closingBytes (orderFrom big) word place end) ⌝ }
 {
-    put_words(out, place, &[word, (end - place - 8) as u32], order);
+    put_words(out, place, &[word, (end - place - 8) as u32], big);
 }
 
 // Closes a container, whose own word has this fault: its contents are read in their context, where they stand; then its two words are stored.
@@ -108,20 +108,20 @@ fn close(
     least: usize,
     word: u32,
     context: u32,
-    order: Order,
+    big: bool,
 ) -> WriterAnswer
-    ensures answer { λ r. ⌜ givenWriter r ≡ writerGiven (closed order (now (out .entry)) place end fault least (contextOf context)) ⌝ }
-    ensures output { λ _. ⌜ now (out .exit) ≡ written (closed order (now (out .entry)) place end fault least (contextOf context))
-        (now (out .entry)) place (closingBytes order word place end) ⌝ }
+    ensures answer { λ r. ⌜ givenWriter r ≡ writerGiven (closed (orderFrom big) (now (out .entry)) place end fault least (contextOf context)) ⌝ }
+    ensures output { λ _. ⌜ now (out .exit) ≡ written (closed (orderFrom big) (now (out .entry)) place end fault least (contextOf context))
+        (now (out .entry)) place (closingBytes (orderFrom big) word place end) ⌝ }
 {
     match bounded(out.len(), place, end, fault, least) {
         WriterAnswer::Refused { number, place } => WriterAnswer::Refused { number, place },
         WriterAnswer::Next { place: next } => {
             let from = place + 8;
-            match records_in(&out[from..end], from, context, order) {
+            match records_in(&out[from..end], from, context, big) {
                 Count::Bad { number, place } => WriterAnswer::Refused { number, place },
                 Count::Good { count: _ } => {
-                    put_head(out, place, end, word, order);
+                    put_head(out, place, end, word, big);
                     WriterAnswer::Next { place: next }
                 }
             }
@@ -132,11 +132,11 @@ fn close(
 // ---- the two containers
 
 /// Closes a configuration over the entries written between its first eight bytes and the end.
-pub fn close_configuration(out: &mut [u8], place: usize, end: usize, order: Order) -> WriterAnswer
-    ensures answer { λ r. ⌜ givenWriter r ≡ writerGiven (configurationClosed order (now (out .entry)) place end) ⌝ }
-    ensures output { λ _. ⌜ now (out .exit) ≡ configurationOutput order (now (out .entry)) place end ⌝ }
+pub fn close_configuration(out: &mut [u8], place: usize, end: usize, big: bool) -> WriterAnswer
+    ensures answer { λ r. ⌜ givenWriter r ≡ writerGiven (configurationClosed (orderFrom big) (now (out .entry)) place end) ⌝ }
+    ensures output { λ _. ⌜ now (out .exit) ≡ configurationOutput (orderFrom big) (now (out .entry)) place end ⌝ }
 {
-    close(out, place, end, 0, 0, CONFIGURATION, ENTRY, order)
+    close(out, place, end, 0, 0, CONFIGURATION, ENTRY, big)
 }
 
 // An event's first word, of the bits that it has room for.
@@ -155,10 +155,10 @@ pub fn close_event(
     class: u32,
     category: u32,
     kind: u32,
-    order: Order,
+    big: bool,
 ) -> WriterAnswer
-    ensures answer { λ r. ⌜ givenWriter r ≡ writerGiven (eventClosed order (now (out .entry)) place end class category kind) ⌝ }
-    ensures output { λ _. ⌜ now (out .exit) ≡ eventOutput order (now (out .entry)) place end class category kind ⌝ }
+    ensures answer { λ r. ⌜ givenWriter r ≡ writerGiven (eventClosed (orderFrom big) (now (out .entry)) place end class category kind) ⌝ }
+    ensures output { λ _. ⌜ now (out .exit) ≡ eventOutput (orderFrom big) (now (out .entry)) place end class category kind ⌝ }
 {
     close(
         out,
@@ -168,18 +168,18 @@ pub fn close_event(
         1,
         event_word(class, category, kind),
         fresh(),
-        order,
+        big,
     )
 }
 
 // ---- the closings' storing halves, for contents that were checked elsewhere
 
 /// Stores a configuration's two words in front of entries that end at `end`, as its closing does.
-pub fn begin_configuration(out: &mut [u8], place: usize, end: usize, order: Order)
+pub fn begin_configuration(out: &mut [u8], place: usize, end: usize, big: bool)
     requires { ⌜ HasRoom (length (now out)) place end ⌝ }
-    ensures { λ _. ⌜ now (out .exit) ≡ sets (now (out .entry)) place (closingBytes order configurationWord place end) ⌝ }
+    ensures { λ _. ⌜ now (out .exit) ≡ sets (now (out .entry)) place (closingBytes (orderFrom big) configurationWord place end) ⌝ }
 {
-    put_head(out, place, end, CONFIGURATION, order);
+    put_head(out, place, end, CONFIGURATION, big);
 }
 
 /// Stores an event's two words in front of records that end at `end`, as its closing does.
@@ -190,11 +190,11 @@ pub fn begin_event(
     class: u32,
     category: u32,
     kind: u32,
-    order: Order,
+    big: bool,
 )
     requires room { ⌜ HasRoom (length (now out)) place end ⌝ }
     requires word { ⌜ eventFault class category kind ≡ 0 ⌝ }
-    ensures { λ _. ⌜ now (out .exit) ≡ sets (now (out .entry)) place (closingBytes order (eventWord class category kind) place end) ⌝ }
+    ensures { λ _. ⌜ now (out .exit) ≡ sets (now (out .entry)) place (closingBytes (orderFrom big) (eventWord class category kind) place end) ⌝ }
 {
-    put_head(out, place, end, event_word(class, category, kind), order);
+    put_head(out, place, end, event_word(class, category, kind), big);
 }

@@ -5,13 +5,13 @@ use record::Step;
 use record::fresh;
 use record::next_context;
 use record::record_in;
-use theory::Order;
-use words::order_of;
+use words::is_big;
 use words::word_at;
 ghost use mathlib.Core.Path.{_≡_};
 ghost use mathlib.Core.Bool.{true};
 ghost use Prim.Native.Nat.{_+_, _≤_};
 ghost use lib.ListN.{length};
+ghost use Rattle.theory.specs.Words.{orderFrom};
 ghost use Rattle.note.specs.Words.{word};
 ghost use Rattle.note.specs.Records.{readRecords};
 ghost use Rattle.note.specs.Events.{readEvent, readEvents};
@@ -49,40 +49,40 @@ pub enum Holding {
 // ---- the records of a part
 
 // The length word at the front of a part; 0 where there is none.
-fn length_at(part: &[u8], order: Order) -> usize
-    ensures { λ r. ⌜ (8 ≤ length (now (part .entry)) → r ≡ word order 4 (now (part .entry))) ⌝ }
+fn length_at(part: &[u8], big: bool) -> usize
+    ensures { λ r. ⌜ (8 ≤ length (now (part .entry)) → r ≡ word (orderFrom big) 4 (now (part .entry))) ⌝ }
 {
     if part.len() < 8 {
         return 0;
     }
-    word_at(part, 4, order) as usize
+    word_at(part, 4, big) as usize
 }
 
 // Whether a part goes on with a structure of this length word: where it says yes, it does.
-fn is_alike(part: &[u8], known: usize, order: Order) -> bool
-    ensures { λ r. ⌜ (r ≡ true → (8 ≤ length (now (part .entry))) × (known ≡ word order 4 (now (part .entry)))) ⌝ }
+fn is_alike(part: &[u8], known: usize, big: bool) -> bool
+    ensures { λ r. ⌜ (r ≡ true → (8 ≤ length (now (part .entry))) × (known ≡ word (orderFrom big) 4 (now (part .entry)))) ⌝ }
 {
     if part.len() < 8 {
         return false;
     }
-    word_at(part, 4, order) as usize == known
+    word_at(part, 4, big) as usize == known
 }
 
 /// How many records fill a part whose first byte stands at `from`. Over a run of records of one length the step to the next is known, and a
 /// record's own length word is only compared with it: memory is asked for many records at a time.
-pub fn records_in(part: &[u8], from: usize, context: u32, order: Order) -> Count
+pub fn records_in(part: &[u8], from: usize, context: u32, big: bool) -> Count
     requires { ⌜ from + length (now part) ≤ 0x1000000 ⌝ }
-    ensures { λ r. ⌜ r ≡ recordCount (readRecords order (contextOf context) from (now (part .entry))) ⌝ }
+    ensures { λ r. ⌜ r ≡ recordCount (readRecords (orderFrom big) (contextOf context) from (now (part .entry))) ⌝ }
 {
     let mut rest = part;
     let mut at = from;
     let mut count = 0;
     let mut state = context;
     while 0 < rest.len() {
-        let known = length_at(rest, order);
+        let known = length_at(rest, big);
         let mut more = true;
         while more {
-            match record_in(rest, at, state, order) {
+            match record_in(rest, at, state, big) {
                 Step::Bad { number, place } => return Count::Bad { number, place },
                 Step::Good { kind, length: _ } => {
                     let size = 8 + known;
@@ -90,7 +90,7 @@ pub fn records_in(part: &[u8], from: usize, context: u32, order: Order) -> Count
                     rest = &rest[size..];
                     at = at + size;
                     count = count + 1;
-                    more = is_alike(rest, known, order);
+                    more = is_alike(rest, known, big);
                 }
             }
         }
@@ -101,9 +101,9 @@ pub fn records_in(part: &[u8], from: usize, context: u32, order: Order) -> Count
 // ---- containers
 
 /// The configuration at the front of a part whose first byte stands at `at`.
-pub fn configuration_in(part: &[u8], at: usize, order: Order) -> Holding
+pub fn configuration_in(part: &[u8], at: usize, big: bool) -> Holding
     requires { ⌜ at + length (now part) ≤ 0x1000000 ⌝ }
-    ensures { λ r. ⌜ r ≡ containerStep order (readConfiguration order tt at (now (part .entry))) ⌝ }
+    ensures { λ r. ⌜ r ≡ containerStep (orderFrom big) (readConfiguration (orderFrom big) tt at (now (part .entry))) ⌝ }
 {
     let room = part.len();
     if room < 8 {
@@ -112,21 +112,21 @@ pub fn configuration_in(part: &[u8], at: usize, order: Order) -> Holding
             place: at,
         };
     }
-    let word = word_at(part, 0, order);
+    let word = word_at(part, 0, big);
     if word != CONFIGURATION {
         return Holding::Bad {
             number: 5,
             place: at,
         };
     }
-    let length = word_at(part, 4, order) as usize;
+    let length = word_at(part, 4, big) as usize;
     if room - 8 < length {
         return Holding::Bad {
             number: 2,
             place: at,
         };
     }
-    match records_in(&part[8..8 + length], at + 8, ENTRY, order) {
+    match records_in(&part[8..8 + length], at + 8, ENTRY, big) {
         Count::Good { count } => Holding::Good {
             word,
             length,
@@ -137,9 +137,9 @@ pub fn configuration_in(part: &[u8], at: usize, order: Order) -> Holding
 }
 
 /// The event at the front of a part whose first byte stands at `at`.
-pub fn event_in(part: &[u8], at: usize, order: Order) -> Holding
+pub fn event_in(part: &[u8], at: usize, big: bool) -> Holding
     requires { ⌜ at + length (now part) ≤ 0x1000000 ⌝ }
-    ensures { λ r. ⌜ r ≡ containerStep order (readEvent order tt at (now (part .entry))) ⌝ }
+    ensures { λ r. ⌜ r ≡ containerStep (orderFrom big) (readEvent (orderFrom big) tt at (now (part .entry))) ⌝ }
 {
     let room = part.len();
     if room < 8 {
@@ -148,7 +148,7 @@ pub fn event_in(part: &[u8], at: usize, order: Order) -> Holding
             place: at,
         };
     }
-    let word = word_at(part, 0, order);
+    let word = word_at(part, 0, big);
     let fault = event_word_rule(word);
     if fault != 0 {
         return Holding::Bad {
@@ -156,7 +156,7 @@ pub fn event_in(part: &[u8], at: usize, order: Order) -> Holding
             place: at,
         };
     }
-    let length = word_at(part, 4, order) as usize;
+    let length = word_at(part, 4, big) as usize;
     if room - 8 < length {
         return Holding::Bad {
             number: 2,
@@ -169,7 +169,7 @@ pub fn event_in(part: &[u8], at: usize, order: Order) -> Holding
             place: at,
         };
     }
-    match records_in(&part[8..8 + length], at + 8, fresh(), order) {
+    match records_in(&part[8..8 + length], at + 8, fresh(), big) {
         Count::Good { count } => Holding::Good {
             word,
             length,
@@ -180,15 +180,15 @@ pub fn event_in(part: &[u8], at: usize, order: Order) -> Holding
 }
 
 /// How many rows the events have that fill a part whose first byte stands at `from`.
-pub fn events_in(part: &[u8], from: usize, order: Order) -> Count
+pub fn events_in(part: &[u8], from: usize, big: bool) -> Count
     requires { ⌜ from + length (now part) ≤ 0x1000000 ⌝ }
-    ensures { λ r. ⌜ r ≡ eventRows (readEvents order tt from (now (part .entry))) ⌝ }
+    ensures { λ r. ⌜ r ≡ eventRows (readEvents (orderFrom big) tt from (now (part .entry))) ⌝ }
 {
     let mut rest = part;
     let mut at = from;
     let mut count = 0;
     while 0 < rest.len() {
-        match event_in(rest, at, order) {
+        match event_in(rest, at, big) {
             Holding::Bad { number, place } => return Count::Bad { number, place },
             Holding::Good {
                 word: _,
@@ -206,9 +206,9 @@ pub fn events_in(part: &[u8], from: usize, order: Order) -> Count
 }
 
 // How many rows the parts of a file have, or the first refusal in them.
-fn parts_in(file: &[u8], order: Order) -> Count
+fn parts_in(file: &[u8], big: bool) -> Count
     requires { ⌜ length (now file) ≤ 0x1000000 ⌝ }
-    ensures { λ r. ⌜ r ≡ partRows (readParts order (now (file .entry))) ⌝ }
+    ensures { λ r. ⌜ r ≡ partRows (readParts (orderFrom big) (now (file .entry))) ⌝ }
 {
     let room = file.len();
     if room < 8 {
@@ -217,19 +217,19 @@ fn parts_in(file: &[u8], order: Order) -> Count
             place: 0,
         };
     }
-    if word_at(file, 0, order) != FILE_MARK {
+    if word_at(file, 0, big) != FILE_MARK {
         return Count::Bad {
             number: 3,
             place: 0,
         };
     }
-    if word_at(file, 4, order) % 65536 != FORMAT {
+    if word_at(file, 4, big) % 65536 != FORMAT {
         return Count::Bad {
             number: 4,
             place: 0,
         };
     }
-    match configuration_in(&file[8..], 8, order) {
+    match configuration_in(&file[8..], 8, big) {
         Holding::Bad { number, place } => Count::Bad { number, place },
         Holding::Good {
             word: _,
@@ -237,7 +237,7 @@ fn parts_in(file: &[u8], order: Order) -> Count
             count,
         } => {
             let from = 16 + length;
-            match events_in(&file[from..], from, order) {
+            match events_in(&file[from..], from, big) {
                 Count::Bad { number, place } => Count::Bad { number, place },
                 Count::Good { count: rows } => Count::Good {
                     count: 2 + count + rows,
@@ -257,5 +257,5 @@ pub fn check(file: &[u8]) -> Count
             place: 0,
         };
     }
-    parts_in(file, order_of(file))
+    parts_in(file, is_big(file))
 }

@@ -12,7 +12,6 @@ use rules::TLB;
 use rules::TRACE;
 use rules::TRIGGER;
 use rules::section_end;
-use theory::Order;
 use words::word_at;
 use writers::write_administrative;
 use writers::write_charge;
@@ -25,6 +24,7 @@ use writers::write_trigger;
 ghost use mathlib.Core.Path.{_≡_};
 ghost use Prim.Native.Nat.{_+_, _≤_};
 ghost use lib.ListN.{length};
+ghost use Rattle.theory.specs.Words.{orderFrom};
 ghost use Rattle.note.specs.Phonon.{phononKind};
 ghost use Rattle.note.specs.Charge.{chargeKind};
 ghost use Rattle.note.specs.Administrative.{administrativeKind};
@@ -38,54 +38,54 @@ ghost use Rattle.copies.specs.Copying.{Copyable, Copied};
 
 // ---- the entries
 
-fn copy_phonon(body: &[u8], out: &mut [u8], place: usize, order: Order)
-    requires { ⌜ (44 ≤ length (now body)) × Copyable order phononKind (now body) (length (now out)) place ⌝ }
-    ensures { λ _. ⌜ Copied order phononKind (now (body .entry)) (now (out .entry)) place (now (out .exit)) ⌝ }
+fn copy_phonon(body: &[u8], out: &mut [u8], place: usize, big: bool)
+    requires { ⌜ (44 ≤ length (now body)) × Copyable (orderFrom big) phononKind (now body) (length (now out)) place ⌝ }
+    ensures { λ _. ⌜ Copied (orderFrom big) phononKind (now (body .entry)) (now (out .entry)) place (now (out .exit)) ⌝ }
 {
     write_phonon(
         out,
         place,
-        signed_at(body, 0, order),
-        signed_at(body, 4, order),
-        signed_at(body, 8, order),
-        signed_at(body, 12, order),
-        signed_at(body, 16, order),
-        signed_at(body, 20, order),
-        signed_at(body, 24, order),
-        signed_at(body, 28, order),
-        signed_at(body, 32, order),
-        signed_at(body, 36, order),
-        signed_at(body, 40, order),
-        order,
+        signed_at(body, 0, big),
+        signed_at(body, 4, big),
+        signed_at(body, 8, big),
+        signed_at(body, 12, big),
+        signed_at(body, 16, big),
+        signed_at(body, 20, big),
+        signed_at(body, 24, big),
+        signed_at(body, 28, big),
+        signed_at(body, 32, big),
+        signed_at(body, 36, big),
+        signed_at(body, 40, big),
+        big,
     );
 }
 
-fn copy_charge(body: &[u8], out: &mut [u8], place: usize, order: Order)
-    requires { ⌜ (32 ≤ length (now body)) × Copyable order chargeKind (now body) (length (now out)) place ⌝ }
-    ensures { λ _. ⌜ Copied order chargeKind (now (body .entry)) (now (out .entry)) place (now (out .exit)) ⌝ }
+fn copy_charge(body: &[u8], out: &mut [u8], place: usize, big: bool)
+    requires { ⌜ (32 ≤ length (now body)) × Copyable (orderFrom big) chargeKind (now body) (length (now out)) place ⌝ }
+    ensures { λ _. ⌜ Copied (orderFrom big) chargeKind (now (body .entry)) (now (out .entry)) place (now (out .exit)) ⌝ }
 {
     write_charge(
         out,
         place,
-        signed_at(body, 0, order),
-        signed_at(body, 4, order),
-        signed_at(body, 8, order),
-        signed_at(body, 12, order),
-        signed_at(body, 16, order),
-        signed_at(body, 20, order),
-        signed_at(body, 24, order),
-        signed_at(body, 28, order),
-        order,
+        signed_at(body, 0, big),
+        signed_at(body, 4, big),
+        signed_at(body, 8, big),
+        signed_at(body, 12, big),
+        signed_at(body, 16, big),
+        signed_at(body, 20, big),
+        signed_at(body, 24, big),
+        signed_at(body, 28, big),
+        big,
     );
 }
 
 // ---- the six records
 
-fn copy_administrative(body: &[u8], out: &mut [u8], place: usize, order: Order)
-    requires { ⌜ (24 ≤ length (now body)) × Copyable order administrativeKind (now body) (length (now out)) place ⌝ }
-    ensures { λ _. ⌜ Copied order administrativeKind (now (body .entry)) (now (out .entry)) place (now (out .exit)) ⌝ }
+fn copy_administrative(body: &[u8], out: &mut [u8], place: usize, big: bool)
+    requires { ⌜ (24 ≤ length (now body)) × Copyable (orderFrom big) administrativeKind (now body) (length (now out)) place ⌝ }
+    ensures { λ _. ⌜ Copied (orderFrom big) administrativeKind (now (body .entry)) (now (out .entry)) place (now (out .exit)) ⌝ }
 {
-    let w = six_at(body, 0, order);
+    let w = six_at(body, 0, big);
     write_administrative(
         out,
         place,
@@ -95,64 +95,64 @@ fn copy_administrative(body: &[u8], out: &mut [u8], place: usize, order: Order)
         w.fourth,
         w.fifth,
         w.sixth,
-        order,
+        big,
     );
 }
 
-fn copy_trace(body: &[u8], out: &mut [u8], place: usize, order: Order)
-    requires { ⌜ (48 ≤ length (now body)) × Copyable order traceKind (now body) (length (now out)) place ⌝ }
-    ensures { λ _. ⌜ Copied order traceKind (now (body .entry)) (now (out .entry)) place (now (out .exit)) ⌝ }
+fn copy_trace(body: &[u8], out: &mut [u8], place: usize, big: bool)
+    requires { ⌜ (48 ≤ length (now body)) × Copyable (orderFrom big) traceKind (now body) (length (now out)) place ⌝ }
+    ensures { λ _. ⌜ Copied (orderFrom big) traceKind (now (body .entry)) (now (out .entry)) place (now (out .exit)) ⌝ }
 {
     write_trace(
         out,
         place,
-        word_at(body, 8, order),
-        word_at(body, 12, order),
-        word_at(body, 16, order),
-        signed_at(body, 28, order),
-        word_at(body, 32, order),
-        word_at(body, 44, order),
+        word_at(body, 8, big),
+        word_at(body, 12, big),
+        word_at(body, 16, big),
+        signed_at(body, 28, big),
+        word_at(body, 32, big),
+        word_at(body, 44, big),
         &body[48..],
-        order,
+        big,
     );
 }
 
 // Where the width of a history's section stands, whose count stands at p.
-fn width_at(p: usize, body: &[u8], order: Order) -> usize
+fn width_at(p: usize, body: &[u8], big: bool) -> usize
     requires { ⌜ p + 4 ≤ length (now body) ⌝ }
-    ensures { λ r. ⌜ r ≡ widthAt order p (now (body .entry)) ⌝ }
+    ensures { λ r. ⌜ r ≡ widthAt (orderFrom big) p (now (body .entry)) ⌝ }
 {
-    p + 4 + 4 * word_at(body, p, order) as usize
+    p + 4 + 4 * word_at(body, p, big) as usize
 }
 
-fn copy_history(body: &[u8], out: &mut [u8], place: usize, order: Order)
-    requires { ⌜ (16 ≤ length (now body)) × Copyable order historyKind (now body) (length (now out)) place ⌝ }
-    ensures { λ _. ⌜ Copied order historyKind (now (body .entry)) (now (out .entry)) place (now (out .exit)) ⌝ }
+fn copy_history(body: &[u8], out: &mut [u8], place: usize, big: bool)
+    requires { ⌜ (16 ≤ length (now body)) × Copyable (orderFrom big) historyKind (now body) (length (now out)) place ⌝ }
+    ensures { λ _. ⌜ Copied (orderFrom big) historyKind (now (body .entry)) (now (out .entry)) place (now (out .exit)) ⌝ }
 {
-    let veto = width_at(0, body, order);
-    let middle = section_end(0, body, order);
-    let trigger = width_at(middle, body, order);
+    let veto = width_at(0, body, big);
+    let middle = section_end(0, body, big);
+    let trigger = width_at(middle, body, big);
     write_history(
         out,
         place,
-        word_at(body, 0, order),
+        word_at(body, 0, big),
         &body[4..veto],
-        word_at(body, veto, order),
+        word_at(body, veto, big),
         &body[veto + 4..middle],
-        word_at(body, middle, order),
+        word_at(body, middle, big),
         &body[middle + 4..trigger],
-        word_at(body, trigger, order),
+        word_at(body, trigger, big),
         &body[trigger + 4..],
-        order,
+        big,
     );
 }
 
-fn copy_gps(body: &[u8], out: &mut [u8], place: usize, order: Order)
-    requires { ⌜ (12 ≤ length (now body)) × Copyable order gpsKind (now body) (length (now out)) place ⌝ }
-    ensures { λ _. ⌜ Copied order gpsKind (now (body .entry)) (now (out .entry)) place (now (out .exit)) ⌝ }
+fn copy_gps(body: &[u8], out: &mut [u8], place: usize, big: bool)
+    requires { ⌜ (12 ≤ length (now body)) × Copyable (orderFrom big) gpsKind (now body) (length (now out)) place ⌝ }
+    ensures { λ _. ⌜ Copied (orderFrom big) gpsKind (now (body .entry)) (now (out .entry)) place (now (out .exit)) ⌝ }
 {
-    let date = word_at(body, 0, order);
-    let clock = word_at(body, 4, order);
+    let date = word_at(body, 0, big);
+    let clock = word_at(body, 4, big);
     write_gps(
         out,
         place,
@@ -162,16 +162,16 @@ fn copy_gps(body: &[u8], out: &mut [u8], place: usize, order: Order)
         decimal(2, clock >> 16),
         decimal(2, clock >> 8),
         decimal(2, clock),
-        decimal(8, word_at(body, 8, order)),
-        order,
+        decimal(8, word_at(body, 8, big)),
+        big,
     );
 }
 
-fn copy_trigger(body: &[u8], out: &mut [u8], place: usize, order: Order)
-    requires { ⌜ (28 ≤ length (now body)) × Copyable order triggerKind (now body) (length (now out)) place ⌝ }
-    ensures { λ _. ⌜ Copied order triggerKind (now (body .entry)) (now (out .entry)) place (now (out .exit)) ⌝ }
+fn copy_trigger(body: &[u8], out: &mut [u8], place: usize, big: bool)
+    requires { ⌜ (28 ≤ length (now body)) × Copyable (orderFrom big) triggerKind (now body) (length (now out)) place ⌝ }
+    ensures { λ _. ⌜ Copied (orderFrom big) triggerKind (now (body .entry)) (now (out .entry)) place (now (out .exit)) ⌝ }
 {
-    let w = six_at(body, 4, order);
+    let w = six_at(body, 4, big);
     write_trigger(
         out,
         place,
@@ -181,15 +181,15 @@ fn copy_trigger(body: &[u8], out: &mut [u8], place: usize, order: Order)
         w.fourth,
         w.fifth,
         w.sixth,
-        order,
+        big,
     );
 }
 
-fn copy_tlb(body: &[u8], out: &mut [u8], place: usize, order: Order)
-    requires { ⌜ (24 ≤ length (now body)) × Copyable order tlbKind (now body) (length (now out)) place ⌝ }
-    ensures { λ _. ⌜ Copied order tlbKind (now (body .entry)) (now (out .entry)) place (now (out .exit)) ⌝ }
+fn copy_tlb(body: &[u8], out: &mut [u8], place: usize, big: bool)
+    requires { ⌜ (24 ≤ length (now body)) × Copyable (orderFrom big) tlbKind (now body) (length (now out)) place ⌝ }
+    ensures { λ _. ⌜ Copied (orderFrom big) tlbKind (now (body .entry)) (now (out .entry)) place (now (out .exit)) ⌝ }
 {
-    let w = six_at(body, 0, order);
+    let w = six_at(body, 0, big);
     write_tlb(
         out,
         place,
@@ -199,26 +199,26 @@ fn copy_tlb(body: &[u8], out: &mut [u8], place: usize, order: Order)
         w.fourth,
         w.fifth,
         w.sixth,
-        order,
+        big,
     );
 }
 
 // ---- any of them
 
 /// Writes a record or an entry of this kind again, from its body's fields, into the output from the place on.
-pub fn copy_record(kind: u32, body: &[u8], out: &mut [u8], place: usize, order: Order)
-    requires { ⌜ Copyable order (kindOf kind) (now body) (length (now out)) place ⌝ }
-    ensures { λ _. ⌜ Copied order (kindOf kind) (now (body .entry)) (now (out .entry)) place (now (out .exit)) ⌝ }
+pub fn copy_record(kind: u32, body: &[u8], out: &mut [u8], place: usize, big: bool)
+    requires { ⌜ Copyable (orderFrom big) (kindOf kind) (now body) (length (now out)) place ⌝ }
+    ensures { λ _. ⌜ Copied (orderFrom big) (kindOf kind) (now (body .entry)) (now (out .entry)) place (now (out .exit)) ⌝ }
 {
     match kind {
-        PHONON => copy_phonon(body, out, place, order),
-        CHARGE => copy_charge(body, out, place, order),
-        ADMINISTRATIVE => copy_administrative(body, out, place, order),
-        TRACE => copy_trace(body, out, place, order),
-        HISTORY => copy_history(body, out, place, order),
-        GPS => copy_gps(body, out, place, order),
-        TRIGGER => copy_trigger(body, out, place, order),
-        TLB => copy_tlb(body, out, place, order),
+        PHONON => copy_phonon(body, out, place, big),
+        CHARGE => copy_charge(body, out, place, big),
+        ADMINISTRATIVE => copy_administrative(body, out, place, big),
+        TRACE => copy_trace(body, out, place, big),
+        HISTORY => copy_history(body, out, place, big),
+        GPS => copy_gps(body, out, place, big),
+        TRIGGER => copy_trigger(body, out, place, big),
+        TLB => copy_tlb(body, out, place, big),
         // Not reached: a body that follows a rule has its kind.
         _ => {}
     }

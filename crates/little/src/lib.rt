@@ -4,7 +4,6 @@ use note::RecordAnswer;
 use note::SampleAnswer;
 use note::SettingAnswer;
 use note::WriterAnswer;
-use theory::Order;
 ghost use mathlib.Core.Path.{_≡_};
 ghost use Prim.Native.Nat.{_+_};
 ghost use Rattle.theory.specs.declared.Order.the-variants.{Little};
@@ -14,12 +13,15 @@ ghost use Rattle.note.specs.Writers.{administrativeWritten, chargeWritten, conf
 ghost use Rattle.note.specs.Writers.{headerOutput, headerWrote, historyWritten, phononWritten, tlbWritten, traceWritten, triggerWritten, writerGiven};
 ghost use Rattle.stores.specs.Writes.{Wrote};
 
+// No word has its highest byte first.
+const LITTLE: bool = false;
+
 /// Record: the record or entry at a place with its fields, the whole file its parent and no event's rules; or a refusal.
 /// A case for each kind (document 01).
 pub fn record(file: &[u8], place: usize) -> RecordAnswer
     ensures { λ r. ⌜ givenRecord r ≡ recordAt Little (now (file .entry)) place ⌝ }
 {
-    answers::record(file, place, Order::Little)
+    answers::record(file, place, LITTLE)
 }
 
 /// Setting: the entry at a place in working units; Record's refusals, then 5 there for another kind.
@@ -27,7 +29,7 @@ pub fn record(file: &[u8], place: usize) -> RecordAnswer
 pub fn setting(file: &[u8], place: usize) -> SettingAnswer
     ensures { λ r. ⌜ givenSetting r ≡ settingAt Little (now (file .entry)) place ⌝ }
 {
-    answers::setting(file, place, Order::Little)
+    answers::setting(file, place, LITTLE)
 }
 
 /// Samples: the part of the caller's own file that holds the samples of the trace at a place; empty where Record finds none.
@@ -35,7 +37,7 @@ pub fn samples<'a>(file: &'a [u8], place: usize) -> &'a [u8]
     ensures bytes { λ r. ⌜ now r ≡ samplesAt Little (now (file .entry)) place ⌝ }
     ensures own { λ r. ⌜ r .ptr ≡ (file .entry .ptr .0, samplesPart Little (now (file .entry)) place .0 + file .entry .ptr .1) ⌝ }
 {
-    samples::samples(file, place, Order::Little)
+    samples::samples(file, place, LITTLE)
 }
 
 /// Sample: the sample with a number, from 1 on, of the trace at a place; Record's refusals, then there 5 for another kind and 11 for a
@@ -43,7 +45,7 @@ pub fn samples<'a>(file: &'a [u8], place: usize) -> &'a [u8]
 pub fn sample(file: &[u8], place: usize, number: usize) -> SampleAnswer
     ensures { λ r. ⌜ givenSample r ≡ sampleAt Little (now (file .entry)) place number ⌝ }
 {
-    samples::sample(file, place, number, Order::Little)
+    samples::sample(file, place, number, LITTLE)
 }
 
 /// Writes a phonon entry: detector code, tower, gain x100, QET bias x100, SQUID bias x100, lockpoint x100, RTF offset, variable gain,
@@ -91,7 +93,7 @@ pub fn write_phonon(
         delta_t,
         t0,
         trace_length,
-        Order::Little,
+        LITTLE,
     )
 }
 
@@ -130,7 +132,7 @@ pub fn write_charge(
         delta_t,
         t0,
         trace_length,
-        Order::Little,
+        LITTLE,
     )
 }
 
@@ -154,17 +156,7 @@ pub fn write_administrative(
       live = live;
     })) r (now (out .exit)) ⌝ }
 {
-    writers::write_administrative(
-        out,
-        place,
-        date,
-        clock,
-        number,
-        time,
-        since,
-        live,
-        Order::Little,
-    )
+    writers::write_administrative(out, place, date, clock, number, time, since, live, LITTLE)
 }
 
 /// Writes a trace: base address, digitizer channel, detector code, t0, delta t, n, and the part of bytes that holds its n samples.
@@ -199,7 +191,7 @@ pub fn write_trace(
         delta_t,
         n,
         samples,
-        Order::Little,
+        LITTLE,
     )
 }
 
@@ -242,7 +234,7 @@ pub fn write_history(
         trigger_times,
         trigger_width,
         trigger_masks,
-        Order::Little,
+        LITTLE,
     )
 }
 
@@ -278,7 +270,7 @@ pub fn write_gps(
         minute,
         second,
         tenths,
-        Order::Little,
+        LITTLE,
     )
 }
 
@@ -302,17 +294,7 @@ pub fn write_trigger(
       mask6 = mask6;
     })) r (now (out .exit)) ⌝ }
 {
-    writers::write_trigger(
-        out,
-        place,
-        mask1,
-        mask2,
-        mask3,
-        mask4,
-        mask5,
-        mask6,
-        Order::Little,
-    )
+    writers::write_trigger(out, place, mask1, mask2, mask3, mask4, mask5, mask6, LITTLE)
 }
 
 /// Writes a TLB record: a word for each of six towers.
@@ -344,7 +326,7 @@ pub fn write_tlb(
         tower4,
         tower5,
         tower6,
-        Order::Little,
+        LITTLE,
     )
 }
 
@@ -353,7 +335,7 @@ pub fn write_header(out: &mut [u8], major: u8, minor: u8) -> WriterAnswer
     ensures answer { λ r. ⌜ givenWriter r ≡ writerGiven (headerWrote (now (out .entry))) ⌝ }
     ensures output { λ _. ⌜ now (out .exit) ≡ headerOutput Little (now (out .entry)) major minor ⌝ }
 {
-    closings::write_header(out, major, minor, Order::Little)
+    closings::write_header(out, major, minor, LITTLE)
 }
 
 /// Closes a configuration over the entries written between its first eight bytes and the end.
@@ -361,7 +343,7 @@ pub fn close_configuration(out: &mut [u8], place: usize, end: usize) -> WriterAn
     ensures answer { λ r. ⌜ givenWriter r ≡ writerGiven (configurationClosed Little (now (out .entry)) place end) ⌝ }
     ensures output { λ _. ⌜ now (out .exit) ≡ configurationOutput Little (now (out .entry)) place end ⌝ }
 {
-    closings::close_configuration(out, place, end, Order::Little)
+    closings::close_configuration(out, place, end, LITTLE)
 }
 
 /// Closes an event of this class, category and type over the records written between its first eight bytes and the end.
@@ -376,5 +358,5 @@ pub fn close_event(
     ensures answer { λ r. ⌜ givenWriter r ≡ writerGiven (eventClosed Little (now (out .entry)) place end class category kind) ⌝ }
     ensures output { λ _. ⌜ now (out .exit) ≡ eventOutput Little (now (out .entry)) place end class category kind ⌝ }
 {
-    closings::close_event(out, place, end, class, category, kind, Order::Little)
+    closings::close_event(out, place, end, class, category, kind, LITTLE)
 }

@@ -8,10 +8,10 @@ use rules::TLB;
 use rules::TRACE;
 use rules::TRIGGER;
 use rules::rule;
-use theory::Order;
 use words::word_at;
 ghost use mathlib.Core.Path.{_≡_};
 ghost use lib.ListN.{length};
+ghost use Rattle.theory.specs.Words.{orderFrom};
 ghost use Rattle.theory.specs.Tests.{among};
 ghost use Prim.Native.Nat.{_<_};
 ghost use Rattle.note.specs.Records.{entryKinds, recordKinds, event, none, isKind, isPlaced, isAllowed, behind, readRecord};
@@ -143,8 +143,8 @@ pub fn next_context(context: u32, kind: u32) -> u32
 }
 
 /// The record at the front of a part, whose first byte stands at the place `at`.
-pub fn record_in(part: &[u8], at: usize, context: u32, order: Order) -> Step
-    ensures { λ r. ⌜ r ≡ stepOf (readRecord order (contextOf context) at (now (part .entry))) ⌝ }
+pub fn record_in(part: &[u8], at: usize, context: u32, big: bool) -> Step
+    ensures { λ r. ⌜ r ≡ stepOf (readRecord (orderFrom big) (contextOf context) at (now (part .entry))) ⌝ }
 {
     let room = part.len();
     if room < 8 {
@@ -153,14 +153,14 @@ pub fn record_in(part: &[u8], at: usize, context: u32, order: Order) -> Step
             place: at,
         };
     }
-    let kind = word_at(part, 0, order);
+    let kind = word_at(part, 0, big);
     if !is_kind(context, kind) {
         return Step::Bad {
             number: 5,
             place: at,
         };
     }
-    let length = word_at(part, 4, order) as usize;
+    let length = word_at(part, 4, big) as usize;
     if room - 8 < length {
         return Step::Bad {
             number: 2,
@@ -173,7 +173,7 @@ pub fn record_in(part: &[u8], at: usize, context: u32, order: Order) -> Step
             place: at,
         };
     }
-    let fault = rule(kind, &part[8..8 + length], order);
+    let fault = rule(kind, &part[8..8 + length], big);
     if fault != 0 {
         return Step::Bad {
             number: fault,

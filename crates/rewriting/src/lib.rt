@@ -13,77 +13,77 @@ use fields::class_of;
 use fields::event_type_of;
 use note::WriterAnswer;
 use record::FILE_LIMIT;
-use theory::Order;
-use words::order_of;
+use words::is_big;
 use words::word_at;
 ghost use mathlib.Core.Path.{_≡_};
 ghost use lib.ListN.{length};
 ghost use lib.Seq.{sets};
+ghost use Rattle.theory.specs.Words.{orderFrom};
 ghost use Rattle.note.specs.Answers.{givenWriter};
 ghost use Rattle.note.specs.Writers.{writerGiven, closingBytes, rewriteWrote, rewriteOutput};
 ghost use Rattle.demands.specs.Outputs.{HasRoom};
 ghost use Rattle.rewriting.specs.Ready.{Begins, RecordsReady, ContainersReady, FileReady, Stands};
 
 // Writes again the records or entries that fill a part, whose first byte stands at the place in the file and in the output.
-fn copy_records(part: &[u8], out: &mut [u8], place: usize, order: Order)
-    requires { ⌜ RecordsReady order place (now part) (length (now out)) ⌝ }
+fn copy_records(part: &[u8], out: &mut [u8], place: usize, big: bool)
+    requires { ⌜ RecordsReady (orderFrom big) place (now part) (length (now out)) ⌝ }
     ensures { λ _. ⌜ Stands (now (part .entry)) (now (out .entry)) place (now (out .exit)) ⌝ }
 {
     let mut rest = part;
     let mut at = place;
     while 0 < rest.len() {
-        let size = 8 + word_at(rest, 4, order) as usize;
-        copy_record(word_at(rest, 0, order), &rest[8..size], out, at, order);
+        let size = 8 + word_at(rest, 4, big) as usize;
+        copy_record(word_at(rest, 0, big), &rest[8..size], out, at, big);
         rest = &rest[size..];
         at = at + size;
     }
 }
 
 // Stores a container's two words in front of contents that end at `end`: a configuration's, or an event's from its class, category and type.
-fn begin_container(out: &mut [u8], place: usize, end: usize, word: u32, order: Order)
+fn begin_container(out: &mut [u8], place: usize, end: usize, word: u32, big: bool)
     requires room { ⌜ HasRoom (length (now out)) place end ⌝ }
     requires word { ⌜ Begins word ⌝ }
-    ensures { λ _. ⌜ now (out .exit) ≡ sets (now (out .entry)) place (closingBytes order word place end) ⌝ }
+    ensures { λ _. ⌜ now (out .exit) ≡ sets (now (out .entry)) place (closingBytes (orderFrom big) word place end) ⌝ }
 {
     if word == CONFIGURATION {
-        begin_configuration(out, place, end, order);
+        begin_configuration(out, place, end, big);
         return;
     }
     let class = class_of(word);
     let category = category_of(word);
     let kind = event_type_of(word);
-    begin_event(out, place, end, class, category, kind, order);
+    begin_event(out, place, end, class, category, kind, big);
 }
 
 // Writes again the containers that fill a part, the configuration and the events: each one's two words, then its contents. So the output is stored
 // from its first byte to its last.
-fn copy_containers(part: &[u8], out: &mut [u8], place: usize, order: Order)
-    requires { ⌜ ContainersReady order place (now part) (length (now out)) ⌝ }
+fn copy_containers(part: &[u8], out: &mut [u8], place: usize, big: bool)
+    requires { ⌜ ContainersReady (orderFrom big) place (now part) (length (now out)) ⌝ }
     ensures { λ _. ⌜ Stands (now (part .entry)) (now (out .entry)) place (now (out .exit)) ⌝ }
 {
     let mut rest = part;
     let mut at = place;
     while 0 < rest.len() {
-        let word = word_at(rest, 0, order);
-        let size = 8 + word_at(rest, 4, order) as usize;
+        let word = word_at(rest, 0, big);
+        let size = 8 + word_at(rest, 4, big) as usize;
         let end = at + size;
-        begin_container(out, at, end, word, order);
-        copy_records(&rest[8..size], out, at + 8, order);
+        begin_container(out, at, end, word, big);
+        copy_records(&rest[8..size], out, at + 8, big);
         rest = &rest[size..];
         at = end;
     }
 }
 
 // Writes an accepted file again: its header, then its containers.
-fn copy_file(file: &[u8], out: &mut [u8], order: Order)
-    requires { ⌜ FileReady order (now file) (length (now out)) ⌝ }
+fn copy_file(file: &[u8], out: &mut [u8], big: bool)
+    requires { ⌜ FileReady (orderFrom big) (now file) (length (now out)) ⌝ }
     ensures { λ _. ⌜ Stands (now (file .entry)) (now (out .entry)) 0 (now (out .exit)) ⌝ }
 {
-    let version = word_at(file, 4, order);
+    let version = word_at(file, 4, big);
     let major = ((version >> 24) & 255) as u8;
     let minor = ((version >> 16) & 255) as u8;
-    write_header(out, major, minor, order);
-    copy_containers(&file[8..], out, 8, order);
+    write_header(out, major, minor, big);
+    copy_containers(&file[8..], out, 8, big);
 }
 
 /// Rewrite: reads an accepted file's fields and writes them from byte 0 on; answers the next place. 1 for either buffer, the file's refusal,
@@ -107,7 +107,7 @@ pub fn rewrite(file: &[u8], out: &mut [u8]) -> WriterAnswer
                     place: 0,
                 };
             }
-            copy_file(file, out, order_of(file));
+            copy_file(file, out, is_big(file));
             WriterAnswer::Next { place: file.len() }
         }
     }

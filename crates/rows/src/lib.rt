@@ -9,7 +9,6 @@ use rules::TRACE;
 use rules::TRIGGER;
 use rules::history_rule;
 use rules::section_end;
-use theory::Order;
 use words::word_at;
 ghost use mathlib.Core.Path.{_≡_};
 ghost use mathlib.Core.Bool.{true};
@@ -17,6 +16,7 @@ ghost use mathlib.Core.List.{[], _∷_};
 ghost use Prim.Native.Nat.{_+_, _*_, _≤_, _<_};
 ghost use lib.ListN.{length};
 ghost use lib.Seq.{sets};
+ghost use Rattle.theory.specs.Words.{orderFrom};
 ghost use Rattle.theory.specs.Stores.{HasEach};
 ghost use Rattle.rows.specs.Buffers.{rowOf, stored};
 ghost use Rattle.rows.specs.Values.{standingOf, hasValues, valuesOf};
@@ -102,13 +102,13 @@ fn value_places(kind: u32) -> Standing
 }
 
 /// Whether a kind's row has values, and a body holds the words that they are.
-pub fn has_values(kind: u32, b: &[u8], order: Order) -> bool
+pub fn has_values(kind: u32, b: &[u8], big: bool) -> bool
     requires { ⌜ length (now b) < 0x100000000 ⌝ }
-    ensures { λ r. ⌜ r ≡ hasValues order kind (now (b .entry)) ⌝ }
+    ensures { λ r. ⌜ r ≡ hasValues (orderFrom big) kind (now (b .entry)) ⌝ }
 {
     let s = value_places(kind);
     if s.kind == 8 {
-        return history_rule(b, order) == 0;
+        return history_rule(b, big) == 0;
     }
     if s.kind == 0 {
         return false;
@@ -117,23 +117,23 @@ pub fn has_values(kind: u32, b: &[u8], order: Order) -> bool
 }
 
 /// A row's values, from a body that holds them.
-pub fn values_in(kind: u32, b: &[u8], order: Order) -> Values
-    requires { ⌜ (hasValues order kind (now b) ≡ true) × (length (now b) < 0x100000000) ⌝ }
-    ensures { λ r. ⌜ r ≡ valuesOf order kind (now (b .entry)) ⌝ }
+pub fn values_in(kind: u32, b: &[u8], big: bool) -> Values
+    requires { ⌜ (hasValues (orderFrom big) kind (now b) ≡ true) × (length (now b) < 0x100000000) ⌝ }
+    ensures { λ r. ⌜ r ≡ valuesOf (orderFrom big) kind (now (b .entry)) ⌝ }
 {
     let s = value_places(kind);
     if s.kind == 8 {
-        let middle = section_end(0, b, order);
+        let middle = section_end(0, b, big);
         return Values {
             kind: s.kind,
-            one: word_at(b, 0, order),
-            two: word_at(b, middle, order),
+            one: word_at(b, 0, big),
+            two: word_at(b, middle, big),
         };
     }
     Values {
         kind: s.kind,
-        one: word_at(b, s.one, order),
-        two: word_at(b, s.two, order),
+        one: word_at(b, s.one, big),
+        two: word_at(b, s.two, big),
     }
 }
 

@@ -13,11 +13,11 @@ use fields::is_width;
 use fields::or_unless;
 use fields::tlb_fault;
 use fields::unless;
-use theory::Order;
 use words::word_at;
 ghost use mathlib.Core.Path.{_≡_};
 ghost use Prim.Native.Nat.{_+_, _≤_, _<_};
 ghost use lib.ListN.{length};
+ghost use Rattle.theory.specs.Words.{orderFrom};
 ghost use Rattle.note.specs.Phonon.{phononFault, phononRule};
 ghost use Rattle.note.specs.Charge.{chargeFault, chargeRule};
 ghost use Rattle.note.specs.Administrative.{administrativeRule};
@@ -60,126 +60,126 @@ pub fn charge_fault(code: u32) -> u32
 }
 
 /// A phonon entry's rule.
-pub fn phonon_rule(b: &[u8], order: Order) -> u32
-    ensures { λ r. ⌜ r ≡ phononRule order (now (b .entry)) ⌝ }
+pub fn phonon_rule(b: &[u8], big: bool) -> u32
+    ensures { λ r. ⌜ r ≡ phononRule (orderFrom big) (now (b .entry)) ⌝ }
 {
     if b.len() != 44 {
         return 6;
     }
-    phonon_fault(word_at(b, 0, order))
+    phonon_fault(word_at(b, 0, big))
 }
 
 /// A charge entry's rule.
-pub fn charge_rule(b: &[u8], order: Order) -> u32
-    ensures { λ r. ⌜ r ≡ chargeRule order (now (b .entry)) ⌝ }
+pub fn charge_rule(b: &[u8], big: bool) -> u32
+    ensures { λ r. ⌜ r ≡ chargeRule (orderFrom big) (now (b .entry)) ⌝ }
 {
     if b.len() != 32 {
         return 6;
     }
-    charge_fault(word_at(b, 0, order))
+    charge_fault(word_at(b, 0, big))
 }
 
 /// An administrative record's rule.
-pub fn administrative_rule(b: &[u8], order: Order) -> u32
-    ensures { λ r. ⌜ r ≡ administrativeRule order (now (b .entry)) ⌝ }
+pub fn administrative_rule(b: &[u8], big: bool) -> u32
+    ensures { λ r. ⌜ r ≡ administrativeRule (orderFrom big) (now (b .entry)) ⌝ }
 {
     if b.len() != 24 {
         return 6;
     }
-    administrative_fault(word_at(b, 0, order), word_at(b, 4, order))
+    administrative_fault(word_at(b, 0, big), word_at(b, 4, big))
 }
 
 // A trace's first inner block: bookkeeping.
-fn bookkeeping_rule(b: &[u8], order: Order) -> u32
+fn bookkeeping_rule(b: &[u8], big: bool) -> u32
     requires { ⌜ 48 ≤ length (now b) ⌝ }
-    ensures { λ r. ⌜ r ≡ bookkeepingRule order (now (b .entry)) ⌝ }
+    ensures { λ r. ⌜ r ≡ bookkeepingRule (orderFrom big) (now (b .entry)) ⌝ }
 {
-    if word_at(b, 0, order) != 0x11 {
+    if word_at(b, 0, big) != 0x11 {
         return 5;
     }
-    if word_at(b, 4, order) != 12 {
+    if word_at(b, 4, big) != 12 {
         return 6;
     }
-    if !is_channel(word_at(b, 12, order)) {
+    if !is_channel(word_at(b, 12, big)) {
         return 10;
     }
-    if !is_named(word_at(b, 16, order)) {
+    if !is_named(word_at(b, 16, big)) {
         return 10;
     }
     0
 }
 
 // Its second: the timebase.
-fn timebase_rule(b: &[u8], order: Order) -> u32
+fn timebase_rule(b: &[u8], big: bool) -> u32
     requires { ⌜ 48 ≤ length (now b) ⌝ }
-    ensures { λ r. ⌜ r ≡ timebaseRule order (now (b .entry)) ⌝ }
+    ensures { λ r. ⌜ r ≡ timebaseRule (orderFrom big) (now (b .entry)) ⌝ }
 {
-    if word_at(b, 20, order) != 0x12 {
+    if word_at(b, 20, big) != 0x12 {
         return 5;
     }
-    if word_at(b, 24, order) != 12 {
+    if word_at(b, 24, big) != 12 {
         return 6;
     }
-    if word_at(b, 32, order) < 1 {
+    if word_at(b, 32, big) < 1 {
         return 10;
     }
     0
 }
 
 // Its third: the samples' count, the same as the first.
-fn samples_rule(b: &[u8], order: Order) -> u32
+fn samples_rule(b: &[u8], big: bool) -> u32
     requires { ⌜ 48 ≤ length (now b) ⌝ }
-    ensures { λ r. ⌜ r ≡ samplesRule order (now (b .entry)) ⌝ }
+    ensures { λ r. ⌜ r ≡ samplesRule (orderFrom big) (now (b .entry)) ⌝ }
 {
-    if word_at(b, 40, order) != 0x13 {
+    if word_at(b, 40, big) != 0x13 {
         return 5;
     }
-    let n = word_at(b, 44, order);
+    let n = word_at(b, 44, big);
     let count = count_fault(n);
     if count != 0 {
         return count;
     }
-    if word_at(b, 36, order) != n {
+    if word_at(b, 36, big) != n {
         return 11;
     }
     0
 }
 
 /// A trace's rule: it reads the first 48 bytes and no sample.
-pub fn trace_rule(b: &[u8], order: Order) -> u32
-    ensures { λ r. ⌜ r ≡ traceRule order (now (b .entry)) ⌝ }
+pub fn trace_rule(b: &[u8], big: bool) -> u32
+    ensures { λ r. ⌜ r ≡ traceRule (orderFrom big) (now (b .entry)) ⌝ }
 {
     if b.len() < 48 {
         return 6;
     }
-    let bookkeeping = bookkeeping_rule(b, order);
+    let bookkeeping = bookkeeping_rule(b, big);
     if bookkeeping != 0 {
         return bookkeeping;
     }
-    let timebase = timebase_rule(b, order);
+    let timebase = timebase_rule(b, big);
     if timebase != 0 {
         return timebase;
     }
-    let samples = samples_rule(b, order);
+    let samples = samples_rule(b, big);
     if samples != 0 {
         return samples;
     }
-    if b.len() != 48 + 2 * word_at(b, 44, order) as usize {
+    if b.len() != 48 + 2 * word_at(b, 44, big) as usize {
         return 6;
     }
     0
 }
 
 // A history section's rule, its count standing at place p.
-fn section_rule(trigger: bool, p: usize, b: &[u8], order: Order) -> u32
+fn section_rule(trigger: bool, p: usize, b: &[u8], big: bool) -> u32
     requires { ⌜ (p ≤ 0x7FFFFFFFFFFFFFFF) × (length (now b) < 0x100000000) ⌝ }
-    ensures { λ r. ⌜ r ≡ sectionRule order trigger p (now (b .entry)) ⌝ }
+    ensures { λ r. ⌜ r ≡ sectionRule (orderFrom big) trigger p (now (b .entry)) ⌝ }
 {
     let room = b.len();
     if room < p + 4 {
         return 6;
     }
-    let times = word_at(b, p, order);
+    let times = word_at(b, p, big);
     if 0x7FFF_FFFF < times {
         return 10;
     }
@@ -187,26 +187,27 @@ fn section_rule(trigger: bool, p: usize, b: &[u8], order: Order) -> u32
     if room < q + 4 {
         return 6;
     }
-    let width = word_at(b, q, order);
+    let width = word_at(b, q, big);
     let fault = unless(width <= 0x7FFF_FFFF, 10);
     or_unless(fault, is_width(trigger, times, width), 10)
 }
 
 /// Where a section that follows its rule ends.
-pub fn section_end(p: usize, b: &[u8], order: Order) -> usize
-    requires { ⌜ (widthAt order p (now b) + 4 ≤ length (now b)) × (widthOf order p (now b) ≤ 0x7FFFFFFF) × (length (now b) < 0x100000000) ⌝ }
-    ensures { λ r. ⌜ r ≡ after order p (now (b .entry)) ⌝ }
+pub fn section_end(p: usize, b: &[u8], big: bool) -> usize
+    requires { ⌜ (widthAt (orderFrom big) p (now b) + 4 ≤ length (now b)) × (widthOf (orderFrom big) p (now b) ≤ 0x7FFFFFFF)
+        × (length (now b) < 0x100000000) ⌝ }
+    ensures { λ r. ⌜ r ≡ after (orderFrom big) p (now (b .entry)) ⌝ }
 {
-    let n = word_at(b, p, order) as usize;
+    let n = word_at(b, p, big) as usize;
     let q = p + 4 + 4 * n;
-    let w = word_at(b, q, order) as usize;
+    let w = word_at(b, q, big) as usize;
     q + 4 + 4 * (n * w)
 }
 
 /// A history's rule.
-pub fn history_rule(b: &[u8], order: Order) -> u32
+pub fn history_rule(b: &[u8], big: bool) -> u32
     requires { ⌜ length (now b) < 0x100000000 ⌝ }
-    ensures { λ r. ⌜ r ≡ historyRule order (now (b .entry)) ⌝ }
+    ensures { λ r. ⌜ r ≡ historyRule (orderFrom big) (now (b .entry)) ⌝ }
 {
     let room = b.len();
     if room < 16 {
@@ -215,31 +216,31 @@ pub fn history_rule(b: &[u8], order: Order) -> u32
     if room % 4 != 0 {
         return 6;
     }
-    let veto = section_rule(false, 0, b, order);
+    let veto = section_rule(false, 0, b, big);
     if veto != 0 {
         return veto;
     }
-    let middle = section_end(0, b, order);
-    let trigger = section_rule(true, middle, b, order);
+    let middle = section_end(0, b, big);
+    let trigger = section_rule(true, middle, b, big);
     if trigger != 0 {
         return trigger;
     }
-    if room != section_end(middle, b, order) {
+    if room != section_end(middle, b, big) {
         return 6;
     }
     0
 }
 
 /// A GPS record's rule.
-pub fn gps_rule(b: &[u8], order: Order) -> u32
-    ensures { λ r. ⌜ r ≡ gpsRule order (now (b .entry)) ⌝ }
+pub fn gps_rule(b: &[u8], big: bool) -> u32
+    ensures { λ r. ⌜ r ≡ gpsRule (orderFrom big) (now (b .entry)) ⌝ }
 {
     if b.len() != 12 {
         return 6;
     }
-    let date = word_at(b, 0, order);
-    let clock = word_at(b, 4, order);
-    let tenths = word_at(b, 8, order);
+    let date = word_at(b, 0, big);
+    let clock = word_at(b, 4, big);
+    let tenths = word_at(b, 8, big);
     let digits = gps_digits_fault(date, clock, tenths);
     let fault = gps_fault(
         decimal(4, date >> 16),
@@ -254,51 +255,51 @@ pub fn gps_rule(b: &[u8], order: Order) -> u32
 }
 
 /// A trigger record's rule.
-pub fn trigger_rule(b: &[u8], order: Order) -> u32
-    ensures { λ r. ⌜ r ≡ triggerRule order (now (b .entry)) ⌝ }
+pub fn trigger_rule(b: &[u8], big: bool) -> u32
+    ensures { λ r. ⌜ r ≡ triggerRule (orderFrom big) (now (b .entry)) ⌝ }
 {
     if b.len() != 28 {
         return 6;
     }
-    if word_at(b, 0, order) != 0 {
+    if word_at(b, 0, big) != 0 {
         return 10;
     }
     0
 }
 
 /// A TLB mask's rule.
-pub fn tlb_rule(b: &[u8], order: Order) -> u32
-    ensures { λ r. ⌜ r ≡ tlbRule order (now (b .entry)) ⌝ }
+pub fn tlb_rule(b: &[u8], big: bool) -> u32
+    ensures { λ r. ⌜ r ≡ tlbRule (orderFrom big) (now (b .entry)) ⌝ }
 {
     if b.len() != 24 {
         return 6;
     }
     tlb_fault(
-        word_at(b, 0, order),
-        word_at(b, 4, order),
-        word_at(b, 8, order),
-        word_at(b, 12, order),
-        word_at(b, 16, order),
-        word_at(b, 20, order),
+        word_at(b, 0, big),
+        word_at(b, 4, big),
+        word_at(b, 8, big),
+        word_at(b, 12, big),
+        word_at(b, 16, big),
+        word_at(b, 20, big),
     )
 }
 
 /// The rule of a kind word's kind; 5 for a word that names none. Most records are traces.
-pub fn rule(kind: u32, b: &[u8], order: Order) -> u32
+pub fn rule(kind: u32, b: &[u8], big: bool) -> u32
     requires { ⌜ length (now b) < 0x100000000 ⌝ }
-    ensures { λ r. ⌜ r ≡ recordRule order kind (now (b .entry)) ⌝ }
+    ensures { λ r. ⌜ r ≡ recordRule (orderFrom big) kind (now (b .entry)) ⌝ }
 {
     if kind == TRACE {
-        return trace_rule(b, order);
+        return trace_rule(b, big);
     }
     match kind {
-        PHONON => phonon_rule(b, order),
-        CHARGE => charge_rule(b, order),
-        ADMINISTRATIVE => administrative_rule(b, order),
-        HISTORY => history_rule(b, order),
-        GPS => gps_rule(b, order),
-        TRIGGER => trigger_rule(b, order),
-        TLB => tlb_rule(b, order),
+        PHONON => phonon_rule(b, big),
+        CHARGE => charge_rule(b, big),
+        ADMINISTRATIVE => administrative_rule(b, big),
+        HISTORY => history_rule(b, big),
+        GPS => gps_rule(b, big),
+        TRIGGER => trigger_rule(b, big),
+        TLB => tlb_rule(b, big),
         _ => 5,
     }
 }

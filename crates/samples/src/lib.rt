@@ -2,21 +2,21 @@
 use answers::record_found;
 use note::SampleAnswer;
 use record::Step;
-use theory::Order;
 use words::word_at;
 ghost use mathlib.Core.Path.{_≡_};
 ghost use Prim.Native.Nat.{_+_, _-_, _*_, _/_, _≤_};
 ghost use lib.ListN.{length};
+ghost use Rattle.theory.specs.Words.{orderFrom};
 ghost use Rattle.note.specs.Answers.{givenSample};
 ghost use Rattle.note.specs.Trace.{sampleIn};
 ghost use Rattle.note.specs.Calls.{samplesPart, samplesAt, sampleAt};
 
 /// Samples: the part of the caller's own file that holds the samples of the trace at a place; empty where Record finds none.
-pub fn samples<'a>(file: &'a [u8], place: usize, order: Order) -> &'a [u8]
-    ensures bytes { λ r. ⌜ now r ≡ samplesAt order (now (file .entry)) place ⌝ }
-    ensures own { λ r. ⌜ r .ptr ≡ (file .entry .ptr .0, samplesPart order (now (file .entry)) place .0 + file .entry .ptr .1) ⌝ }
+pub fn samples<'a>(file: &'a [u8], place: usize, big: bool) -> &'a [u8]
+    ensures bytes { λ r. ⌜ now r ≡ samplesAt (orderFrom big) (now (file .entry)) place ⌝ }
+    ensures own { λ r. ⌜ r .ptr ≡ (file .entry .ptr .0, samplesPart (orderFrom big) (now (file .entry)) place .0 + file .entry .ptr .1) ⌝ }
 {
-    match record_found(file, place, order) {
+    match record_found(file, place, big) {
         Step::Good { kind, length } => {
             if kind == rules::TRACE {
                 return &file[place + 56..place + 8 + length];
@@ -31,11 +31,11 @@ pub fn samples<'a>(file: &'a [u8], place: usize, order: Order) -> &'a [u8]
 }
 
 // The sample with a number from 1 on, of samples that have its word: the lower half of a word is the earlier sample.
-fn sample_of(part: &[u8], number: usize, order: Order) -> u16
+fn sample_of(part: &[u8], number: usize, big: bool) -> u16
     requires { ⌜ (1 ≤ number) × (4 * ((number - 1) / 2) + 4 ≤ length (now part)) ⌝ }
-    ensures { λ r. ⌜ r ≡ sampleIn order (now (part .entry)) number ⌝ }
+    ensures { λ r. ⌜ r ≡ sampleIn (orderFrom big) (now (part .entry)) number ⌝ }
 {
-    let w = word_at(part, 4 * ((number - 1) / 2), order);
+    let w = word_at(part, 4 * ((number - 1) / 2), big);
     if number % 2 == 1 {
         return (w % 65536) as u16;
     }
@@ -44,10 +44,10 @@ fn sample_of(part: &[u8], number: usize, order: Order) -> u16
 
 /// Sample: the sample with a number, from 1 on, of the trace at a place; Record's refusals, then there 5 for another kind and 11 for a
 /// number out of range.
-pub fn sample(file: &[u8], place: usize, number: usize, order: Order) -> SampleAnswer
-    ensures { λ r. ⌜ givenSample r ≡ sampleAt order (now (file .entry)) place number ⌝ }
+pub fn sample(file: &[u8], place: usize, number: usize, big: bool) -> SampleAnswer
+    ensures { λ r. ⌜ givenSample r ≡ sampleAt (orderFrom big) (now (file .entry)) place number ⌝ }
 {
-    match record_found(file, place, order) {
+    match record_found(file, place, big) {
         Step::Good { kind, length } => {
             if kind != rules::TRACE {
                 return SampleAnswer::Refused { number: 5, place };
@@ -59,7 +59,7 @@ pub fn sample(file: &[u8], place: usize, number: usize, order: Order) -> SampleA
                 return SampleAnswer::Refused { number: 11, place };
             }
             SampleAnswer::Sample {
-                value: sample_of(&file[place + 56..place + 8 + length], number, order),
+                value: sample_of(&file[place + 56..place + 8 + length], number, big),
             }
         }
         Step::Bad {

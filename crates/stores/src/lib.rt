@@ -2,14 +2,13 @@
 // have them.
 use note::WriterAnswer;
 use record::FILE_LIMIT;
-use theory::Order;
 use words::join;
 ghost use mathlib.Core.Path.{_≡_};
 ghost use mathlib.Core.List.{[], _∷_};
 ghost use Prim.Native.Nat.{_+_, _*_, _≤_, _<_};
 ghost use lib.ListN.{length};
 ghost use lib.Seq.{sets};
-ghost use Rattle.theory.specs.Words.{num, bytes, ordered};
+ghost use Rattle.theory.specs.Words.{num, bytes, ordered, orderFrom};
 ghost use Rattle.theory.specs.Stores.{HasEach};
 ghost use Rattle.note.specs.Words.{words};
 ghost use Rattle.note.specs.Answers.{givenWriter};
@@ -57,26 +56,26 @@ fn put_each(part: &mut [u8], a: u8, b: u8, c: u8, d: u8)
 }
 
 // The number whose bytes, the lowest first, are those of w in a file of that order.
-fn turned(w: u32, order: Order) -> u32
-    ensures { λ r. ⌜ r ≡ num (ordered order (bytes 4 w)) ⌝ }
+fn turned(w: u32, big: bool) -> u32
+    ensures { λ r. ⌜ r ≡ num (ordered (orderFrom big) (bytes 4 w)) ⌝ }
 {
-    match order {
-        Order::Little => w,
-        Order::Big => join(
+    if big {
+        return join(
             (w / 16777216) as u8,
             (w / 65536 % 256) as u8,
             (w / 256 % 256) as u8,
             (w % 256) as u8,
-        ),
+        );
     }
+    w
 }
 
 // Stores a word from a place on.
-fn put_word(out: &mut [u8], at: usize, w: u32, order: Order)
+fn put_word(out: &mut [u8], at: usize, w: u32, big: bool)
     requires { ⌜ at + 4 ≤ length (now out) ⌝ }
-    ensures { λ _. ⌜ now (out .exit) ≡ sets (now (out .entry)) at (words order (w ∷ [])) ⌝ }
+    ensures { λ _. ⌜ now (out .exit) ≡ sets (now (out .entry)) at (words (orderFrom big) (w ∷ [])) ⌝ }
 {
-    let v = turned(w, order);
+    let v = turned(w, big);
     put_each(
         &mut out[at..at + 4],
         (v % 256) as u8,
@@ -87,13 +86,13 @@ fn put_word(out: &mut [u8], at: usize, w: u32, order: Order)
 }
 
 /// Stores words one after the other, from a place on.
-pub fn put_words(out: &mut [u8], at: usize, ws: &[u32], order: Order)
+pub fn put_words(out: &mut [u8], at: usize, ws: &[u32], big: bool)
     requires { ⌜ at + 4 * length (now ws) ≤ length (now out) ⌝ }
-    ensures { λ _. ⌜ now (out .exit) ≡ sets (now (out .entry)) at (words order (now (ws .entry))) ⌝ }
+    ensures { λ _. ⌜ now (out .exit) ≡ sets (now (out .entry)) at (words (orderFrom big) (now (ws .entry))) ⌝ }
 {
     let mut i = 0;
     while i < ws.len() {
-        put_word(out, at + 4 * i, ws[i], order);
+        put_word(out, at + 4 * i, ws[i], big);
         i += 1;
     }
 }
@@ -151,13 +150,13 @@ pub fn put_part(out: &mut [u8], at: usize, part: &[u8])
 // ---- structures
 
 // Stores a structure from the part's first byte on: its kind word, its length word, its body's words, and the bytes behind them.
-fn put_structure(part: &mut [u8], kind: u32, ws: &[u32], bytes: &[u8], order: Order)
+fn put_structure(part: &mut [u8], kind: u32, ws: &[u32], bytes: &[u8], big: bool)
     requires { ⌜ (8 + (4 * length (now ws) + length (now bytes)) ≤ length (now part)) × (length (now part) ≤ 0xFFFFFFFF) ⌝ }
-    ensures { λ _. ⌜ now (part .exit) ≡ sets (now (part .entry)) 0 (structured order kind (now (ws .entry)) (now (bytes .entry))) ⌝ }
+    ensures { λ _. ⌜ now (part .exit) ≡ sets (now (part .entry)) 0 (structured (orderFrom big) kind (now (ws .entry)) (now (bytes .entry))) ⌝ }
 {
     let words = 4 * ws.len();
-    put_words(part, 0, &[kind, (words + bytes.len()) as u32], order);
-    put_words(part, 8, ws, order);
+    put_words(part, 0, &[kind, (words + bytes.len()) as u32], big);
+    put_words(part, 8, ws, big);
     put_part(part, 8 + words, bytes);
 }
 
@@ -169,15 +168,16 @@ pub fn write_structure(
     kind: u32,
     ws: &[u32],
     bytes: &[u8],
-    order: Order,
+    big: bool,
 ) -> WriterAnswer
     requires { ⌜ length (now ws) ≤ 12 ⌝ }
-    ensures { λ r. ⌜ Wrote (now (out .entry)) place (structureWritten order fault kind (now (ws .entry)) (now (bytes .entry))) r (now (out .exit)) ⌝ }
+    ensures { λ r. ⌜ Wrote (now (out .entry)) place (structureWritten (orderFrom big) fault kind (now (ws .entry)) (now (bytes .entry)))
+        r (now (out .exit)) ⌝ }
 {
     match admitted(out.len(), place, fault, 8 + (4 * ws.len() + bytes.len())) {
         WriterAnswer::Refused { number, place } => WriterAnswer::Refused { number, place },
         WriterAnswer::Next { place: next } => {
-            put_structure(&mut out[place..], kind, ws, bytes, order);
+            put_structure(&mut out[place..], kind, ws, bytes, big);
             WriterAnswer::Next { place: next }
         }
     }

@@ -6,11 +6,11 @@ use rows::ROW_WIDTH;
 use rows::Row;
 use rows::put_row;
 use rows::values_in;
-use theory::Order;
-use words::order_of;
+use words::is_big;
 use words::word_at;
 ghost use mathlib.Core.Path.{_≡_};
 ghost use lib.ListN.{length};
+ghost use Rattle.theory.specs.Words.{orderFrom};
 ghost use Rattle.note.specs.Rows.{tableAnswer, tableBuffer};
 ghost use Rattle.table.specs.Filling.{Fillable, FillableEvents, FillableFile, Filled, FilledEvents, FilledFile};
 
@@ -22,17 +22,17 @@ fn fill_records(
     rows: &mut [u32],
     first: usize,
     parent: u32,
-    order: Order,
+    big: bool,
 ) -> usize
-    requires { ⌜ Fillable order from (now part) (length (now rows)) first ⌝ }
-    ensures { λ r. ⌜ Filled order from (now (part .entry)) (now (rows .entry)) first parent (now (rows .exit)) r ⌝ }
+    requires { ⌜ Fillable (orderFrom big) from (now part) (length (now rows)) first ⌝ }
+    ensures { λ r. ⌜ Filled (orderFrom big) from (now (part .entry)) (now (rows .entry)) first parent (now (rows .exit)) r ⌝ }
 {
     let mut rest = part;
     let mut at = from;
     let mut n = first;
     while 0 < rest.len() {
-        let size = 8 + word_at(rest, 4, order) as usize;
-        let v = values_in(word_at(rest, 0, order), &rest[8..size], order);
+        let size = 8 + word_at(rest, 4, big) as usize;
+        let v = values_in(word_at(rest, 0, big), &rest[8..size], big);
         put_row(
             rows,
             n,
@@ -54,16 +54,16 @@ fn fill_records(
 
 // Stores the rows of the events that fill a part, from the row with the index `first` on: an event's own after its records', whose
 // count is known then.
-fn fill_events(part: &[u8], from: usize, rows: &mut [u32], first: usize, order: Order)
-    requires { ⌜ FillableEvents order from (now part) (length (now rows)) first ⌝ }
-    ensures { λ _. ⌜ FilledEvents order from (now (part .entry)) (now (rows .entry)) first (now (rows .exit)) ⌝ }
+fn fill_events(part: &[u8], from: usize, rows: &mut [u32], first: usize, big: bool)
+    requires { ⌜ FillableEvents (orderFrom big) from (now part) (length (now rows)) first ⌝ }
+    ensures { λ _. ⌜ FilledEvents (orderFrom big) from (now (part .entry)) (now (rows .entry)) first (now (rows .exit)) ⌝ }
 {
     let mut rest = part;
     let mut at = from;
     let mut n = first;
     while 0 < rest.len() {
-        let size = 8 + word_at(rest, 4, order) as usize;
-        let next = fill_records(&rest[8..size], at + 8, rows, n + 1, (n + 1) as u32, order);
+        let size = 8 + word_at(rest, 4, big) as usize;
+        let next = fill_records(&rest[8..size], at + 8, rows, n + 1, (n + 1) as u32, big);
         put_row(
             rows,
             n,
@@ -72,7 +72,7 @@ fn fill_events(part: &[u8], from: usize, rows: &mut [u32], first: usize, order: 
                 start: at as u32,
                 whole: size as u32,
                 parent: 0,
-                one: word_at(rest, 0, order) % 65536,
+                one: word_at(rest, 0, big) % 65536,
                 two: (next - n - 1) as u32,
             },
         );
@@ -83,11 +83,11 @@ fn fill_events(part: &[u8], from: usize, rows: &mut [u32], first: usize, order: 
 }
 
 // Stores the rows of an accepted file.
-fn fill(file: &[u8], rows: &mut [u32], order: Order)
-    requires { ⌜ FillableFile order (now file) (length (now rows)) ⌝ }
+fn fill(file: &[u8], rows: &mut [u32], big: bool)
+    requires { ⌜ FillableFile (orderFrom big) (now file) (length (now rows)) ⌝ }
     ensures { λ _. ⌜ FilledFile (now (file .entry)) (now (rows .entry)) (now (rows .exit)) ⌝ }
 {
-    let size = 8 + word_at(file, 12, order) as usize;
+    let size = 8 + word_at(file, 12, big) as usize;
     let end = 8 + size;
     put_row(
         rows,
@@ -97,11 +97,11 @@ fn fill(file: &[u8], rows: &mut [u32], order: Order)
             start: 0,
             whole: 8,
             parent: 0,
-            one: word_at(file, 4, order),
+            one: word_at(file, 4, big),
             two: 0,
         },
     );
-    let next = fill_records(&file[16..end], 16, rows, 2, 2, order);
+    let next = fill_records(&file[16..end], 16, rows, 2, 2, big);
     put_row(
         rows,
         1,
@@ -114,7 +114,7 @@ fn fill(file: &[u8], rows: &mut [u32], order: Order)
             two: 0,
         },
     );
-    fill_events(&file[end..], end, rows, next, order);
+    fill_events(&file[end..], end, rows, next, big);
 }
 
 /// Table: checks a file and fills its rows, six numbers each, in the lent buffer; answers number, count of rows, place. A refusal
@@ -137,7 +137,7 @@ pub fn table(file: &[u8], rows: &mut [u32]) -> TableAnswer
                     place: file.len(),
                 };
             }
-            fill(file, rows, order_of(file));
+            fill(file, rows, is_big(file));
             TableAnswer {
                 number: 0,
                 count,

@@ -22,12 +22,12 @@ use stores::admitted;
 use stores::put_part;
 use stores::put_words;
 use stores::write_structure;
-use theory::Order;
 ghost use mathlib.Core.Path.{_≡_};
 ghost use mathlib.Core.List.{[], map};
 ghost use Prim.Native.Nat.{_+_, _*_, _%_, _^_, _≤_, _<_};
 ghost use lib.ListN.{length};
 ghost use lib.Seq.{sets};
+ghost use Rattle.theory.specs.Words.{orderFrom};
 ghost use Rattle.note.specs.Words.{unsigned};
 ghost use Rattle.note.specs.Gps.{bcd};
 ghost use Rattle.note.specs.History.{sectionBytes};
@@ -56,15 +56,15 @@ fn write_entry(
     fault: u32,
     kind: u32,
     fields: &[i32],
-    order: Order,
+    big: bool,
 ) -> WriterAnswer
     requires { ⌜ length (now fields) ≤ 11 ⌝ }
-    ensures { λ r. ⌜ Wrote (now (out .entry)) place (structureWritten order fault kind (map unsigned (now (fields .entry))) [])
+    ensures { λ r. ⌜ Wrote (now (out .entry)) place (structureWritten (orderFrom big) fault kind (map unsigned (now (fields .entry))) [])
         r (now (out .exit)) ⌝ }
 {
     let mut ws = [0u32; 11];
     put_signed(&mut ws, fields);
-    write_structure(out, place, fault, kind, &ws[..fields.len()], &[], order)
+    write_structure(out, place, fault, kind, &ws[..fields.len()], &[], big)
 }
 
 /// Writes a phonon entry: detector code, tower, gain x100, QET bias x100, SQUID bias x100, lockpoint x100, RTF offset, variable gain,
@@ -83,9 +83,9 @@ pub fn write_phonon(
     delta_t: i32,
     t0: i32,
     trace_length: i32,
-    order: Order,
+    big: bool,
 ) -> WriterAnswer
-    ensures { λ r. ⌜ Wrote (now (out .entry)) place (phononWritten order (record {
+    ensures { λ r. ⌜ Wrote (now (out .entry)) place (phononWritten (orderFrom big) (record {
       code = code;
       tower = tower;
       gain = gain;
@@ -117,7 +117,7 @@ pub fn write_phonon(
             t0,
             trace_length,
         ],
-        order,
+        big,
     )
 }
 
@@ -133,9 +133,9 @@ pub fn write_charge(
     delta_t: i32,
     t0: i32,
     trace_length: i32,
-    order: Order,
+    big: bool,
 ) -> WriterAnswer
-    ensures { λ r. ⌜ Wrote (now (out .entry)) place (chargeWritten order (record {
+    ensures { λ r. ⌜ Wrote (now (out .entry)) place (chargeWritten (orderFrom big) (record {
       code = code;
       tower = tower;
       gain = gain;
@@ -161,7 +161,7 @@ pub fn write_charge(
             t0,
             trace_length,
         ],
-        order,
+        big,
     )
 }
 
@@ -177,9 +177,9 @@ pub fn write_administrative(
     time: u32,
     since: u32,
     live: u32,
-    order: Order,
+    big: bool,
 ) -> WriterAnswer
-    ensures { λ r. ⌜ Wrote (now (out .entry)) place (administrativeWritten order (record {
+    ensures { λ r. ⌜ Wrote (now (out .entry)) place (administrativeWritten (orderFrom big) (record {
       date = date;
       clock = clock;
       number = number;
@@ -195,7 +195,7 @@ pub fn write_administrative(
         ADMINISTRATIVE,
         &[date, clock, number, time, since, live],
         &[],
-        order,
+        big,
     )
 }
 
@@ -212,9 +212,9 @@ pub fn write_trace(
     delta_t: u32,
     n: u32,
     samples: &[u8],
-    order: Order,
+    big: bool,
 ) -> WriterAnswer
-    ensures { λ r. ⌜ Wrote (now (out .entry)) place (traceWritten order (record {
+    ensures { λ r. ⌜ Wrote (now (out .entry)) place (traceWritten (orderFrom big) (record {
       address = address;
       channel = channel;
       code = code;
@@ -245,7 +245,7 @@ pub fn write_trace(
             n,
         ],
         samples,
-        order,
+        big,
     )
 }
 
@@ -270,10 +270,10 @@ fn put_section(
     times: &[u8],
     width: u32,
     masks: &[u8],
-    order: Order,
+    big: bool,
 )
     requires { ⌜ at + (8 + (length (now times) + length (now masks))) ≤ length (now part) ⌝ }
-    ensures { λ _. ⌜ now (part .exit) ≡ sets (now (part .entry)) at (sectionBytes order (record {
+    ensures { λ _. ⌜ now (part .exit) ≡ sets (now (part .entry)) at (sectionBytes (orderFrom big) (record {
       count = count;
       times = now (times .entry);
       width = width;
@@ -281,9 +281,9 @@ fn put_section(
     })) ⌝ }
 {
     let middle = at + 4 + times.len();
-    put_words(part, at, &[count], order);
+    put_words(part, at, &[count], big);
     put_part(part, at + 4, times);
-    put_words(part, middle, &[width], order);
+    put_words(part, middle, &[width], big);
     put_part(part, middle + 4, masks);
 }
 
@@ -298,12 +298,12 @@ fn put_history(
     trigger_times: &[u8],
     trigger_width: u32,
     trigger_masks: &[u8],
-    order: Order,
+    big: bool,
 )
     requires { ⌜ (24 + ((length (now «veto_times») + length (now «veto_masks»))
         + (length (now «trigger_times») + length (now «trigger_masks»))) ≤ length (now part))
         × (length (now part) ≤ 0xFFFFFFFF) ⌝ }
-    ensures { λ _. ⌜ now (part .exit) ≡ sets (now (part .entry)) 0 (historyWritten order (record {
+    ensures { λ _. ⌜ now (part .exit) ≡ sets (now (part .entry)) 0 (historyWritten (orderFrom big) (record {
       veto = record {
         count = «veto_count»;
         times = now («veto_times» .entry);
@@ -320,16 +320,8 @@ fn put_history(
 {
     let veto = 8 + (veto_times.len() + veto_masks.len());
     let trigger = 8 + (trigger_times.len() + trigger_masks.len());
-    put_words(part, 0, &[HISTORY, (veto + trigger) as u32], order);
-    put_section(
-        part,
-        8,
-        veto_count,
-        veto_times,
-        veto_width,
-        veto_masks,
-        order,
-    );
+    put_words(part, 0, &[HISTORY, (veto + trigger) as u32], big);
+    put_section(part, 8, veto_count, veto_times, veto_width, veto_masks, big);
     put_section(
         part,
         8 + veto,
@@ -337,7 +329,7 @@ fn put_history(
         trigger_times,
         trigger_width,
         trigger_masks,
-        order,
+        big,
     );
 }
 
@@ -353,9 +345,9 @@ pub fn write_history(
     trigger_times: &[u8],
     trigger_width: u32,
     trigger_masks: &[u8],
-    order: Order,
+    big: bool,
 ) -> WriterAnswer
-    ensures { λ r. ⌜ Wrote (now (out .entry)) place (historyWritten order (record {
+    ensures { λ r. ⌜ Wrote (now (out .entry)) place (historyWritten (orderFrom big) (record {
       veto = record {
         count = «veto_count»;
         times = now («veto_times» .entry);
@@ -400,7 +392,7 @@ pub fn write_history(
                 trigger_times,
                 trigger_width,
                 trigger_masks,
-                order,
+                big,
             );
             WriterAnswer::Next { place: next }
         }
@@ -438,9 +430,9 @@ pub fn write_gps(
     minute: u32,
     second: u32,
     tenths: u32,
-    order: Order,
+    big: bool,
 ) -> WriterAnswer
-    ensures { λ r. ⌜ Wrote (now (out .entry)) place (gpsWritten order (record {
+    ensures { λ r. ⌜ Wrote (now (out .entry)) place (gpsWritten (orderFrom big) (record {
       year = year;
       day = day;
       status = status;
@@ -463,7 +455,7 @@ pub fn write_gps(
             digits(8, tenths),
         ],
         &[],
-        order,
+        big,
     )
 }
 
@@ -479,9 +471,9 @@ pub fn write_trigger(
     mask4: u32,
     mask5: u32,
     mask6: u32,
-    order: Order,
+    big: bool,
 ) -> WriterAnswer
-    ensures { λ r. ⌜ Wrote (now (out .entry)) place (triggerWritten order (record {
+    ensures { λ r. ⌜ Wrote (now (out .entry)) place (triggerWritten (orderFrom big) (record {
       mask1 = mask1;
       mask2 = mask2;
       mask3 = mask3;
@@ -497,7 +489,7 @@ pub fn write_trigger(
         TRIGGER,
         &[0, mask1, mask2, mask3, mask4, mask5, mask6],
         &[],
-        order,
+        big,
     )
 }
 
@@ -511,9 +503,9 @@ pub fn write_tlb(
     tower4: u32,
     tower5: u32,
     tower6: u32,
-    order: Order,
+    big: bool,
 ) -> WriterAnswer
-    ensures { λ r. ⌜ Wrote (now (out .entry)) place (tlbWritten order (record {
+    ensures { λ r. ⌜ Wrote (now (out .entry)) place (tlbWritten (orderFrom big) (record {
       tower1 = tower1;
       tower2 = tower2;
       tower3 = tower3;
@@ -529,6 +521,6 @@ pub fn write_tlb(
         TLB,
         &[tower1, tower2, tower3, tower4, tower5, tower6],
         &[],
-        order,
+        big,
     )
 }

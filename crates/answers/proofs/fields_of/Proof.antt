@@ -4,6 +4,7 @@ use Prim.Native.Nat.{_≤_}
 use mathlib.Core.Path.{sym, ap, _∙_}
 use native.Mathlib.Omega.{arith}
 use lib.ListN.{length}
+use Rattle.theory.specs.Words.{orderFrom}
 use Rattle.note.specs.Kinds.{Kind}
 use Rattle.note.specs.Records.{kindOf}
 use Rattle.rules.proofs.KindLaws.{no-arm}
@@ -76,7 +77,7 @@ returns-8 c = rw (c .before .match .keys8) (c .tlb-of .ensures)
 returns-9 : tie.Need-returns-9
 returns-9 c =
     let five =
-    sym (ap (λ (k : Kind). k .rule (c .before .before .args .order) (now (c .before .before .args .b))) (no-arm (c .match .rest)))
+    sym (ap (λ (k : Kind). k .rule (orderFrom (c .before .before .args .big)) (now (c .before .before .args .b))) (no-arm (c .match .rest)))
     ∙ c .before .before .pre .0 in
     absurd (omega arith)
 

@@ -3,6 +3,7 @@ use mathlib.Core.Path.{ap, _∙_}
 use Prim.Native.Nat.{ℕ}
 use denote.Ref.{now}
 use lib.Seq.{sets}
+use Rattle.theory.specs.Words.{orderFrom}
 use Rattle.note.specs.Writers.{closingBytes}
 use Rattle.closings.proofs.CloseLaws.{word-whole}
 use borrow.Author.Needs.{needs}
@@ -27,7 +28,7 @@ returns c =
     let s = c .before .before .before .before .before .before in
     let a = s .args in
     c .before .before .put-head .ensures
-    ∙ ap (λ (w : ℕ). sets (now (a .out)) (a .place) (closingBytes (a .order) w (a .place) (a .end)))
+    ∙ ap (λ (w : ℕ). sets (now (a .out)) (a .place) (closingBytes (orderFrom (a .big)) w (a .place) (a .end)))
     (c .before .before .before .event-word .ensures ∙ word-whole (a .class) (a .category) (a .kind) (s .pre .1))
 
 pub begin-event-spec : {M : Type 1} → statement M

@@ -4,6 +4,7 @@ use Prim.Native.Nat.{_+_, _-_}
 use native.Mathlib.Omega.{arith}
 use denote.Ref.{now}
 use lib.ListN.{length, drop, length-take}
+use Rattle.theory.specs.Words.{orderFrom}
 use Rattle.demands.specs.Outputs.{HasRoom}
 use Rattle.record.specs.Steps.{contextOf}
 use Rattle.closings.proofs.CloseLaws.{Call, refuses, told, contents-refuse, shuts}
@@ -43,7 +44,7 @@ call s =
 
 -- Where the end was answered: there is room.
 room : (c : tie.After-next) → (let a = start (asked c) .args in HasRoom (length (now (a .out))) (a .place) (a .end))
-room c = told (start (asked c) .args .order) (call (start (asked c))) (asked c .bounded .ensures) (c .next .given .1) .room
+room c = told (orderFrom (start (asked c) .args .big)) (call (start (asked c))) (asked c .bounded .ensures) (c .next .given .1) .room
 
 bounded-requires : tie.Need-bounded-requires
 bounded-requires c κs = search needs

@@ -6,6 +6,7 @@ use Prim.Native.Nat.{ℕ, _+_, _-_}
 use native.Mathlib.Omega.{arith}
 use denote.Ref.{now}
 use lib.Seq.{sets}
+use Rattle.theory.specs.Words.{orderFrom}
 use Rattle.note.specs.Words.{words}
 use borrow.Author.Needs.{needs}
 use Rattle.closings.proofs.put_head.Statement.{statement}
@@ -36,7 +37,7 @@ returns : tie.Need-returns
 returns c =
     let a = c .before .before .before .before .before .before .args in
     let n : a .end - a .place - 8 ≡ a .end - (a .place + 8) = omega arith in
-    c .before .before .put-words .ensures ∙ ap (λ (m : ℕ). sets (now (a .out)) (a .place) (words (a .order) (a .word ∷ m ∷ []))) n
+    c .before .before .put-words .ensures ∙ ap (λ (m : ℕ). sets (now (a .out)) (a .place) (words (orderFrom (a .big)) (a .word ∷ m ∷ []))) n
 
 pub put-head-spec : {M : Type 1} → statement M
 put-head-spec =

@@ -7,6 +7,7 @@ use denote.Ref.{now}
 use lib.Seq.{sets}
 use native.Mathlib.Omega.{arith}
 use lib.ListN.{length}
+use Rattle.theory.specs.Words.{orderFrom}
 use Rattle.theory.proofs.WordLaws.{length-puts}
 use Rattle.note.specs.Words.{words}
 use Rattle.note.specs.Files.{fileMark, versionWord, headerBytes}
@@ -31,11 +32,11 @@ start c = c .before .before
 
 -- The header, written as a record without a fault.
 abbrev header : tie.Start → Written
-header s = record { fault = 0; bytes = headerBytes (s .args .order) (versionWord (s .args .major) (s .args .minor)) }
+header s = record { fault = 0; bytes = headerBytes (orderFrom (s .args .big)) (versionWord (s .args .major) (s .args .minor)) }
 
 eight : (s : tie.Start) → length (header s .bytes) ≡ 8
 eight s =
-    let o = s .args .order in
+    let o = orderFrom (s .args .big) in
     let v = versionWord (s .args .major) (s .args .minor) in
     ap length (header-bytes o v) ∙ length-puts o 4 (fileMark ∷ v ∷ [])
 
@@ -82,7 +83,7 @@ returns-2 c =
     let next = version .before .before .before in
     let s = start (asked next) in
     let out = now (s .args .out) in
-    let o = s .args .order in
+    let o = orderFrom (s .args .big) in
     let given =
     lays (admitted (asked next)) (next .place .given .1)
     (stored .put-words .ensures

@@ -5,6 +5,7 @@ use native.Mathlib.Omega.{arith}
 use denote.Ref.{now}
 use lib.ListN.{length}
 use borrow.Author.Needs.{needs}
+use Rattle.theory.specs.Words.{orderFrom}
 use Rattle.theory.specs.declared.Order.{Order}
 use Rattle.theory.proofs.WordLaws.{Bytes-from}
 use Rattle.note.specs.Events.{readEvent}
@@ -18,10 +19,10 @@ use Rattle.containers.proofs.events_in.Lts as lts
 use Rattle.containers.proofs.event_in.Reads as event-in-reads
 
 abbrev Inv-loop : tie.InvT-loop
-Inv-loop part from order rest₀ at₀ count₀ rest at count = Rows order from part at rest count
+Inv-loop part from big rest₀ at₀ count₀ rest at count = Rows (orderFrom big) from part at rest count
 
 abbrev μ-loop : tie.MeasureT-loop
-μ-loop part from order rest₀ at₀ count₀ rest at count = length rest
+μ-loop part from big rest₀ at₀ count₀ rest at count = length rest
 
 -- The turn of an event that was read: its length and how many records it has.
 abbrev turn : tie.After-length Inv-loop μ-loop → tie.In-loop Inv-loop μ-loop
@@ -34,7 +35,7 @@ abbrev records : tie.After-length Inv-loop μ-loop → ℕ
 records c = c .length .given .0 .1 .1 .0
 
 abbrev order : tie.After-length Inv-loop μ-loop → Order
-order c = turn c .before .before .before .args .order
+order c = orderFrom (turn c .before .before .before .args .big)
 
 read : (c : tie.After-length Inv-loop μ-loop)
     → Good (c .length .given .0 .0) (size c) (records c)

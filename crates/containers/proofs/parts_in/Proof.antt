@@ -4,6 +4,7 @@ use mathlib.Core.List.{List}
 use Prim.Native.Nat.{ℕ, _%_}
 use native.Mathlib.Omega.{arith}
 use denote.Ref.{now}
+use Rattle.theory.specs.Words.{orderFrom}
 use Rattle.theory.specs.declared.Order.{Order}
 use Rattle.theory.proofs.WordLaws.{Bytes-from}
 use Rattle.containers.specs.declared.Count.the-variants.{Good}
@@ -23,7 +24,7 @@ abbrev file : tie.Else1 → List ℕ
 file c = now (c .before .before .args .file)
 
 abbrev order : tie.Else1 → Order
-order c = c .before .before .args .order
+order c = orderFrom (c .before .before .args .big)
 
 abbrev roomy : tie.Else3 → tie.Else1
 roomy c = c .before .before .before .before

@@ -5,6 +5,7 @@ use native.Mathlib.Omega.{arith}
 use denote.Ref.{now}
 use lib.ListN.{length}
 use borrow.Author.Needs.{needs}
+use Rattle.theory.specs.Words.{orderFrom}
 use Rattle.record.specs.Steps.{contextOf}
 use Rattle.containers.proofs.RecordLoop as loop
 use Rattle.containers.proofs.RecordLoop.{Counting}
@@ -19,25 +20,25 @@ use Rattle.record.proofs.next_context.Reads as next-context-reads
 use Rattle.record.proofs.record_in.Reads as record-in-reads
 
 abbrev Inv-loop2 : tie.InvT-loop2
-Inv-loop2 part from context order rest₀ at₀ count₀ state₀ known more₀ rest at count state more =
-    Run order from part (contextOf state₀) at₀ rest₀ count₀ known (contextOf state) at rest count more
+Inv-loop2 part from context big rest₀ at₀ count₀ state₀ known more₀ rest at count state more =
+    Run (orderFrom big) from part (contextOf state₀) at₀ rest₀ count₀ known (contextOf state) at rest count more
 
 abbrev μ-loop2 : tie.MeasureT-loop2
-μ-loop2 part from context order rest₀ at₀ count₀ state₀ known more₀ rest at count state more = length rest
+μ-loop2 part from context big rest₀ at₀ count₀ state₀ known more₀ rest at count state more = length rest
 
 abbrev Inv-loop : tie.InvT-loop
-Inv-loop part from context order rest₀ at₀ count₀ state₀ rest at count state =
-    Counting order (contextOf state₀) from part (contextOf state) at rest count
+Inv-loop part from context big rest₀ at₀ count₀ state₀ rest at count state =
+    Counting (orderFrom big) (contextOf state₀) from part (contextOf state) at rest count
 
 abbrev μ-loop : tie.MeasureT-loop
-μ-loop part from context order rest₀ at₀ count₀ state₀ rest at count state = length rest
+μ-loop part from context big rest₀ at₀ count₀ state₀ rest at count state = length rest
 
 abbrev start : tie.At-loop2 Inv-loop2 μ-loop2 Inv-loop μ-loop → tie.Start Inv-loop2 μ-loop2 Inv-loop μ-loop
 start c = c .before .before .before .before .before
 
 -- What was counted so far, in a run.
 counted : (c : tie.At-loop2 Inv-loop2 μ-loop2 Inv-loop μ-loop)
-    → Counting (start c .args .order) (contextOf (start c .args .context)) (start c .args .from) (now (start c .args .part))
+    → Counting (orderFrom (start c .args .big)) (contextOf (start c .args .context)) (start c .args .from) (now (start c .args .part))
     (contextOf (c .loop2 .state)) (c .loop2 .at) (now (c .loop2 .rest)) (c .loop2 .count)
 counted c = c .loop2 .inv .counts _ (c .before .before .before .loop .inv)
 
@@ -51,7 +52,7 @@ fit : (c : tie.After-kind Inv-loop2 μ-loop2 Inv-loop μ-loop)
 fit c = fits (turn c .before .loop2 .inv) (turn c .loop2-test .taken) _ _ (sym (c .kind .given .1) ∙ c .before .before .record-in .ensures)
 
 loop-holds : tie.Need-loop-holds Inv-loop2 μ-loop2 Inv-loop μ-loop
-loop-holds c = let a = c .before .args in loop.begin (a .order) (contextOf (a .context)) (a .from) (now (a .part))
+loop-holds c = let a = c .before .args in loop.begin (orderFrom (a .big)) (contextOf (a .context)) (a .from) (now (a .part))
 
 length-at-requires : tie.Need-length-at-requires Inv-loop2 μ-loop2 Inv-loop μ-loop
 length-at-requires c κs = search needs

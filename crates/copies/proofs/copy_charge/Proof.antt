@@ -1,6 +1,7 @@
 -- `copies::copy_charge` meets its contract: the fields handed on are the body's.
 -- The idea: each is read at its place, and the law of copies says the rest.
 use denote.Ref.{now}
+use Rattle.theory.specs.Words.{orderFrom}
 use Rattle.note.specs.Words.{word}
 use Rattle.note.specs.Charge.{chargeKind, chargeOf}
 use Rattle.note.specs.Writers.{chargeWritten}
@@ -58,7 +59,7 @@ returns c =
     let code = tower .before in
     let s = code .before .before .before .before in
     let b = now (s .args .body) in
-    let o = s .args .order in
+    let o = orderFrom (s .args .big) in
     copied o chargeKind (chargeWritten o) (chargeOf o) (charge-again o) _ (s .pre .1) (λ i. record {
       code = handed (word o 0 b) (code .signed-at .ensures) i;
       tower = handed (word o 4 b) (tower .signed-at2 .ensures) i;

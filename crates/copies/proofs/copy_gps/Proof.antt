@@ -2,6 +2,7 @@
 -- The idea: each is a part of a word that was read, and the law of copies says the rest.
 use Prim.Native.Nat.{ℕ, _/_}
 use mathlib.Core.Path.{ap, _∙_}
+use Rattle.theory.specs.Words.{orderFrom}
 use Rattle.note.specs.Gps.{decimal, gpsKind, gpsOf}
 use Rattle.note.specs.Writers.{gpsWritten}
 use Rattle.demands.proofs.AgainLaws.{gps-again}
@@ -62,7 +63,7 @@ returns c =
     let clock = clock-read .word-at2 .ensures in
     let date = clock-read .before .word-at .ensures in
     let s = clock-read .before .before .before .before in
-    let o = s .args .order in
+    let o = orderFrom (s .args .big) in
     copied o gpsKind (gpsWritten o) (gpsOf o) (gps-again o) _ (s .pre .1) (λ i. record {
       year = (year .decimal .ensures ∙ ap (λ (w : ℕ). decimal 4 (w / 65536)) date) i;
       day = (day .decimal2 .ensures ∙ ap (λ (w : ℕ). decimal 4 w) date) i;

@@ -5,6 +5,7 @@ use mathlib.Core.Path.{ap, _∙_}
 use native.Mathlib.Omega.{arith}
 use denote.Ref.{now}
 use lib.ListN.{length}
+use Rattle.theory.specs.Words.{orderFrom}
 use Rattle.note.specs.History.{historyKind, historyOf, sectionOf}
 use Rattle.note.specs.Writers.{historyWritten}
 use Rattle.demands.proofs.AgainLaws.{history-again}
@@ -31,7 +32,7 @@ start c = c .before .before .before .before .before
 
 -- Where the three places are known: what they are, and that they lie in order.
 cuts : (c : tie.After-width-at2)
-    → Cuts (start c .args .order) (now (start c .args .body))
+    → Cuts (orderFrom (start c .args .big)) (now (start c .args .body))
     (c .before .before .width-at .result) (c .before .section-end .result) (c .width-at2 .result)
 cuts c = record { veto-is = c .before .before .width-at .ensures; middle-is = c .before .section-end .ensures; trigger-is = c .width-at2 .ensures }
 
@@ -128,7 +129,7 @@ returns c =
     let placed-at = known (trigger-count .before) in
     let k = cuts placed-at in
     let b = now (start placed-at .args .body) in
-    let o = start placed-at .args .order in
+    let o = orderFrom (start placed-at .args .big) in
     let pre = start placed-at .pre .1 in
     copied o historyKind (historyWritten o) (historyOf o) (history-again o) _ pre (λ i. record {
       veto = section-cut _ b 0 _ _ _ _ (k .veto-is) (k .middle-is) (veto-count .word-at .ensures) (veto-width .word-at2 .ensures) i;

@@ -1,6 +1,7 @@
 -- `copies::copy_phonon` meets its contract: the fields handed on are the body's.
 -- The idea: each is read at its place, and the law of copies says the rest.
 use denote.Ref.{now}
+use Rattle.theory.specs.Words.{orderFrom}
 use Rattle.note.specs.Words.{word}
 use Rattle.note.specs.Phonon.{phononKind, phononOf}
 use Rattle.note.specs.Writers.{phononWritten}
@@ -70,7 +71,7 @@ returns c =
     let code = tower .before in
     let s = code .before .before .before .before in
     let b = now (s .args .body) in
-    let o = s .args .order in
+    let o = orderFrom (s .args .big) in
     copied o phononKind (phononWritten o) (phononOf o) (phonon-again o) _ (s .pre .1) (λ i. record {
       code = handed (word o 0 b) (code .signed-at .ensures) i;
       tower = handed (word o 4 b) (tower .signed-at2 .ensures) i;

@@ -5,6 +5,7 @@ use mathlib.Core.Path.{_≡_}
 use mathlib.Core.List.{List}
 use denote.Ref.{now}
 use lib.ListN.{length}
+use Rattle.theory.specs.Words.{orderFrom}
 use Rattle.note.specs.Records.{kindOf}
 use Rattle.rules.proofs.KindLaws.{no-arm}
 use Rattle.rules.proofs.LengthLaws.{least}
@@ -31,14 +32,14 @@ start c = c .before .before
 -- In the arm of a kind word: what is asked of the record is asked of that word's kind.
 own-kind : (c : tie.After-slice-known) {w : ℕ} → start c .args .kind ≡ w
     → (let a = start c .args in
-    (least w ≤ length (now (a .body))) × Copyable (a .order) (kindOf w) (now (a .body)) (length (now (a .out))) (a .place))
+    (least w ≤ length (now (a .body))) × Copyable (orderFrom (a .big)) (kindOf w) (now (a .body)) (length (now (a .out))) (a .place))
 own-kind c e = asked _ e _ _ _ (start c .pre)
 
 -- And what a copy of that kind leaves is what a copy of the record leaves.
 any-kind : (c : tie.After-slice-known) {w : ℕ} → start c .args .kind ≡ w → {new : List ℕ}
     → (let a = start c .args in
-    Copied (a .order) (kindOf w) (now (a .body)) (now (a .out)) (a .place) new
-    → Copied (a .order) (kindOf (a .kind)) (now (a .body)) (now (a .out)) (a .place) new)
+    Copied (orderFrom (a .big)) (kindOf w) (now (a .body)) (now (a .out)) (a .place) new
+    → Copied (orderFrom (a .big)) (kindOf (a .kind)) (now (a .body)) (now (a .out)) (a .place) new)
 any-kind c e = left _ e (now (start c .args .body)) _ _ _
 
 copy-phonon-requires : tie.Need-copy-phonon-requires

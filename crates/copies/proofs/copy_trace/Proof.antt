@@ -2,6 +2,7 @@
 -- The idea: each is read at its place, and the law of copies says the rest.
 use mathlib.Core.Path.{sym}
 use denote.Ref.{now}
+use Rattle.theory.specs.Words.{orderFrom}
 use Rattle.containers.proofs.RecordLoop.{left}
 use Rattle.note.specs.Words.{word}
 use Rattle.note.specs.Trace.{traceKind, traceOf}
@@ -62,7 +63,7 @@ returns c =
     let address = channel .before in
     let s = address .before .before .before .before in
     let b = now (s .args .body) in
-    let o = s .args .order in
+    let o = orderFrom (s .args .big) in
     copied o traceKind (traceWritten o) (traceOf o) (trace-again o) _ (s .pre .1) (λ i. record {
       address = address .word-at .ensures i;
       channel = channel .word-at2 .ensures i;

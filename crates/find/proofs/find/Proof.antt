@@ -5,6 +5,7 @@ use mathlib.Core.List.{List}
 use Prim.Native.Nat.{ℕ}
 use native.Mathlib.Omega.{arith}
 use denote.Ref.{now}
+use Rattle.theory.specs.Words.{orderFrom}
 use Rattle.theory.proofs.WordLaws.{Bytes-from}
 use Rattle.note.specs.Answers.{givenFind}
 use Rattle.containers.proofs.FileParts.{Checked, checked, CheckedIn, checked-in}
@@ -16,7 +17,7 @@ use Rattle.find.proofs.find.Reads as reads
 use Rattle.find.proofs.find.Lts as lts
 use Rattle.containers.proofs.check.Reads as check-reads
 use Rattle.find.proofs.search.Reads as search-reads
-use Rattle.words.proofs.order_of.Reads as order-of-reads
+use Rattle.words.proofs.is_big.Reads as is-big-reads
 use Rattle.words.proofs.word_at.Reads as word-at-reads
 
 -- Where check accepted the file.
@@ -40,12 +41,12 @@ enum-known-fault c = search needs
 enum-told : tie.Need-enum-told
 enum-told c = search needs
 
-order-of-requires : tie.Need-order-of-requires
-order-of-requires c κs = search needs
+is-big-requires : tie.Need-is-big-requires
+is-big-requires c κs = search needs
 
 -- Where its order was asked.
-ordered : (c : tie.After-order-of) → CheckedIn (c .order-of .result) (file (c .before))
-ordered c = checked-in (accepted (c .before)) (c .order-of .ensures)
+ordered : (c : tie.After-is-big) → CheckedIn (orderFrom (c .is-big .result)) (file (c .before))
+ordered c = checked-in (accepted (c .before)) (c .is-big .ensures)
 
 word-at-requires : tie.Need-word-at-requires
 word-at-requires c κs = word-fits (ordered c)
@@ -88,7 +89,7 @@ find-spec =
     check-requires
     enum-known-fault
     enum-told
-    order-of-requires
+    is-big-requires
     word-at-requires
     cast-from
     add-from

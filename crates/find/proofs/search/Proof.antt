@@ -8,6 +8,7 @@ use native.Mathlib.Omega.{arith}
 use denote.Ref.{now}
 use lib.ListN.{length}
 use borrow.Author.Needs.{needs}
+use Rattle.theory.specs.Words.{orderFrom}
 use Rattle.theory.specs.declared.Order.{Order}
 use Rattle.theory.proofs.WordLaws.{Bytes-from}
 use Rattle.note.specs.declared.FindAnswer.the-variants.{Nothing}
@@ -28,18 +29,19 @@ abbrev sought : Order → ℕ → ℕ → ℕ → List ℕ → List ℕ
 sought o number code from part = firstMatch number code (tracesRead o from (readEvents o tt from part))
 
 abbrev Inv-loop : tie.InvT-loop
-Inv-loop part from number code order found₀ rest at size records₀ place₀ found records place =
-    (found ≡ Nothing) × Looking order number code (sought order number code from part) (at + size) (laterTraces order size at rest) place records
+Inv-loop part from number code big found₀ rest at size records₀ place₀ found records place =
+    (let o = orderFrom big in
+    (found ≡ Nothing) × Looking o number code (sought o number code from part) (at + size) (laterTraces o size at rest) place records)
 
 abbrev μ-loop : tie.MeasureT-loop
-μ-loop part from number code order found₀ rest at size records₀ place₀ found records place = length records
+μ-loop part from number code big found₀ rest at size records₀ place₀ found records place = length records
 
 abbrev Inv-events : tie.InvT-events
-Inv-events part from number code order found₀ rest₀ at₀ found rest at =
-    (found ≡ Nothing) × Searching order number code (sought order number code from part) at rest
+Inv-events part from number code big found₀ rest₀ at₀ found rest at =
+    (found ≡ Nothing) × Searching (orderFrom big) number code (sought (orderFrom big) number code from part) at rest
 
 abbrev μ-events : tie.MeasureT-events
-μ-events part from number code order found₀ rest₀ at₀ found rest at = length rest
+μ-events part from number code big found₀ rest₀ at₀ found rest at = length rest
 
 -- The event that stands next, where its length word was read: it stays in the rest.
 event-stays : (c : tie.After-word-at Inv-loop μ-loop Inv-events μ-events)

@@ -5,6 +5,7 @@ use mathlib.Core.List.{List}
 use Prim.Native.Nat.{ℕ}
 use denote.Ref.{now}
 use borrow.Author.Tests.{not-true, not-false}
+use Rattle.theory.specs.Words.{orderFrom}
 use Rattle.theory.specs.declared.Order.{Order}
 use Rattle.note.specs.Records.{Context, isAllowed}
 use Rattle.record.specs.Steps.{contextOf}
@@ -24,7 +25,7 @@ abbrev start : tie.Else2 → tie.Start
 start c = c .before .before .before .before .before
 
 abbrev order : tie.Else2 → Order
-order c = start c .args .order
+order c = orderFrom (start c .args .big)
 
 abbrev context : tie.Else2 → Context
 context c = contextOf (start c .args .context)

@@ -3,6 +3,7 @@ use mathlib.Core.Path.{_≡_, sym, ap, _∙_}
 use Prim.Native.Nat.{ℕ}
 use denote.Ref.{now}
 use lib.Seq.{sets}
+use Rattle.theory.specs.Words.{orderFrom}
 use Rattle.note.specs.Events.{eventFault, eventWord}
 use Rattle.note.specs.Writers.{closingBytes}
 use Rattle.rewriting.proofs.ContainerCopy.{event-begins}
@@ -28,7 +29,7 @@ returns c =
     let test = c .before .before .before .before in
     let a = test .before .before .args in
     c .before .before .begin-configuration .ensures
-    ∙ ap (λ (w : ℕ). sets (now (a .out)) (a .place) (closingBytes (a .order) w (a .place) (a .end))) (sym (test .if1 .taken))
+    ∙ ap (λ (w : ℕ). sets (now (a .out)) (a .place) (closingBytes (orderFrom (a .big)) w (a .place) (a .end))) (sym (test .if1 .taken))
 
 class-of-requires : tie.Need-class-of-requires
 class-of-requires c κs = search needs
@@ -68,7 +69,7 @@ returns-2 c =
     let parts = c .before .before .before .before in
     let a = start (tested parts) .args in
     c .before .before .begin-event .ensures
-    ∙ ap (λ (w : ℕ). sets (now (a .out)) (a .place) (closingBytes (a .order) w (a .place) (a .end))) (apart parts .1)
+    ∙ ap (λ (w : ℕ). sets (now (a .out)) (a .place) (closingBytes (orderFrom (a .big)) w (a .place) (a .end))) (apart parts .1)
 
 pub begin-container-spec : {M : Type 1} → statement M
 begin-container-spec =

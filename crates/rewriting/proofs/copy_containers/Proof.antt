@@ -5,6 +5,7 @@ use Prim.Native.Nat.{_+_, _≤_}
 use native.Mathlib.Omega.{arith}
 use denote.Ref.{now}
 use lib.ListN.{length}
+use Rattle.theory.specs.Words.{orderFrom}
 use Rattle.theory.proofs.WordLaws.{Bytes-from}
 use Rattle.note.specs.Limits.{fileLimit}
 use Rattle.rewriting.proofs.CopyLoop.{Copying, Found, begin, ended}
@@ -20,10 +21,10 @@ use Rattle.rewriting.proofs.copy_records.Reads as copy-records-reads
 use Rattle.words.proofs.word_at.Reads as word-at-reads
 
 abbrev Inv-loop : tie.InvT-loop
-Inv-loop part out₀ place order rest₀ at₀ out rest at = Copying (containerItem order) out₀ place part out rest at
+Inv-loop part out₀ place big rest₀ at₀ out rest at = Copying (containerItem (orderFrom big)) out₀ place part out rest at
 
 abbrev μ-loop : tie.MeasureT-loop
-μ-loop part out₀ place order rest₀ at₀ out rest at = length rest
+μ-loop part out₀ place big rest₀ at₀ out rest at = length rest
 
 -- From a turn's end back to where its contents were written, from there to where its two words were stored, to where these were read, and to
 -- the loop's head.
@@ -46,7 +47,7 @@ start c = c .before .before .before
 found : (c : tie.After-word-at2 Inv-loop μ-loop)
     → (let a = start (head c) .args in
     let l = head c .loop in
-    Found (containerItem (a .order)) (a .order) (now (a .out)) (a .place) (now (a .part))
+    Found (containerItem (orderFrom (a .big))) (orderFrom (a .big)) (now (a .out)) (a .place) (now (a .part))
     (l .out) (now (l .rest)) (l .at) (c .before .word-at .result) (c .word-at2 .result))
 found c =
     let turn = c .before .before in

@@ -5,7 +5,7 @@ use native.Mathlib.Omega.{arith}
 use denote.Ref.{now}
 use lib.ListN.{length}
 use lib.Bits.{and-mask}
-use Rattle.theory.specs.Words.{Bytes}
+use Rattle.theory.specs.Words.{Bytes, orderFrom}
 use Rattle.theory.proofs.WordLaws.{Bytes-from}
 use Rattle.note.specs.Files.{headerBytes}
 use Rattle.demands.specs.Outputs.{Laid}
@@ -36,7 +36,7 @@ start c = known c .before .before
 
 -- Where the header was written: it stands.
 header : (c : tie.After-write-header)
-    → Laid (now (start c .args .out)) (c .write-header .last .0) 0 8 (headerBytes (start c .args .order) (start c .pre .parts .0))
+    → Laid (now (start c .args .out)) (c .write-header .last .0) 0 8 (headerBytes (orderFrom (start c .args .big)) (start c .pre .parts .0))
 header c =
     let version = c .before .before .word-at in
     header-copied _ _ _ (held (known c)) (start c .pre) _ _ _ (version .ensures)

@@ -5,6 +5,7 @@ use Prim.Native.Nat.{_+_, _≤_}
 use native.Mathlib.Omega.{arith}
 use denote.Ref.{now}
 use lib.ListN.{length}
+use Rattle.theory.specs.Words.{orderFrom}
 use Rattle.theory.proofs.WordLaws.{Bytes-from}
 use Rattle.note.specs.Limits.{fileLimit}
 use Rattle.demands.proofs.Bundles.{recordItem, same-records}
@@ -19,10 +20,10 @@ use Rattle.copies.proofs.copy_record.Reads as copy-record-reads
 use Rattle.words.proofs.word_at.Reads as word-at-reads
 
 abbrev Inv-loop : tie.InvT-loop
-Inv-loop part out₀ place order rest₀ at₀ out rest at = Copying (recordItem order) out₀ place part out rest at
+Inv-loop part out₀ place big rest₀ at₀ out rest at = Copying (recordItem (orderFrom big)) out₀ place part out rest at
 
 abbrev μ-loop : tie.MeasureT-loop
-μ-loop part out₀ place order rest₀ at₀ out rest at = length rest
+μ-loop part out₀ place big rest₀ at₀ out rest at = length rest
 
 -- From a turn's end back to where its record was written, from there to where its two words were read, and to the loop's head.
 abbrev written : tie.After-slice-known2 Inv-loop μ-loop → tie.After-copy-record Inv-loop μ-loop
@@ -46,7 +47,7 @@ sized c = record-fits (head c .loop .inv) (c .before .loop-test .taken) _ (c .wo
 found : (c : tie.After-word-at2 Inv-loop μ-loop)
     → (let a = start (head (c .before)) .args in
     let l = head (c .before) .loop in
-    Found (recordItem (a .order)) (a .order) (now (a .out)) (a .place) (now (a .part))
+    Found (recordItem (orderFrom (a .big))) (orderFrom (a .big)) (now (a .out)) (a .place) (now (a .part))
     (l .out) (now (l .rest)) (l .at) (c .word-at2 .result) (c .before .word-at .result))
 found c =
     let own = c .before in

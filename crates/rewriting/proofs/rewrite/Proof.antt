@@ -48,14 +48,14 @@ returns-2 : tie.Need-returns-2
 unfolding givenWriter
 returns-2 c = no-room (accepted (c .before)) _ (tested (c .before) .if1 .left) (c .if2 .taken)
 
-order-of-requires : tie.Need-order-of-requires
-order-of-requires c κs = search needs
+is-big-requires : tie.Need-is-big-requires
+is-big-requires c κs = search needs
 
 copy-file-requires : tie.Need-copy-file-requires
 copy-file-requires c κs =
     let test = c .before .before in
     let good = test .before in
-    ready (accepted good) (tested good .if1 .left) (test .if2 .left) (c .order-of .ensures)
+    ready (accepted good) (tested good .if1 .left) (test .if2 .left) (c .is-big .ensures)
 
 returns-3 : tie.Need-returns-3
 unfolding givenWriter
@@ -82,7 +82,7 @@ rewrite-spec =
     enum-known-number
     enum-told
     returns-2
-    order-of-requires
+    is-big-requires
     copy-file-requires
     returns-3
     same-length

@@ -5,6 +5,7 @@ use mathlib.Core.Path.{_≡_}
 use lib.ListN.{length}
 use native.Mathlib.Omega.{arith}
 use denote.Ref.{now}
+use Rattle.theory.specs.Words.{orderFrom}
 use Rattle.note.specs.History.{historyRule}
 use Rattle.rules.proofs.SectionLaws.{room, thin}
 use Rattle.rules.proofs.RoomLaws.{veto-follows, trigger-count}
@@ -25,7 +26,7 @@ value-places-requires c κs = search needs
 abbrev found : tie.Then1 → tie.After-value-places
 found c = c .before .before
 
-follows : (c : tie.Then1) → historyRule (found c .before .before .args .order) (now (found c .before .before .args .b)) ≡ 0
+follows : (c : tie.Then1) → historyRule (orderFrom (found c .before .before .args .big)) (now (found c .before .before .args .b)) ≡ 0
 follows c = let s = found c .before .before in history-follows _ _ _ (found c .value-places .ensures) (s .pre .0) (c .if1 .taken)
 
 section-end-requires : tie.Need-section-end-requires

@@ -6,6 +6,7 @@ use mathlib.Core.List.{List, [], _∷_}
 use lib.Dec.{eqb}
 use lib.ListN.{length}
 use denote.Ref.{now}
+use Rattle.theory.specs.Words.{orderFrom}
 use Rattle.theory.specs.declared.Order.{Order}
 use Rattle.rules.proofs.SectionLaws.{room, thin, small}
 use borrow.Author.Tests.{eq-eqb, le-leb, lt-leb, ne-eqb}
@@ -36,7 +37,7 @@ abbrev body : tie.Else2 → List ℕ
 body c = now (c .before .before .before .args .b)
 
 abbrev order : tie.Else2 → Order
-order c = c .before .before .before .args .order
+order c = orderFrom (c .before .before .before .args .big)
 
 sized : (c : tie.Else2)
     → historyRule (order c) (body c)

@@ -1,6 +1,7 @@
 -- `rules::rule` meets its contract: at each kind word the definition's kind computes to that kind; in the default it is none.
 use mathlib.Core.Path.{sym, ap}
 use denote.Ref.{now}
+use Rattle.theory.specs.Words.{orderFrom}
 use Rattle.note.specs.Kinds.{Kind}
 use Rattle.note.specs.Records.{kindOf}
 use Rattle.rules.proofs.KindLaws.{no-other-arm}
@@ -77,7 +78,7 @@ returns-8 c = rw (c .before .match .keys7) (c .tlb-rule .ensures)
 returns-9 : tie.Need-returns-9
 returns-9 c =
     let a = c .before .before .before .args in
-    sym (ap (λ (k : Kind). k .rule (a .order) (now (a .b))) (no-other-arm (c .before .if1 .left) (c .match .rest)))
+    sym (ap (λ (k : Kind). k .rule (orderFrom (a .big)) (now (a .b))) (no-other-arm (c .before .if1 .left) (c .match .rest)))
 
 pub rule-spec : {M : Type 1} → statement M
 rule-spec =

@@ -1,6 +1,7 @@
 -- `samples::sample` meets its contract: each way out is a law of SampleLaws, handed the record that was found and the tests on the way.
 use denote.Ref.{now}
 use native.Mathlib.Omega.{arith}
+use Rattle.theory.specs.Words.{orderFrom}
 use Rattle.note.specs.Answers.{givenSample}
 use Rattle.note.specs.Calls.{sampleGiven, sampleAt}
 use Rattle.answers.proofs.FoundLaws.{Found, good-found, bad-given}
@@ -24,7 +25,7 @@ abbrev start : tie.After-kind → tie.Start
 start c = c .before .before .before .before
 
 found : (c : tie.After-kind)
-    → Found (start c .args .order) (now (start c .args .file)) (start c .args .place) (c .kind .given .0 .0) (c .kind .given .0 .1 .0)
+    → Found (orderFrom (start c .args .big)) (now (start c .args .file)) (start c .args .place) (c .kind .given .0 .0) (c .kind .given .0 .1 .0)
 found c = good-found (c .kind .given .1) (c .before .before .record-found .ensures)
 
 -- Where its kind is asked: it's a trace.
@@ -32,7 +33,7 @@ abbrev good : tie.Else1 → tie.After-kind
 good c = c .before .before
 
 trace : (c : tie.Else1)
-    → Found (start (good c) .args .order) (now (start (good c) .args .file)) (start (good c) .args .place) 0x11 (good c .kind .given .0 .1 .0)
+    → (let a = start (good c) .args in Found (orderFrom (a .big)) (now (a .file)) (a .place) 0x11 (good c .kind .given .0 .1 .0))
 trace c = trace-found (found (good c)) (c .if1 .left)
 
 returns : tie.Need-returns
@@ -87,7 +88,7 @@ unfolding givenSample sampleAt
 returns-5 c =
     let called = c .before .before .before in
     let a = called .before .before .args in
-    bad-given _ _ _ (c .before .why .given .1) (called .record-found .ensures) (sampleGiven (a .order) (a .place) _)
+    bad-given _ _ _ (c .before .why .given .1) (called .record-found .ensures) (sampleGiven (orderFrom (a .big)) (a .place) _)
 
 pub sample-spec : {M : Type 1} → statement M
 sample-spec =

@@ -1,4 +1,5 @@
 -- `samples::samples` meets its contract: the part runs from the samples' first byte to the record's last, where a trace was found.
+use Rattle.theory.specs.Words.{orderFrom}
 use Rattle.samples.proofs.SampleLaws.{trace-found, no-part, long, part-found, part-given, refused-part, empty-part}
 use denote.Ref.{now}
 use native.Mathlib.Omega.{arith}
@@ -21,7 +22,7 @@ abbrev start : tie.After-kind → tie.Start
 start c = c .before .before .before .before
 
 found : (c : tie.After-kind)
-    → Found (start c .args .order) (now (start c .args .file)) (start c .args .place) (c .kind .given .0 .0) (c .kind .given .0 .1 .0)
+    → Found (orderFrom (start c .args .big)) (now (start c .args .file)) (start c .args .place) (c .kind .given .0 .0) (c .kind .given .0 .1 .0)
 found c = good-found (c .kind .given .1) (c .before .before .record-found .ensures)
 
 -- Where its kind was asked: it's a trace, so its samples lie between its 48 first bytes and its end.
@@ -29,7 +30,7 @@ abbrev good : tie.Then1 → tie.After-kind
 good c = c .before .before
 
 trace : (c : tie.Then1)
-    → Found (start (good c) .args .order) (now (start (good c) .args .file)) (start (good c) .args .place) 0x11 (good c .kind .given .0 .1 .0)
+    → (let a = start (good c) .args in Found (orderFrom (a .big)) (now (a .file)) (a .place) 0x11 (good c .kind .given .0 .1 .0))
 trace c = trace-found (found (good c)) (c .if1 .taken)
 
 add-result : tie.Need-add-result

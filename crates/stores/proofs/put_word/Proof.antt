@@ -6,7 +6,7 @@ use mathlib.Core.List.{[], _∷_, append-nil}
 use native.Mathlib.Omega.{arith}
 use denote.Ref.{now}
 use lib.ListN.{length}
-use Rattle.theory.specs.Words.{bytes, put, puts}
+use Rattle.theory.specs.Words.{bytes, put, puts, orderFrom}
 use lib.Seq.{sets}
 use Rattle.theory.proofs.WordLaws.{put-spelled, length-puts}
 use Rattle.theory.proofs.StoreLaws.{part-stored}
@@ -59,7 +59,7 @@ returns c =
     let at = start .args .at in
     let w = start .args .w in
     let room : at + 4 ≤ length out = start .pre in
-    let o = start .args .order in
+    let o = orderFrom (start .args .big) in
     let turned = c .before .before .before .before in
     let v = turned .turned .result in
     let third : v / 65536 ≡ v / 256 / 256 = omega arith in

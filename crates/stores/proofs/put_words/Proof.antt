@@ -6,7 +6,7 @@ use mathlib.Core.List.{List, [], _∷_}
 use native.Mathlib.Omega.{arith}
 use lib.ListN.{length, take, getD}
 use lib.Seq.{sets, take-all}
-use Rattle.theory.specs.Words.{puts}
+use Rattle.theory.specs.Words.{puts, orderFrom}
 use Rattle.note.specs.Words.{words}
 use Rattle.stores.proofs.StoreLaws.{word-more}
 use borrow.Author.Needs.{needs}
@@ -17,10 +17,10 @@ use Rattle.stores.proofs.put_words.Lts as lts
 use Rattle.stores.proofs.put_word.Reads as put-word-reads
 
 abbrev Inv-loop : tie.InvT-loop
-Inv-loop out₀ at ws order i₀ out i = (i ≤ length ws) × (length out ≡ length out₀) × (out ≡ sets out₀ at (words order (take i ws)))
+Inv-loop out₀ at ws big i₀ out i = (i ≤ length ws) × (length out ≡ length out₀) × (out ≡ sets out₀ at (words (orderFrom big) (take i ws)))
 
 abbrev μ-loop : tie.MeasureT-loop
-μ-loop out₀ at ws order i₀ out i = length ws - i
+μ-loop out₀ at ws big i₀ out i = length ws - i
 
 loop-holds : tie.Need-loop-holds Inv-loop μ-loop
 unfolding puts
@@ -56,7 +56,7 @@ loop-again c =
     let (bound, size, stored) = turn .before .loop .inv in (
       omega arith,
       c .before .out .given ∙ size,
-      put .put-word .ensures ∙ ap (λ (l : List ℕ). sets l (a .at + 4 * i) (words (a .order) (getD (a .ws .now) i 0 ∷ []))) stored
+      put .put-word .ensures ∙ ap (λ (l : List ℕ). sets l (a .at + 4 * i) (words (orderFrom (a .big)) (getD (a .ws .now) i 0 ∷ []))) stored
           ∙ word-more _ (a .out .now) (a .ws .now) (a .at) i (turn .loop-test .taken),
     )
 
@@ -67,7 +67,7 @@ returns : tie.Need-returns Inv-loop μ-loop
 returns c =
     let a = c .before .before .before .before .args in
     let all = take-all (c .before .loop .i) (a .ws .now) (c .loop-test .left) in
-    c .before .loop .inv .2 ∙ ap (λ (ws : List ℕ). sets (a .out .now) (a .at) (words (a .order) ws)) all
+    c .before .loop .inv .2 ∙ ap (λ (ws : List ℕ). sets (a .out .now) (a .at) (words (orderFrom (a .big)) ws)) all
 
 pub put-words-spec : {M : Type 1} → statement M
 put-words-spec =

@@ -1,7 +1,7 @@
 -- The number as it is, or of its bytes the other way round.
-use native.Mathlib.Omega.{arith}
 use Prim.Native.Nat.{_/_, _%_}
 use mathlib.Core.Path.{_≡_, _∙_}
+use native.Mathlib.Omega.{arith}
 use Rattle.theory.specs.Words.{bytes}
 use borrow.Author.Needs.{needs}
 use Rattle.stores.proofs.turned.Statement.{statement}
@@ -9,12 +9,6 @@ use Rattle.stores.proofs.turned.Tie as tie
 use Rattle.stores.proofs.turned.Reads as reads
 use Rattle.stores.proofs.turned.Lts as lts
 use Rattle.words.proofs.join.Reads as join-reads
-
-enum-told : tie.Need-enum-told
-enum-told c = search needs
-
-enum-told-2 : tie.Need-enum-told-2
-enum-told-2 c = search needs
 
 cast-join : tie.Need-cast-join
 cast-join c = search needs
@@ -33,27 +27,18 @@ join-requires c κs = search needs
 
 returns : tie.Need-returns
 unfolding bytes
-returns c = rw (c .enum-told .given .1) (omega (arith, c .before))
-
-returns-2 : tie.Need-returns-2
-unfolding bytes
-returns-2 c =
-    let start = c .before .before .before in
+returns c =
+    let start = c .before .before in
     let w = start .args .w in
     let third : w / 65536 ≡ w / 256 / 256 = omega arith in
     let fourth : w / 16777216 ≡ w / 256 / 256 / 256 % 256 = omega (arith, start) in
-    rw (c .before .enum-told2 .given .1) (c .join .ensures ∙ rw (third, fourth))
+    rw (c .before .if1 .taken) (c .join .ensures ∙ rw (third, fourth))
+
+returns-2 : tie.Need-returns-2
+unfolding bytes
+returns-2 c = rw (c .if1 .left) (omega (arith, c .before))
 
 pub turned-spec : {M : Type 1} → statement M
 turned-spec =
     tie.close
-    (tie.spec
-    enum-told
-    enum-told-2
-    cast-join
-    cast-join-2
-    cast-join-3
-    cast-join-4
-    join-requires
-    returns
-    returns-2)
+    (tie.spec cast-join cast-join-2 cast-join-3 cast-join-4 join-requires returns returns-2)

@@ -5,6 +5,7 @@ use mathlib.Core.Path.{refl}
 use native.Mathlib.Omega.{arith}
 use denote.Ref.{now}
 use lib.ListN.{length}
+use Rattle.theory.specs.Words.{orderFrom}
 use Rattle.note.specs.Limits.{fileLimit}
 use Rattle.stores.specs.Structures.{structureWritten}
 use Rattle.stores.proofs.WriterLaws.{Admitted, refuses, has-room, writes}
@@ -27,7 +28,8 @@ start c = c .before .before .before .before
 -- `admitted` was asked the structure's fault and size.
 admitted : (c : tie.After-admitted)
     → (let a = start c .args in
-    Admitted (now (a .out)) (a .place) (structureWritten (a .order) (a .fault) (a .kind) (now (a .ws)) (now (a .bytes))) (c .admitted .result))
+    Admitted (now (a .out)) (a .place) (structureWritten (orderFrom (a .big)) (a .fault) (a .kind) (now (a .ws)) (now (a .bytes)))
+    (c .admitted .result))
 admitted c = record { fault = _; size = _; fault-is = refl; size-is = λ z. structured-size _ _ _ _; said = c .admitted .ensures }
 
 -- Where the next place was answered: the limit, and room for the structure.
@@ -37,7 +39,7 @@ room : (c : tie.After-next)
 room c =
     let a = start (asked c) .args in
     let (limit, fits) = has-room (admitted (asked c)) (c .next .given .1) in
-    (limit, omega (arith, fits, structured-size (a .order) (a .kind) (now (a .ws)) (now (a .bytes))))
+    (limit, omega (arith, fits, structured-size (orderFrom (a .big)) (a .kind) (now (a .ws)) (now (a .bytes))))
 
 mul-admitted : tie.Need-mul-admitted
 mul-admitted c = search needs

@@ -5,7 +5,7 @@ use mathlib.Core.Path.{_≡_, refl}
 use native.Mathlib.Omega.{arith}
 use denote.Ref.{now}
 use lib.ListN.{length}
-use Rattle.theory.specs.Words.{Bytes}
+use Rattle.theory.specs.Words.{Bytes, orderFrom}
 use Rattle.theory.proofs.WordLaws.{Bytes-from}
 use Rattle.note.specs.Limits.{fileLimit}
 use Rattle.table.proofs.FileFillLaws.{some, sized, Begun, begin, fillable, next-row, fillable-events, done}
@@ -47,7 +47,7 @@ whole c = sized (start c .pre) (held (c .before)) _ (c .word-at .ensures)
 -- Where the header's row was stored: what the buffer holds.
 begun : (c : tie.After-put-row)
     → (let a = start (read c) .args in
-    Begun (a .order) (now (a .file)) (now (a .rows)) (read c .word-at .result) (c .put-row .last .0))
+    Begun (orderFrom (a .big)) (now (a .file)) (now (a .rows)) (read c .word-at .result) (c .put-row .last .0))
 begun c =
     begin (held (read c .before)) (start (read c) .pre) _ (read c .word-at .ensures) _ (c .before .word-at2 .ensures) _ (c .put-row .ensures)
 

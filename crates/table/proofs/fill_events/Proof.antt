@@ -6,6 +6,7 @@ use native.Mathlib.Omega.{arith}
 use denote.Ref.{now}
 use lib.ListN.{length}
 use borrow.Author.Needs.{needs}
+use Rattle.theory.specs.Words.{orderFrom}
 use Rattle.theory.proofs.WordLaws.{Bytes-from}
 use Rattle.note.specs.Limits.{fileLimit, rowWidth}
 use Rattle.table.proofs.EventFillLaws.{FillingEvents, begin, same-rows, done, low, sized, fillable, next-row, next-event}
@@ -18,10 +19,10 @@ use Rattle.rows.proofs.put_row.Reads as put-row-reads
 use Rattle.words.proofs.word_at.Reads as word-at-reads
 
 abbrev Inv-loop : tie.InvT-loop
-Inv-loop part from rows₀ first order rest₀ at₀ n₀ rows rest at n = FillingEvents order from part rows₀ first rows rest at n
+Inv-loop part from rows₀ first big rest₀ at₀ n₀ rows rest at n = FillingEvents (orderFrom big) from part rows₀ first rows rest at n
 
 abbrev μ-loop : tie.MeasureT-loop
-μ-loop part from rows₀ first order rest₀ at₀ n₀ rows rest at n = length rest
+μ-loop part from rows₀ first big rest₀ at₀ n₀ rows rest at n = length rest
 
 -- From a turn back to the function's start; from its end back to where the event's two words were read, its records filled between them,
 -- and to the loop's head.

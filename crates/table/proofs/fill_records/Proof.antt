@@ -6,6 +6,7 @@ use native.Mathlib.Omega.{arith}
 use denote.Ref.{now}
 use lib.ListN.{length}
 use borrow.Author.Needs.{needs}
+use Rattle.theory.specs.Words.{orderFrom}
 use Rattle.note.specs.Limits.{fileLimit, rowWidth}
 use Rattle.table.proofs.FillLaws.{Filling, begin, same-rows, sized, valued, row-fits, next, done}
 use Rattle.table.proofs.fill_records.Statement.{statement}
@@ -17,10 +18,10 @@ use Rattle.rows.proofs.values_in.Reads as values-in-reads
 use Rattle.words.proofs.word_at.Reads as word-at-reads
 
 abbrev Inv-loop : tie.InvT-loop
-Inv-loop part from rows₀ first parent order rest₀ at₀ n₀ rows rest at n = Filling order from part rows₀ first parent rows rest at n
+Inv-loop part from rows₀ first parent big rest₀ at₀ n₀ rows rest at n = Filling (orderFrom big) from part rows₀ first parent rows rest at n
 
 abbrev μ-loop : tie.MeasureT-loop
-μ-loop part from rows₀ first parent order rest₀ at₀ n₀ rows rest at n = length rest
+μ-loop part from rows₀ first parent big rest₀ at₀ n₀ rows rest at n = length rest
 
 -- From a turn back to the function's start; from its end back to where its row was made, from there to where its length word was read,
 -- and to the loop's head.

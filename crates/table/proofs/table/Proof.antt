@@ -33,14 +33,14 @@ enum-known-count c = search needs
 returns : tie.Need-returns
 returns c = too-few _ _ _ (counted (c .before .before)) (c .if1 .taken)
 
-order-of-requires : tie.Need-order-of-requires
-order-of-requires c κs = search needs
+is-big-requires : tie.Need-is-big-requires
+is-big-requires c κs = search needs
 
 fill-requires : tie.Need-fill-requires
 fill-requires c κs =
     let test = c .before .before in
     let count = test .before .before in
-    fillable _ (now (start count .args .rows)) _ (counted count) (test .if1 .left) _ (c .order-of .ensures)
+    fillable _ (now (start count .args .rows)) _ (counted count) (test .if1 .left) _ (c .is-big .ensures)
 
 returns-2 : tie.Need-returns-2
 returns-2 c = refused _ _ _ _ (sym (c .before .number .given .1) ∙ c .before .before .before .check .ensures)
@@ -61,7 +61,7 @@ table-spec =
     enum-known-number
     enum-known-count
     returns
-    order-of-requires
+    is-big-requires
     fill-requires
     returns-2
     same-length

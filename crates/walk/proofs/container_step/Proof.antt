@@ -5,6 +5,7 @@ use mathlib.Core.Path.{_≡_, sym, _∙_}
 use native.Mathlib.Omega.{arith}
 use denote.Ref.{now}
 use borrow.Author.Tests.{not-true, not-false}
+use Rattle.theory.specs.Words.{orderFrom}
 use Rattle.walk.specs.Steps.{stands}
 use Rattle.walk.proofs.StepLaws.{standing, container-none, Found, fits, few-children, container-here}
 use borrow.Author.Needs.{needs}
@@ -19,14 +20,14 @@ use Rattle.walk.proofs.stayed.Reads as stayed-reads
 use Rattle.words.proofs.word_at.Reads as word-at-reads
 
 -- Where the test was passed: a structure stands at the part's front.
-here : (c : tie.Else1) → stands (c .before .before .before .args .order) (now (c .before .before .before .args .part)) ≡ true
+here : (c : tie.Else1) → stands (orderFrom (c .before .before .before .args .big)) (now (c .before .before .before .args .part)) ≡ true
 here c = sym (c .before .stands .ensures) ∙ not-false _ (c .if1 .left)
 
 -- Where its length word was read: its size lies within the part.
 abbrev start : tie.After-word-at → tie.Start
 start c = c .before .before .before .before
 
-found : (c : tie.After-word-at) → Found (start c .args .order) (now (start c .args .part)) (c .word-at .result)
+found : (c : tie.After-word-at) → Found (orderFrom (start c .args .big)) (now (start c .args .part)) (c .word-at .result)
 found c = record { is-here = here (c .before); length-is = c .word-at .ensures }
 
 stands-requires : tie.Need-stands-requires

@@ -4,6 +4,7 @@ use borrow.Author.Needs.{needs}
 use native.Mathlib.Omega.{arith}
 use denote.Ref.{now}
 use lib.ListN.{length}
+use Rattle.theory.specs.Words.{orderFrom}
 use Rattle.walk.proofs.StepLaws.{Counting, begin, counted, counts-on, too-short, too-long}
 use Rattle.walk.proofs.count_in.Statement.{statement}
 use Rattle.walk.proofs.count_in.Tie as tie
@@ -12,10 +13,10 @@ use Rattle.walk.proofs.count_in.Lts as lts
 use Rattle.words.proofs.word_at.Reads as word-at-reads
 
 abbrev Inv-loop : tie.InvT-loop
-Inv-loop part order rest₀ count₀ rest count = Counting order part rest count
+Inv-loop part big rest₀ count₀ rest count = Counting (orderFrom big) part rest count
 
 abbrev μ-loop : tie.MeasureT-loop
-μ-loop part order rest₀ count₀ rest count = length rest
+μ-loop part big rest₀ count₀ rest count = length rest
 
 loop-holds : tie.Need-loop-holds Inv-loop μ-loop
 loop-holds c = begin _ (now (c .before .args .part))

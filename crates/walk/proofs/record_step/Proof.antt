@@ -5,6 +5,7 @@ use mathlib.Core.Path.{_≡_, sym, _∙_}
 use native.Mathlib.Omega.{arith}
 use denote.Ref.{now}
 use borrow.Author.Tests.{not-true, not-false}
+use Rattle.theory.specs.Words.{orderFrom}
 use Rattle.record.proofs.StepLaws.{cutBody}
 use Rattle.rows.specs.Values.{hasValues}
 use Rattle.walk.specs.Steps.{stands}
@@ -21,14 +22,14 @@ use Rattle.walk.proofs.stayed.Reads as stayed-reads
 use Rattle.words.proofs.word_at.Reads as word-at-reads
 
 -- Where the first test was passed: a structure stands at the part's front.
-here : (c : tie.Else1) → stands (c .before .before .before .args .order) (now (c .before .before .before .args .part)) ≡ true
+here : (c : tie.Else1) → stands (orderFrom (c .before .before .before .args .big)) (now (c .before .before .before .args .part)) ≡ true
 here c = sym (c .before .stands .ensures) ∙ not-false _ (c .if1 .left)
 
 -- Where both words were read: its length word is known, so its size lies within the part.
 abbrev start : tie.After-word-at2 → tie.Start
 start c = c .before .before .before .before .before
 
-found : (c : tie.After-word-at2) → Found (start c .args .order) (now (start c .args .part)) (c .word-at2 .result)
+found : (c : tie.After-word-at2) → Found (orderFrom (start c .args .big)) (now (start c .args .part)) (c .word-at2 .result)
 found c = record { is-here = here (c .before .before); length-is = c .word-at2 .ensures }
 
 -- Where the second test was passed: the body has its row's values.
@@ -37,7 +38,7 @@ read c = c .before .before .before
 
 filled : (c : tie.Else2)
     → (let a = start (read c) .args in
-    hasValues (a .order) (read c .before .word-at .result) (cutBody (read c .word-at2 .result) (now (a .part))) ≡ true)
+    hasValues (orderFrom (a .big)) (read c .before .word-at .result) (cutBody (read c .word-at2 .result) (now (a .part))) ≡ true)
 filled c = sym (c .before .has-values .ensures) ∙ not-false _ (c .if2 .left)
 
 stands-requires : tie.Need-stands-requires

@@ -9,10 +9,10 @@ use Rattle.walk.proofs.step.Tie as tie
 use Rattle.walk.proofs.step.Reads as reads
 use Rattle.walk.proofs.step.Lts as lts
 use Rattle.walk.proofs.step_in.Reads as step-in-reads
-use Rattle.words.proofs.order_of.Reads as order-of-reads
+use Rattle.words.proofs.is_big.Reads as is-big-reads
 
-order-of-requires : tie.Need-order-of-requires
-order-of-requires c κs = search needs
+is-big-requires : tie.Need-is-big-requires
+is-big-requires c κs = search needs
 
 step-in-requires : tie.Need-step-in-requires
 step-in-requires c κs = search needs
@@ -21,7 +21,7 @@ returns : tie.Need-returns
 unfolding stepOf
 returns c =
     let a = c .before .before .before .args in
-    c .step-in .ensures ∙ ap (λ (o : Order). stepIn o (now (a .file)) (a .at)) (c .before .order-of .ensures)
+    c .step-in .ensures ∙ ap (λ (o : Order). stepIn o (now (a .file)) (a .at)) (c .before .is-big .ensures)
 
 pub step-spec : {M : Type 1} → statement M
-step-spec = tie.close (tie.spec order-of-requires step-in-requires returns)
+step-spec = tie.close (tie.spec is-big-requires step-in-requires returns)

@@ -4,6 +4,7 @@ use Prim.Native.Nat.{ℕ}
 use mathlib.Core.Path.{ap, _∙_}
 use mathlib.Core.List.{List, [], _∷_}
 use lib.IntN.{ℤ}
+use Rattle.theory.specs.Words.{orderFrom}
 use Rattle.note.specs.Words.{AllSigned}
 use Rattle.note.specs.Charge.{chargeBytes, chargeFault}
 use Rattle.note.specs.Writers.{chargeWritten}
@@ -54,7 +55,7 @@ returns c =
     let s = start asked in
     let code = handed-on (s .args .code) (s .fits .code) (asked .before .from-signed .ensures) in
     bytes-unasked _ (asked .charge-fault .ensures ∙ ap chargeFault code)
-    (λ z. ap (λ (ws : List ℕ). structured (s .args .order) 0x00010002 ws []) (words-kept (fields s) (fit s)) ∙ structured-bare _ _ _)
+    (λ z. ap (λ (ws : List ℕ). structured (orderFrom (s .args .big)) 0x00010002 ws []) (words-kept (fields s) (fit s)) ∙ structured-bare _ _ _)
     (stored .write-entry .ensures)
 
 pub write-charge-spec : {M : Type 1} → statement M

@@ -6,6 +6,7 @@ use Prim.Native.Nat.{ℕ}
 use native.Mathlib.Omega.{arith}
 use lib.ListN.{length, length-map, take, replicate}
 use lib.Seq.{sets}
+use Rattle.theory.specs.Words.{orderFrom}
 use Rattle.note.specs.Words.{unsigned}
 use Rattle.stores.specs.Structures.{structured}
 use Rattle.stores.proofs.WriterLaws.{bytes-unasked}
@@ -64,7 +65,7 @@ returns c =
     let stored = c .before .before in
     let lent = stored .before .before in
     let kind = start (filled lent) .args .kind in
-    let o = start (filled lent) .args .order in
+    let o = orderFrom (start (filled lent) .args .big) in
     bytes-unasked _ refl (λ z. ap (λ (ws : List ℕ). structured o kind ws []) (held lent)) (stored .write-structure .ensures)
 
 pub write-entry-spec : {M : Type 1} → statement M

@@ -5,6 +5,7 @@ use mathlib.Core.Path.{_≡_, refl, sym, ap, _∙_}
 use mathlib.Core.List.{[], _∷_}
 use native.Mathlib.Omega.{arith}
 use borrow.Author.Tests.{leb-true}
+use Rattle.theory.specs.Words.{orderFrom}
 use Rattle.theory.proofs.TestLaws.{holds-at}
 use Rattle.note.specs.Gps.{Gps, bcd, gpsBytes, gpsFault}
 use Rattle.note.specs.Writers.{gpsWritten}
@@ -83,7 +84,7 @@ returns c =
     λ z. tenths .before .gps-clock .ensures ∙ ap clock (status-kept _ (sym (fault .gps-fault .ensures) ∙ z)) in
     bytes-unasked _ (fault .gps-fault .ensures)
     (λ z.
-    (λ i. structured (a .order) 0x60 ((year i * 65536 + day i) ∷ clock-kept z i ∷ tenths .digits3 .ensures .0 i ∷ []) [])
+    (λ i. structured (orderFrom (a .big)) 0x60 ((year i * 65536 + day i) ∷ clock-kept z i ∷ tenths .digits3 .ensures .0 i ∷ []) [])
     ∙ structured-bare _ _ _)
     (stored .write-structure .ensures)
 

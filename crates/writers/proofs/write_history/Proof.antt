@@ -5,6 +5,7 @@ use mathlib.Core.Path.{sym, _∙_}
 use native.Mathlib.Omega.{arith}
 use denote.Ref.{now}
 use lib.ListN.{length}
+use Rattle.theory.specs.Words.{orderFrom}
 use Rattle.note.specs.Limits.{fileLimit}
 use Rattle.note.specs.History.{History}
 use Rattle.note.specs.Writers.{historyWritten}
@@ -41,7 +42,8 @@ fields s =
 
 -- `admitted` was asked the history's fault and, where it has none, its size.
 admitted : (c : tie.After-admitted)
-    → Admitted (now (begun c .args .out)) (begun c .args .place) (historyWritten (begun c .args .order) (fields (begun c))) (c .admitted .result)
+    → (let a = begun c .args in
+    Admitted (now (a .out)) (a .place) (historyWritten (orderFrom (a .big)) (fields (begun c))) (c .admitted .result))
 unfolding historyWritten
 admitted c = record {
   fault = _;
@@ -57,7 +59,7 @@ room : (c : tie.After-next)
     (length (now (s .args .out)) ≤ fileLimit) × (s .args .place + (24 + partsSize (fields s)) ≤ length (now (s .args .out))))
 room c =
     let (limit, fits) = has-room (admitted (asked c)) (c .next .given .1) in
-    (limit, omega (arith, fits, history-size (begun (asked c) .args .order) (fields (begun (asked c)))))
+    (limit, omega (arith, fits, history-size (orderFrom (begun (asked c) .args .big)) (fields (begun (asked c)))))
 
 history-fault-requires : tie.Need-history-fault-requires
 history-fault-requires c κs = search needs

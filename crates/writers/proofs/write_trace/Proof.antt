@@ -2,7 +2,7 @@
 -- The idea: a structure of those words is the kind's own, and computes to it.
 use denote.Ref.{now}
 use mathlib.Core.List.{[], _∷_}
-use Rattle.theory.specs.Words.{bytes, put, puts}
+use Rattle.theory.specs.Words.{bytes, put, puts, orderFrom}
 use Rattle.stores.proofs.WriterLaws.{bytes-unasked}
 use Rattle.stores.specs.Structures.{structured}
 use Rattle.note.specs.Trace.{traceBytes, traceFault}
@@ -42,7 +42,7 @@ returns c =
     let a = s .args in
     let t0 = handed-on (a .t0) (s .fits .t0) (time .from-signed .ensures) in
     bytes-unasked _ (asked .trace-fault .ensures)
-    (λ z. λ i. structured (a .order) 0x11
+    (λ z. λ i. structured (orderFrom (a .big)) 0x11
     (0x11 ∷ 12 ∷ a .address ∷ a .channel ∷ a .code ∷ 0x12 ∷ 12 ∷ t0 i ∷ a .delta-t ∷ a .n ∷ 0x13 ∷ a .n ∷ []) (now (a .samples)))
     (stored .write-structure .ensures)
 
