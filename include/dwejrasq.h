@@ -1,20 +1,20 @@
-/* The reader's and the writers' calls for C. Every call takes any bytes and any numbers and ends.
+/* The reader's and the writers' calls for C. Every call takes any bytes and any numbers and ends. docs/CALLS.md has programs that use them.
  *
  * A call's result is 0 where it is accepted, or one of the refusal numbers
  *
- *    1  the file or the output is longer than 16,777,216 bytes; place 0
- *    2  fewer than 8 bytes are left for a structure, or its length passes its parent
- *    3  the file's first word is not 0x01020304
- *    4  the format is not 2.0
- *    5  a kind, an inner kind or an event's 0xA980 is not as allowed here
- *    6  a length is wrong for the kind or its counts
- *    7  an event's class, category or type is not admitted
- *    8  an event of type 7
- *    9  an event of length 0, a first record that is not administrative, or a kind repeated
+ *    1  the file, or the output, has more than 16,777,216 bytes; place 0
+ *    2  too few bytes are left: a structure's two words have no room, or it runs past what holds it
+ *    3  the file doesn't begin with the word 0x01020304
+ *    4  the file isn't of format 2.0
+ *    5  a kind that may not stand here, in a structure's first word or inside a trace, or an event's word without 0xA980
+ *    6  a length that doesn't go with the kind, or with the counts inside
+ *    7  an event's class, category or type isn't admitted
+ *    8  an event of type 7, which isn't read
+ *    9  an event has no records, doesn't begin with its administrative record, or has a kind twice that may stand in it once
  *   10  a field is outside its rule
- *   11  a trace's count is odd, below 2 or above 32,768, or its two counts differ; a sample's number is out of range
- *   12  the rows do not fit what was lent
- *   13  the place or the end lies past the output, the end is below the place plus 8, or what is to be written does not fit from there on
+ *   11  a trace's count of samples is odd, under 2, over 32,768 or unlike the count that repeats it; or no sample has this number
+ *   12  the rows need more room than was lent
+ *   13  a place or an end isn't in the output, an end leaves no eight bytes behind its place, or the output has too little room
  *
  * What a caller must see to, since C cannot check it:
  *  - each pointer is valid for the length given with it, or for the length named here, and aligned for its type; a length of 0
@@ -29,13 +29,19 @@
 #include <stddef.h>
 #include <stdint.h>
 
+/* The version, as the file VERSION has it; CHANGELOG.md says what a caller must know of each. */
+#define DWJ_VERSION "0.4.0"
+#define DWJ_VERSION_MAJOR 0
+#define DWJ_VERSION_MINOR 4
+#define DWJ_VERSION_PATCH 0
+
 #ifdef __cplusplus
 extern "C" {
 #endif
 
 /* Table: checks the whole file and fills its rows, six numbers each:
  *   kind, start, length in bytes, number of the parent's row from 1 (0 at the top), value one, value two.
- * rows_length counts numbers, not rows. *count and *place are always written.
+ * rows_length counts numbers, not rows; 6 * (file_length / 8) are room for all rows of any file. *count and *place are always written.
  *   0   *count rows stand first in rows, the rest of it is unchanged, *place is file_length
  *   12  *count is the rows needed, *place is file_length, rows is unchanged
  *   else  *count is 0, *place is where the file is refused, rows is unchanged
@@ -44,10 +50,10 @@ uint32_t dwj_table(const uint8_t *file, size_t file_length, uint32_t *rows, size
 
 /* Record: the record or entry at a place of the file, without an event's rules. On 0 values[0] is the row kind, then the fields in
  * this order, then zeros up to twelve; *refused_at is unchanged. On a refusal values is unchanged and *refused_at is its place.
- *    3  phonon: code, tower, gain x100, QET bias x100, SQUID bias x100, lockpoint x100, RTF offset, variable gain, delta t, t0,
+ *    3  phonon: code, tower; gain, QET bias, SQUID bias and lockpoint, these four x100; RTF offset, variable gain, delta t, t0,
  *       trace length
- *    4  charge: code, tower, gain x100, bias, RTF offset, delta t, t0, trace length
- *    6  administrative: series LLYYMMDD, series HHMM, event number, event time, time since the last event (ms), live time (ms)
+ *    4  charge: code, tower, gain x100, bias, RTF offset, delta t, t0, length of a trace
+ *    6  administrative: the series as LLYYMMDD and HHMM, event number, event time, milliseconds since the last event, live milliseconds
  *    7  trace: base address, digitizer channel, detector code, t0 (ns), delta t (ns), count of samples
  *    8  history: count of veto times, where they start, words of a veto mask, where the masks start; the same four for the trigger;
  *       a start is a place of the file
@@ -75,7 +81,7 @@ void dwj_samples(const uint8_t *file, size_t file_length, size_t place, uint64_t
  */
 uint32_t dwj_sample(const uint8_t *file, size_t file_length, size_t place, size_t number, uint32_t *value, uint64_t *refused_at);
 
-/* Find: the first trace in file order whose event carries a number and whose code is a code. On 0 *place is its place, or 0 for
+/* Find: of the traces with a code in events with a number, the one that stands first in the file. On 0 *place is its place, or 0 for
  * nothing (no trace stands there); *refused_at is unchanged. On a refusal, which is the file's, *place is unchanged and *refused_at is the
  * refusal's place.
  */
@@ -145,7 +151,8 @@ uint32_t dwj_close_configuration(uint8_t *out, size_t out_length, size_t place, 
 uint32_t dwj_close_event(uint8_t *out, size_t out_length, size_t place, size_t end, uint32_t event_class, uint32_t category, uint32_t type, uint64_t *next, uint64_t *refused_at);
 
 /* Rewrite: an accepted file's fields, written again from byte 0 of the output on; what stands there then is the file, the output
- * behind it is unchanged, and *next is the file's length. 1 for either buffer, at 0; the file's refusal; 13 at 0 where the output is shorter than the file. The two must not overlap.
+ * behind it is unchanged, and *next is the file's length. 1 for either buffer, at 0; the file's refusal; 13 at 0 where the output is
+ * shorter than the file. The two must not overlap.
  */
 uint32_t dwj_rewrite(const uint8_t *file, size_t file_length, uint8_t *out, size_t out_length, uint64_t *next, uint64_t *refused_at);
 

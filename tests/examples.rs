@@ -1,6 +1,8 @@
 //! examples [DIR [limit]]: writes the example files into DIR (examples/ without one), and beside each its
 //! listing by the outside implementation; prints a line about each: name, size, the listing's first line.
-//! With `limit` it writes in their place one accepted file of exactly the listing's limit, with many rows.
+//! With `limit` it writes in their place two accepted files with many rows: limit.raw has exactly as many
+//! bytes as the listing program takes, long.raw has more (its listing is what it would list), traces far
+//! behind its first rows, and no entry.
 
 #[allow(dead_code)]
 #[path = "outside/aimed.rs"]
@@ -39,6 +41,9 @@ const DELTA_T: u32 = 800;
 const SAMPLES: u32 = 256;
 const T0: i32 = -51_200;
 
+/// Where the first event of every-kind.raw begins.
+const FIRST_EVENT: usize = 304;
+
 /// The most bytes that the listing program reads.
 const MOST_LISTED: usize = 16_384;
 
@@ -57,12 +62,14 @@ fn main() -> io::Result<()> {
     let folder = Path::new(folder.as_deref().unwrap_or("examples"));
     fs::create_dir_all(folder)?;
     let (every_kind, broken_word) = every_kind();
+    let long = long(&every_kind);
     let mut damaged = every_kind.clone();
     files::set_word(&mut damaged, broken_word, bcd(2010) << 16 | bcd(366));
     let files = if std::env::args().nth(2).as_deref() == Some("limit") {
         let limit = at_limit();
         assert_eq!(limit.len(), MOST_LISTED);
-        vec![("limit.raw", limit)]
+        assert!(long.len() > MOST_LISTED);
+        vec![("limit.raw", limit), ("long.raw", long)]
     } else {
         vec![
             ("p14.raw", aimed::p14()),
@@ -71,7 +78,6 @@ fn main() -> io::Result<()> {
         ]
     };
     for (name, bytes) in files {
-        assert!(bytes.len() <= MOST_LISTED);
         fs::write(folder.join(name), &bytes)?;
         let listing = listing(&reader::table(&bytes));
         fs::write(folder.join(name).with_extension("listing"), &listing)?;
@@ -141,6 +147,19 @@ fn at_limit() -> Vec<u8> {
         }
         bytes.extend(event(EVENT | RAW_SEARCH, &records));
     }
+    bytes
+}
+
+// 4,200 of the smallest events, and behind them those of every_kind, which begin behind its header and
+// its configuration.
+fn long(every_kind: &[u8]) -> Vec<u8> {
+    let mut bytes = words(&[MAGIC, VERSION]);
+    bytes.extend(configuration(&[]));
+    for number in 0..4_200 {
+        let records = [administrative(SERIES, 1_000 + number, number)];
+        bytes.extend(event(EVENT | RAW_SEARCH, &records));
+    }
+    bytes.extend(&every_kind[FIRST_EVENT..]);
     bytes
 }
 

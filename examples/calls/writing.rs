@@ -1,6 +1,8 @@
-//! writing FILE: the writers' calls from Rust, over the static library. It assembles document 01's P14, which FILE holds, and
-//! then a file with an entry or a record of each kind. README.md shows lines of it; tests/snippets compiles it, runs it on
-//! examples/p14.raw and compares what it prints with writing.expected.
+//! writing FILE: every call of the writers, from Rust. It assembles a small file in memory, which has each kind once, and writes FILE,
+//! any file, again from its fields. Exit status: 0 done, 1 refused, 2 no file. docs/CALLS.md shows lines of it; tests/snippets
+//! compiles it and runs it; writing.expected is what it prints of examples/every-kind.raw.
+
+use std::process::ExitCode;
 
 // As in include/dwejrasq.h. A lent array or number is a reference; an output and a part handed over are a pointer and a length.
 #[rustfmt::skip]
@@ -24,71 +26,84 @@ extern "C" {
     fn dwj_table(file: *const u8, length: usize, rows: *mut u32, rows_length: usize, count: &mut u64, place: &mut u64) -> u32;
 }
 
-/// A refusal's number and place.
-#[derive(Debug)]
-struct Refusal(u32, u64);
+/// The call that was refused, its number and its place.
+struct Refusal(&'static str, u32, u64);
 
-// What a writer's call answers: the next place, or its refusal.
-fn told(call: impl FnOnce(&mut u64, &mut u64) -> u32) -> Result<usize, Refusal> {
+// What a writer's call answers: the place behind what it wrote, or its refusal.
+fn told(name: &'static str, call: impl FnOnce(&mut u64, &mut u64) -> u32) -> Result<usize, Refusal> {
     let (mut next, mut refused_at) = (0, 0);
     match call(&mut next, &mut refused_at) {
         0 => Ok(next as usize),
-        number => Err(Refusal(number, refused_at)),
+        number => Err(Refusal(name, number, refused_at)),
+    }
+}
+
+// A file in an output: its length, or the first refusal, after which nothing more is written. A container is closed over eight free
+// bytes and what was written behind them.
+#[rustfmt::skip]
+fn assembled(output: &mut [u8]) -> Result<usize, Refusal> {
+    let (out, room, call) = (output.as_mut_ptr(), output.len(), "assembling");
+    let start = told(call, |next, refused| unsafe { dwj_write_header(out, room, 1, 0, next, refused) })?;
+
+    // A configuration of two entries.
+    let phonon = [11_017_002, 2, 1_050, 325, -333, 0, 7, 2, 800, -51_200, 4];
+    let charge = [11_017_006, 2, 4_001, -3_000, 9, 800, -51_200, 4];
+    let at = told(call, |next, refused| unsafe { dwj_write_phonon(out, room, start + 8, &phonon, next, refused) })?;
+    let at = told(call, |next, refused| unsafe { dwj_write_charge(out, room, at, &charge, next, refused) })?;
+    let start = told(call, |next, refused| unsafe { dwj_close_configuration(out, room, start, at, next, refused) })?;
+
+    // An event of all six record kinds, administrative first; lent bytes stand as in a file.
+    let administrative = [1_100_115, 1_630, 7, 1_263_573_000, 0, 0];
+    let (samples, time, mask) = ([0xD0, 0x07, 0xD1, 0x07, 0xD3, 0x07, 0xD0, 0x07], [0x88, 0xFF, 0xFF, 0xFF], [0x01, 0x00, 0x00, 0x00]);
+    let (samples, time, mask) = (samples.as_ptr(), time.as_ptr(), mask.as_ptr());
+    let (gps, trigger) = ([2010, 15, 0, 16, 30, 0, 1_234_567], [4, 16, 0, 0, 0, 0]);
+    let tlb = [0x0100_0004, 0x0200_0000, 0x0300_0000, 0x0400_0000, 0x0500_0000, 0];
+    let at = told(call, |next, refused| unsafe { dwj_write_administrative(out, room, start + 8, &administrative, next, refused) })?;
+    let at = told(call, |next, refused| unsafe { dwj_write_trace(out, room, at, 0xA000, 1, 11_017_002, -51_200, 800, 4, samples, 8, next, refused) })?;
+    let at = told(call, |next, refused| unsafe { dwj_write_history(out, room, at, 1, time, 4, 1, mask, 4, 0, mask, 0, 0, mask, 0, next, refused) })?;
+    let at = told(call, |next, refused| unsafe { dwj_write_gps(out, room, at, &gps, next, refused) })?;
+    let at = told(call, |next, refused| unsafe { dwj_write_trigger(out, room, at, &trigger, next, refused) })?;
+    let at = told(call, |next, refused| unsafe { dwj_write_tlb(out, room, at, &tlb, next, refused) })?;
+    told(call, |next, refused| unsafe { dwj_close_event(out, room, start, at, 0, 0, 0, next, refused) })
+}
+
+fn main() -> ExitCode {
+    let Some(bytes) = std::env::args_os().nth(1).and_then(|name| std::fs::read(name).ok()) else {
+        eprintln!("writing: a file that can be read is asked for");
+        return ExitCode::from(2);
+    };
+    match write(&bytes) {
+        Ok(()) => ExitCode::SUCCESS,
+        Err(Refusal(call, number, place)) => {
+            println!("{call}: refused, number {number} at byte {place}");
+            ExitCode::from(1)
+        }
     }
 }
 
 #[rustfmt::skip]
-fn main() -> Result<(), Refusal> {
-    let name = std::env::args().nth(1).expect("a file's name");
-    let file = std::fs::read(name).expect("a file that can be read");
-    let mut bytes = vec![0; 4096];
-    let (out, room) = (bytes.as_mut_ptr(), bytes.len());
-
-    // P14: the header; a configuration of nothing but its own eight bytes; an event's records behind eight free bytes, and its
-    // closing. Each call gives the place behind what it wrote; a refusal ends it.
-    let administrative = [1_100_115, 1_630, 7, 1_263_573_000, 0, 0];
-    let towers = [0x0100_0004, 0x0200_0000, 0x0300_0000, 0x0400_0000, 0x0500_0000, 0];
-    let at = told(|next, refused| unsafe { dwj_write_header(out, room, 1, 0, next, refused) })?;
-    let event = told(|next, refused| unsafe { dwj_close_configuration(out, room, at, at + 8, next, refused) })?;
-    let at = told(|next, refused| unsafe { dwj_write_administrative(out, room, event + 8, &administrative, next, refused) })?;
-    let at = told(|next, refused| unsafe { dwj_write_tlb(out, room, at, &towers, next, refused) })?;
-    let at = told(|next, refused| unsafe { dwj_close_event(out, room, event, at, 0, 0, 0, next, refused) })?;
-    println!("P14: number 0, {at} bytes, as in the file: {}", u32::from(bytes[..at] == file[..]));
-
-    // Entries in a configuration.
-    let phonon = [11_017_002, 2, 1_050, 325, -333, 0, 7, 2, 800, -51_200, 4];
-    let charge = [11_017_006, 2, 4_001, -3_000, 9, 800, -51_200, 4];
-    let out = bytes.as_mut_ptr();
-    let at = told(|next, refused| unsafe { dwj_write_phonon(out, room, 16, &phonon, next, refused) })?;
-    let at = told(|next, refused| unsafe { dwj_write_charge(out, room, at, &charge, next, refused) })?;
-    let event = told(|next, refused| unsafe { dwj_close_configuration(out, room, 8, at, next, refused) })?;
-
-    // A trace of four samples, a history of one veto time and its mask, GPS and trigger; lent bytes stand as in a file.
-    let (trace, time, mask) = ([0xD0, 0x07, 0xD1, 0x07, 0xD3, 0x07, 0xD0, 0x07], [0x88, 0xFF, 0xFF, 0xFF], [1, 0, 0, 0]);
-    let (samples, time, mask) = (trace.as_ptr(), time.as_ptr(), mask.as_ptr());
-    let (gps, trigger) = ([2010, 15, 0, 16, 30, 0, 1_234_567], [4, 16, 0, 0, 0, 0]);
-    let at = told(|next, refused| unsafe { dwj_write_administrative(out, room, event + 8, &administrative, next, refused) })?;
-    let at = told(|next, refused| unsafe { dwj_write_trace(out, room, at, 0xA000, 1, 11_017_002, -51_200, 800, 4, samples, 8, next, refused) })?;
-    let at = told(|next, refused| unsafe { dwj_write_history(out, room, at, 1, time, 4, 1, mask, 4, 0, mask, 0, 0, mask, 0, next, refused) })?;
-    let at = told(|next, refused| unsafe { dwj_write_gps(out, room, at, &gps, next, refused) })?;
-    let at = told(|next, refused| unsafe { dwj_write_trigger(out, room, at, &trigger, next, refused) })?;
-    let at = told(|next, refused| unsafe { dwj_close_event(out, room, event, at, 0, 0, 0, next, refused) })?;
-    println!("every kind: number 0, {at} bytes");
+fn write(file: &[u8]) -> Result<(), Refusal> {
+    // 13: what is written doesn't fit, so the output is made larger and written anew. Over 16,777,216 bytes it would be 1.
+    let mut out = vec![0; 128];
+    let end = loop {
+        match assembled(&mut out) {
+            Err(Refusal(_, 13, _)) => out = vec![0; 2 * out.len()],
+            answer => break answer?,
+        }
+    };
 
     // The reader takes it.
-    let (mut rows, mut count, mut place) = (vec![[0u32; 6]; 64], 0, 0);
-    let number = unsafe { dwj_table(out, at, rows.as_mut_ptr().cast(), 6 * rows.len(), &mut count, &mut place) };
-    println!("table: number {number}, {count} rows, place {place}");
-
-    // A refusal: three samples are no trace; the output is as it was.
-    let wrong = told(|next, refused| unsafe { dwj_write_trace(out, room, at, 0xA000, 1, 11_017_002, -51_200, 800, 3, samples, 6, next, refused) });
-    if let Err(Refusal(number, place)) = wrong {
-        println!("refusal: number {number} at byte {place}");
+    let (mut rows, mut count, mut place) = (vec![[0u32; 6]; end / 8], 0, 0);
+    match unsafe { dwj_table(out.as_ptr(), end, rows.as_mut_ptr().cast(), 6 * rows.len(), &mut count, &mut place) } {
+        0 => println!("assembled: {end} bytes, {count} rows"),
+        number => return Err(Refusal("table", number, place)),
     }
 
-    // Rewrite: the file's fields, read and written into another output.
-    let mut again = vec![0; at];
-    let end = told(|next, refused| unsafe { dwj_rewrite(out, at, again.as_mut_ptr(), again.len(), next, refused) })?;
-    println!("rewrite: number 0, {end} bytes, the same file: {}", u32::from(again == bytes[..at]));
+    // Rewrite: the file's fields, read and written again; an output as long as the file is enough.
+    let mut again = vec![0; file.len()];
+    let end = told("rewrite", |next, refused| unsafe {
+        dwj_rewrite(file.as_ptr(), file.len(), again.as_mut_ptr(), again.len(), next, refused)
+    })?;
+    println!("rewritten: {end} bytes, {}", if again == file { "the same" } else { "another file" });
     Ok(())
 }

@@ -19,7 +19,7 @@
 //! Rewrite: into an output made once, whose pages have been touched; against the outside
 //! implementation, which makes vectors of rows and of each record's words, and against memcpy.
 //!
-//! Table beside a C reader (peer.c): a plain reader of the whole of document 01 in C, as each compiler at
+//! Table beside a C reader (peer.c): a plain reader of the whole format in C, as each compiler at
 //! hand builds it, on files of five shapes; it reads a file once, and may leave rows behind under a
 //! refusal. All sides fill one row buffer. The check alone is the same call without room for a row. The
 //! goal is asked against the faster of this machine's own compilers; the clang that built the exports
@@ -501,7 +501,7 @@ fn main() {
     print_case("(c) a small file", &file, None);
     print_further(&file, None, None);
 
-    println!("Table beside a C reader of the whole of document 01 (peer.c, -O3): the middle of the rounds and the best");
+    println!("Table beside a C reader of the whole format (peer.c, -O3): the middle of the rounds and the best");
     let file = events_with_traces(most_events(2_048), 2_048);
     print_peers("(1) traces of 2,048 samples to 16 MiB", &file, PEER_GOAL);
     print_peers("(2) mixed records to 16 MiB", &mixed_records(), PEER_GOAL);

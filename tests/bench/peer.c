@@ -1,7 +1,7 @@
 /*
  * A reader of raw event files in plain C: the speed peer of the library's Table.
  *
- * Written from document 01 alone, by hand and for speed: one pass over the file, rows stored on the way, nothing
+ * Written from the format's rules alone (docs/FORMAT.md), by hand and for speed: one pass over the file, rows stored on the way, nothing
  * allocated. A refused file may leave rows behind in the caller's buffer. The machine is taken to be little-endian.
  */
 #include <stddef.h>

@@ -1,4 +1,4 @@
-//! The walker: a file's rows one at a time, then the end; over a refused file its refusal; and
+//! The walker: row by row through a file, and the end behind them; a refused file's refusal; and
 //! what a call does with numbers that no walker has.
 
 use super::compare::{alike, lent, part_shown, pattern_array, place_shown};

@@ -1,4 +1,4 @@
-//! Files aimed at one boundary of one rule each, with the answer that document 01 asks for.
+//! Files aimed at one boundary of one rule each, with the answer that docs/FORMAT.md asks for.
 
 use super::files::{
     bcd, configuration, event, header, last_day, set_word, structure, structure_of,
@@ -28,13 +28,13 @@ struct Cases {
 }
 
 impl Cases {
-    // Section "Numbers given back", 0: accepted; place is the file's length.
+    // FORMAT 2.1, number 0: accepted, at the file's length.
     fn accepted(&mut self, name: impl Into<String>, bytes: Vec<u8>) {
         let place = bytes.len() as u64;
         self.refused(name, bytes, 0, place);
     }
 
-    // Section "Numbers given back": refused with a number at a place.
+    // FORMAT 2.2: refused with a number at a place.
     fn refused(&mut self, name: impl Into<String>, bytes: Vec<u8>, number: u32, place: u64) {
         self.list.push(Case {
             name: name.into(),
@@ -44,7 +44,7 @@ impl Cases {
         });
     }
 
-    // Section "Numbers given back": number 0 means accepted.
+    // FORMAT 2.1: number 0 means accepted.
     fn answered(&mut self, name: impl Into<String>, bytes: Vec<u8>, number: u32, place: u64) {
         if number == 0 {
             self.accepted(name, bytes);
@@ -53,13 +53,13 @@ impl Cases {
         }
     }
 
-    // Section "Numbers given back", 10: accepted, or a field outside its rule.
+    // FORMAT 2.2, number 10: accepted, or refused so.
     fn field(&mut self, name: impl Into<String>, bytes: Vec<u8>, fine: bool, place: u64) {
         self.answered(name, bytes, if fine { 0 } else { 10 }, place);
     }
 }
 
-// Section "Numbers given back": every boundary of every rule.
+// FORMAT 2.2: every boundary of every rule.
 pub fn aimed() -> Vec<Case> {
     let mut cases = Cases { list: Vec::new() };
     example_cases(&mut cases);
@@ -94,40 +94,40 @@ pub fn aimed() -> Vec<Case> {
     cases.list
 }
 
-// Section "Words and nesting": header, empty configuration, events.
+// FORMAT 6.5: header, empty configuration, events.
 fn with_events(events: &[Vec<u8>]) -> Vec<u8> {
     [header(), configuration(&[]), events.concat()].concat()
 }
 
-// Section "Words and nesting": a file of one event with these records.
+// FORMAT 6.5: a file of one event with these records.
 fn with_records(records: &[Vec<u8>]) -> Vec<u8> {
     with_events(&[event(EVENT, records)])
 }
 
-// Section "Words and nesting": a file whose one event has this record after the first.
+// FORMAT 6.2: a file whose one event has this record after the first.
 pub fn with_record(record: Vec<u8>) -> Vec<u8> {
     with_records(&[good_administrative(), record])
 }
 
-// Section "Words and nesting": a file whose configuration has this entry and no events.
+// FORMAT 6.3: a file whose configuration has this entry and no events.
 fn with_entry(entry: Vec<u8>) -> Vec<u8> {
     [header(), configuration(&[entry])].concat()
 }
 
-// Section "Words and nesting": these bytes with one word changed.
+// FORMAT 1.2: these bytes with one word changed.
 fn with_word(mut bytes: Vec<u8>, place: u64, value: u32) -> Vec<u8> {
     set_word(&mut bytes, place as usize, value);
     bytes
 }
 
-// Section "Words and nesting": a list of words with one of them changed.
+// FORMAT 1.2: a list of words with one of them changed.
 fn replaced(list: &[u32], number: usize, value: u32) -> Vec<u32> {
     let mut changed = list.to_vec();
     changed[number] = value;
     changed
 }
 
-// Section "Words and nesting": a phonon entry's words.
+// FORMAT 4.1: a phonon entry's words.
 fn phonon_words() -> Vec<u32> {
     let squid_bias = 0u32.wrapping_sub(333);
     let t0 = 0u32.wrapping_sub(410_000);
@@ -136,19 +136,19 @@ fn phonon_words() -> Vec<u32> {
     ]
 }
 
-// Section "Words and nesting": a charge entry's words.
+// FORMAT 4.2: a charge entry's words.
 fn charge_words() -> Vec<u32> {
     let bias = 0u32.wrapping_sub(3_000);
     let t0 = 0u32.wrapping_sub(410_000);
     vec![11_017_006, 2, 4_001, bias, 9, 800, t0, 2_048]
 }
 
-// Section "Examples to hold to", P14: the administrative record's words.
+// FORMAT 10.1: P14: the administrative record's words.
 fn administrative_words() -> Vec<u32> {
     vec![1_100_115, 1_630, 7, 1_263_573_000, 0, 0]
 }
 
-// Section "The six records": a trace's words with two samples.
+// FORMAT 5.2: a trace's words with two samples.
 fn trace_words() -> Vec<u32> {
     let t0 = 0u32.wrapping_sub(1_000);
     let samples = 0x0304_0102;
@@ -157,22 +157,22 @@ fn trace_words() -> Vec<u32> {
     ]
 }
 
-// Section "The six records": a history's words with both sections.
+// FORMAT 5.3: a history's words with both sections.
 fn history_words() -> Vec<u32> {
     vec![1, MINUS_ONE, 1, 0xF0, 1, 5, 6, 1, 2, 3, 4, 5, 6]
 }
 
-// Section "Examples to hold to", P8: a GPS record's words.
+// FORMAT 10.1: P8: a GPS record's words.
 fn gps_words() -> Vec<u32> {
     vec![0x2005_0320, 0x0011_1526, 0x0200_0000]
 }
 
-// Section "The six records": a trigger's words.
+// FORMAT 5.5: a trigger's words.
 fn trigger_words() -> Vec<u32> {
     vec![0, 0x11, 0x22, 0x33, 0x44, 0x55, 0x66]
 }
 
-// Section "Examples to hold to", P14: the TLB mask's words.
+// FORMAT 10.1: P14: the TLB mask's words.
 fn tlb_words() -> Vec<u32> {
     vec![
         0x0100_0004,
@@ -184,7 +184,7 @@ fn tlb_words() -> Vec<u32> {
     ]
 }
 
-// Sections "Words and nesting" and "The six records": the good words of a kind.
+// FORMAT 4, 5: the good words of a kind.
 fn good_words(kind: u32) -> Vec<u32> {
     match kind {
         PHONON => phonon_words(),
@@ -198,22 +198,22 @@ fn good_words(kind: u32) -> Vec<u32> {
     }
 }
 
-// Sections "Words and nesting" and "The six records": a good structure of a kind.
+// FORMAT 4, 5: a good structure of a kind.
 fn good(kind: u32) -> Vec<u8> {
     structure_of(kind, &good_words(kind))
 }
 
-// Section "Examples to hold to", P14: the administrative record.
+// FORMAT 10.1: P14: the administrative record.
 fn good_administrative() -> Vec<u8> {
     good(ADMINISTRATIVE)
 }
 
-// Section "Words and nesting": a good event of 40 bytes.
+// FORMAT 6.2: a good event of 40 bytes.
 fn good_event() -> Vec<u8> {
     event(EVENT, &[good_administrative()])
 }
 
-// Section "The six records": a kind's name in the cases' names.
+// FORMAT 5: a kind's name in the cases' names.
 fn kind_name(kind: u32) -> &'static str {
     match kind {
         PHONON => "phonon",
@@ -227,7 +227,7 @@ fn kind_name(kind: u32) -> &'static str {
     }
 }
 
-// Section "The six records": a word of this kind, from 0, that breaks its rule when it takes
+// FORMAT 5: a word of this kind, from 0, that breaks its rule when it takes
 // this value; the number is 10 each time.
 fn bad_word(kind: u32) -> (usize, u32) {
     match kind {
@@ -241,18 +241,18 @@ fn bad_word(kind: u32) -> (usize, u32) {
     }
 }
 
-// Section "Numbers given back": a structure of a kind with one word against its rule.
+// FORMAT 2.2: a structure of a kind with one word against its rule.
 fn faulty(kind: u32) -> Vec<u8> {
     let (number, value) = bad_word(kind);
     structure_of(kind, &replaced(&good_words(kind), number, value))
 }
 
-// Section "Examples to hold to", P14: the file of 88 bytes.
+// FORMAT 10.1: P14: the file of 88 bytes.
 pub fn p14() -> Vec<u8> {
     with_records(&[good_administrative(), good(TLB)])
 }
 
-// Section "Examples to hold to": P14, cut to every length.
+// FORMAT 10.1: P14, cut to every length.
 fn example_cases(cases: &mut Cases) {
     let whole = p14();
     cases.accepted("p14", whole.clone());
@@ -268,7 +268,7 @@ fn example_cases(cases: &mut Cases) {
     }
 }
 
-// Section "Words and nesting": the file header's two words.
+// FORMAT 6.4: the file header's two words.
 fn header_cases(cases: &mut Cases) {
     for length in 1..8 {
         cases.refused(format!("header-{length}-zeros"), vec![0; length], 2, 0);
@@ -326,7 +326,7 @@ fn header_cases(cases: &mut Cases) {
     );
 }
 
-// Section "Words and nesting": the configuration, exactly one, at byte 8.
+// FORMAT 6.3: the configuration, exactly one, at byte 8.
 fn configuration_cases(cases: &mut Cases) {
     let empty = with_events(&[]);
     cases.accepted("configuration-empty", empty.clone());
@@ -384,7 +384,7 @@ fn configuration_cases(cases: &mut Cases) {
     cases.refused("configuration-length-past-file-by-1", swallowing, 2, 8);
 }
 
-// Section "Words and nesting": the entries of a configuration.
+// FORMAT 6.3: the entries of a configuration.
 fn entry_cases(cases: &mut Cases) {
     for kind in [PHONON, CHARGE] {
         let name = kind_name(kind);
@@ -478,7 +478,7 @@ fn entry_cases(cases: &mut Cases) {
     );
 }
 
-// Section "Channels": P, Q or V for a listed type and channel, by the first letter of its name.
+// FORMAT 3.2: P, Q or V for a listed type and channel, by the first letter of its name.
 fn letter(detector_type: u32, channel: u32) -> Option<char> {
     match (detector_type, channel) {
         (1, 1 | 2) | (2 | 4 | 5 | 6, 0 | 1) | (7, 0) | (10 | 11, 0 | 1 | 6 | 7) => Some('Q'),
@@ -489,7 +489,7 @@ fn letter(detector_type: u32, channel: u32) -> Option<char> {
     }
 }
 
-// Section "Channels": the first channel number past a type's list.
+// FORMAT 3.2: the first channel number past a type's list.
 fn past_list(detector_type: u32) -> u32 {
     match detector_type {
         1 => 5,
@@ -500,7 +500,7 @@ fn past_list(detector_type: u32) -> u32 {
     }
 }
 
-// Sections "Words and nesting" and "Channels": a code in an entry of each kind and in a trace.
+// FORMAT 3.2, 4.1, 4.2: a code in an entry of each kind and in a trace.
 fn code_case(cases: &mut Cases, code: u32, first_letter: Option<char>) {
     for kind in [PHONON, CHARGE] {
         let bytes = with_entry(structure_of(kind, &replaced(&good_words(kind), 0, code)));
@@ -517,7 +517,7 @@ fn code_case(cases: &mut Cases, code: u32, first_letter: Option<char>) {
     );
 }
 
-// Section "Channels": every type around its list, and codes that are no codes.
+// FORMAT 3.2: every type around its list, and codes that are no codes.
 fn code_cases(cases: &mut Cases) {
     for detector_type in (0..=13).chain([999]) {
         for channel in 0..=past_list(detector_type) {
@@ -563,7 +563,7 @@ fn code_cases(cases: &mut Cases) {
     }
 }
 
-// Section "Words and nesting": an event's first word: 0xA980, class, category, type.
+// FORMAT 6.2: an event's first word: 0xA980, class, category, type.
 fn event_word_cases(cases: &mut Cases) {
     let base = with_events(&[good_event()]);
     let mut word_case = |first_word: u32, number: u32| {
@@ -607,7 +607,7 @@ fn event_word_cases(cases: &mut Cases) {
     word_case(EVENT | 0x120B, 7);
 }
 
-// Section "Numbers given back": an event's length, 2 and 9, and what comes before them.
+// FORMAT 6.2: an event's length, 2 and 9, and what comes before them.
 fn event_length_cases(cases: &mut Cases) {
     let second = good_event();
     for (name, first_word, number) in [
@@ -683,7 +683,7 @@ fn event_length_cases(cases: &mut Cases) {
     cases.accepted("event-three", three);
 }
 
-// Section "Words and nesting": the first record is administrative.
+// FORMAT 6.2: the first record is administrative.
 fn first_record_cases(cases: &mut Cases) {
     for kind in RECORD_KINDS {
         let name = kind_name(kind);
@@ -730,7 +730,7 @@ fn first_record_cases(cases: &mut Cases) {
     }
 }
 
-// Section "Words and nesting": every kind but trace occurs at most once in an event.
+// FORMAT 6.2: a second record of each kind, which only a trace may have.
 fn repeated_kind_cases(cases: &mut Cases) {
     for kind in RECORD_KINDS {
         let name = kind_name(kind);
@@ -792,7 +792,7 @@ fn repeated_kind_cases(cases: &mut Cases) {
     cases.accepted("all-kinds-three-traces", with_records(&all));
 }
 
-// Section "Numbers given back", 5: kinds that are no records.
+// FORMAT 6.1, number 5: kinds that are no records.
 fn record_kind_cases(cases: &mut Cases) {
     let strangers = [
         0,
@@ -845,7 +845,7 @@ fn record_kind_cases(cases: &mut Cases) {
     }
 }
 
-// Section "Numbers given back", 2: strays of 1 to 7 bytes after the last structure.
+// FORMAT 2.3, number 2: strays of 1 to 7 bytes after the last structure.
 fn stray_cases(cases: &mut Cases) {
     for count in 1..8 {
         let zeros = vec![0; count];
@@ -897,7 +897,7 @@ fn stray_cases(cases: &mut Cases) {
     );
 }
 
-// Section "Numbers given back", 2 and 6: a record's length.
+// FORMAT 2.3, numbers 2 and 6: a record's length.
 fn record_length_cases(cases: &mut Cases) {
     for kind in [ADMINISTRATIVE, GPS, TRIGGER, TLB] {
         let name = kind_name(kind);
@@ -959,7 +959,7 @@ fn record_length_cases(cases: &mut Cases) {
     }
 }
 
-// Section "The six records": LLYYMMDD.
+// FORMAT 5.1: LLYYMMDD.
 fn series_date_cases(cases: &mut Cases) {
     let mut date_case = |series: u32, fine: bool| {
         let record = structure_of(
@@ -1011,7 +1011,7 @@ fn series_date_cases(cases: &mut Cases) {
     }
 }
 
-// Section "The six records": HHMM.
+// FORMAT 5.1: HHMM.
 fn series_time_cases(cases: &mut Cases) {
     let mut time_case = |series: u32, fine: bool| {
         let record = structure_of(
@@ -1055,7 +1055,7 @@ fn series_time_cases(cases: &mut Cases) {
     cases.refused("series-both-wrong", with_records(&[both]), 10, FIRST_PLACE);
 }
 
-// Section "The six records": each word of a trace, alone.
+// FORMAT 5.2: each word of a trace, alone.
 fn trace_word_cases(cases: &mut Cases) {
     let mut word_case = |number: usize, value: u32, answer: u32| {
         let bytes = with_record(structure_of(
@@ -1103,7 +1103,7 @@ fn trace_word_cases(cases: &mut Cases) {
     }
 }
 
-// Section "Numbers given back", 11 and 6: the two counts of a trace.
+// FORMAT 5.2, numbers 11 and 6: the two counts of a trace.
 fn trace_count_cases(cases: &mut Cases) {
     for count in [
         0,
@@ -1165,7 +1165,7 @@ fn trace_count_cases(cases: &mut Cases) {
     }
 }
 
-// Section "Numbers given back", 6: a trace's length, below 48 and against 48 + 2n.
+// FORMAT 5.2, number 6: a trace's length, below 48 and against 48 + 2n.
 fn trace_length_cases(cases: &mut Cases) {
     let good_body = words(&trace_words());
     for length in [
@@ -1213,7 +1213,7 @@ fn trace_length_cases(cases: &mut Cases) {
     cases.refused("trace-bookkeeping-only", bytes, 6, SECOND_PLACE);
 }
 
-// Section "Numbers given back": a trace's words in order; every two faults of one trace.
+// FORMAT 5.2: a trace's words in order; every two faults of one trace.
 fn trace_order_cases(cases: &mut Cases) {
     let faults = [
         (0, 0x12, 5),
@@ -1247,13 +1247,13 @@ fn trace_order_cases(cases: &mut Cases) {
     }
 }
 
-// Section "Numbers given back": a history of these words.
+// FORMAT 5.3: a history of these words.
 fn history_case(cases: &mut Cases, name: &str, list: &[u32], number: u32) {
     let bytes = with_record(structure_of(HISTORY, list));
     cases.answered(format!("history-{name}"), bytes, number, SECOND_PLACE);
 }
 
-// Section "Numbers given back": a history's length below 16 or no multiple of 4.
+// FORMAT 5.3: lengths of a history that are too short, or no whole words.
 fn history_length_cases(cases: &mut Cases) {
     for length in [0, 1, 4, 8, 12, 13, 14, 15, 17, 18, 19, 21, 22, 23] {
         let zeros = with_record(structure(HISTORY, &vec![0; length]));
@@ -1292,7 +1292,7 @@ fn history_length_cases(cases: &mut Cases) {
     }
 }
 
-// Section "The six records": histories with sections missing or not, all small counts.
+// FORMAT 5.3: histories with sections missing or not, all small counts.
 fn history_shape_cases(cases: &mut Cases) {
     for nvt in 0..=3u32 {
         let widths = if nvt == 0 { 0..=0 } else { 1..=3 };
@@ -1328,7 +1328,7 @@ fn history_shape_cases(cases: &mut Cases) {
     history_case(cases, "minus-ones", &[1, MINUS_ONE, 1, MINUS_ONE, 0, 0], 0);
 }
 
-// Section "Numbers given back", 10: a count negative or against the missing rule.
+// FORMAT 5.3, number 10: negative counts, and a section that has one count of two.
 fn history_count_cases(cases: &mut Cases) {
     let negatives = [MINUS_ONE, 0xFFFF_FFFA, 0x8000_0000, 0x8000_0001];
     for (at, count) in negatives.iter().enumerate() {
@@ -1404,7 +1404,7 @@ fn history_count_cases(cases: &mut Cases) {
     }
 }
 
-// Section "Numbers given back", 6: a needed word past the end, or words left over.
+// FORMAT 5.3, number 6: words missing at the end, and words too many.
 fn history_end_cases(cases: &mut Cases) {
     history_case(cases, "nvt-3-width-past-end", &[3, 0, 0, 0], 6);
     history_case(cases, "nvt-4-times-past-end", &[4, 0, 0, 0], 6);
@@ -1430,7 +1430,7 @@ fn history_end_cases(cases: &mut Cases) {
     history_case(cases, "nvt-5-past-end", &[5, 0, 0, 0], 6);
 }
 
-// Section "The six records": counts whose sums or products pass 32 bits.
+// FORMAT 5.3: counts whose sums or products pass 32 bits.
 fn history_wrap_cases(cases: &mut Cases) {
     for nvt in [
         0x1000_0000,
@@ -1498,13 +1498,13 @@ fn history_wrap_cases(cases: &mut Cases) {
     history_case(cases, "wrap-ntt-2aaaaaab", &six, 6);
 }
 
-// Section "The six records": a GPS record of these words.
+// FORMAT 5.4: a GPS record of these words.
 fn gps_case(cases: &mut Cases, name: String, list: &[u32], fine: bool) {
     let bytes = with_record(structure_of(GPS, list));
     cases.field(format!("gps-{name}"), bytes, fine, SECOND_PLACE);
 }
 
-// Section "The six records", GPS: digits A to F, the status digit and the zero digit.
+// FORMAT 5.4: digits A to F, the status digit and the zero digit.
 fn gps_digit_cases(cases: &mut Cases) {
     for number in 0..3 {
         for digit in 0..8 {
@@ -1534,7 +1534,7 @@ fn gps_digit_cases(cases: &mut Cases) {
     }
 }
 
-// Section "The six records", GPS: day 1 to 365, 366 in a Gregorian leap year.
+// FORMAT 5.4: the days at both ends of years of every sort.
 fn gps_day_cases(cases: &mut Cases) {
     let leap = [0, 4, 400, 1600, 1996, 2000, 2004, 2400, 9996];
     let common = [
@@ -1568,7 +1568,7 @@ fn gps_day_cases(cases: &mut Cases) {
     }
 }
 
-// Section "The six records", GPS: hour, minute, second and tenths.
+// FORMAT 5.4: hour, minute, second and tenths.
 fn gps_clock_cases(cases: &mut Cases) {
     for (clock, fine) in [
         (0x00_0000, true),
@@ -1617,7 +1617,7 @@ fn gps_clock_cases(cases: &mut Cases) {
     }
 }
 
-// Section "The six records": trigger, time 0, masks free.
+// FORMAT 5.5: trigger, time 0, masks free.
 fn trigger_cases(cases: &mut Cases) {
     for time in [
         0,
@@ -1647,7 +1647,7 @@ fn trigger_cases(cases: &mut Cases) {
     }
 }
 
-// Section "The six records": TLB mask, word i is zero or has top byte i.
+// FORMAT 5.6: each word of a TLB mask against its tower.
 fn tlb_cases(cases: &mut Cases) {
     for tower in 1..=6u32 {
         let mut mask_case = |value: u32, fine: bool| {
@@ -1680,7 +1680,7 @@ fn tlb_cases(cases: &mut Cases) {
     cases.accepted("tlb-all-zero", zeros);
 }
 
-// Section "Words and nesting": a file of 396 bytes with every kind and two events.
+// FORMAT 6.5: a file of 396 bytes with every kind and two events.
 pub fn full() -> Vec<u8> {
     let all: Vec<Vec<u8>> = RECORD_KINDS.iter().map(|kind| good(*kind)).collect();
     [
@@ -1692,7 +1692,7 @@ pub fn full() -> Vec<u8> {
     .concat()
 }
 
-// Section "Numbers given back": the first fault in file order; every two faults of one file.
+// FORMAT 2.2: the first fault in file order; every two faults of one file.
 fn first_fault_cases(cases: &mut Cases) {
     cases.accepted("full", full());
     let faults = [

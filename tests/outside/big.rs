@@ -6,7 +6,7 @@ use super::aimed::{p14, with_record};
 use super::files::{structure_of, HISTORY, TRACE};
 use super::reader::{table, MOST_BYTES};
 
-// Section "The six records": a trace whose two counts are n, with n samples.
+// FORMAT 5.2: a trace whose two counts are n, with n samples.
 pub fn trace_of(n: u32) -> Vec<u8> {
     let mut body = vec![
         0x11, 12, 0xA000, 1, 11_017_006, 0x12, 12, 0, 800, n, 0x13, n,
@@ -15,7 +15,7 @@ pub fn trace_of(n: u32) -> Vec<u8> {
     structure_of(TRACE, &body)
 }
 
-// Section "Covered and left to others": one event of traces that fills a file to the limit:
+// FORMAT 1.1: one event of traces that fills a file to the limit:
 // 255 traces of 32,768 samples and one of 25,572.
 pub fn full_of_traces() -> Vec<u8> {
     let mut records = Vec::new();
@@ -26,7 +26,7 @@ pub fn full_of_traces() -> Vec<u8> {
     with_record(records)
 }
 
-// Section "Covered and left to others": one history that fills a file to the limit: nvt times,
+// FORMAT 1.1: one history that fills a file to the limit: nvt times,
 // one mask each, no triggers.
 pub fn full_of_history() -> Vec<u8> {
     let nvt = 2_097_142;
@@ -38,13 +38,13 @@ pub fn full_of_history() -> Vec<u8> {
     with_record(structure_of(HISTORY, &body))
 }
 
-// Section "Examples to hold to": the same bytes with one more.
+// FORMAT 10.1: the same bytes with one more.
 fn one_more(mut bytes: Vec<u8>) -> Vec<u8> {
     bytes.push(0);
     bytes
 }
 
-// Section "Numbers given back": the answers for big files, by name.
+// FORMAT 2.2: the answers for big files, by name.
 pub fn answers(text: &mut String) -> bool {
     answer(text, "trace-of-32768", &with_record(trace_of(32_768)));
     answer(text, "trace-of-32770", &with_record(trace_of(32_770)));
@@ -61,7 +61,7 @@ pub fn answers(text: &mut String) -> bool {
     true
 }
 
-// Section "Rows and calls", Table: answer, count, place.
+// FORMAT 8.2: answer, count, place.
 fn answer(text: &mut String, name: &str, file: &[u8]) {
     let given = table(file);
     let _ = writeln!(text, "case {name}");

@@ -1,4 +1,4 @@
-//! The examples of document 01, and the aimed cases' expected answers.
+//! The worked examples (FORMAT 10), and the aimed cases' expected answers.
 
 use std::collections::{HashMap, HashSet};
 use std::fmt::Write;
@@ -20,7 +20,7 @@ struct Checks {
 }
 
 impl Checks {
-    // No section: notes a check that fails.
+    // Notes a check that fails.
     fn check(&mut self, name: &str, holds: bool) {
         if !holds {
             self.failures.push(name.to_string());
@@ -28,7 +28,7 @@ impl Checks {
     }
 }
 
-// Section "Examples to hold to": all of them, and more.
+// FORMAT 10.1: all of them, and more.
 pub fn selftest(text: &mut String) -> bool {
     let mut checks = Checks {
         failures: Vec::new(),
@@ -61,7 +61,7 @@ pub fn selftest(text: &mut String) -> bool {
     checks.failures.is_empty()
 }
 
-// Section "Examples to hold to": P1 to P5.
+// FORMAT 10.1: P1 to P5.
 fn channel_examples(checks: &mut Checks) {
     let name = |text: &'static str| text.as_bytes();
     let p1 = Ok((11, 17, name("QIS2"), name("QIS2")));
@@ -82,7 +82,7 @@ fn channel_examples(checks: &mut Checks) {
     checks.check("P5", channel_of(3_005_001).is_err());
 }
 
-/// Section "Channels": its lists in its own words.
+/// FORMAT 3.2, 3.3: the lists as text; of class II what differs from class I.
 const CLASS_ONE: &str = "0 QIS1, 1 QOS1, 2 PAS1 (A1), 3 PBS2 (B1), 4 PCS1 (C1), 5 PDS1 (D1), \
     6 QIS2, 7 QOS2, 8 PAS2 (A2), 9 PBS1 (B2), 10 PCS2 (C2), 11 PDS2 (D2)";
 const CLASS_TWO_CHANGES: &str =
@@ -96,7 +96,7 @@ const LISTS: [(&[u32], &str); 6] = [
     (&[11], CLASS_TWO_CHANGES),
 ];
 
-// Section "Channels": channel number, analysis name and cold name of a list's item; the cold
+// FORMAT 3.2: channel number, analysis name and cold name of a list's item; the cold
 // name stands in brackets or is the analysis name.
 fn listed_item(item: &str) -> (u32, String, String) {
     let parts: Vec<&str> = item.split_whitespace().collect();
@@ -108,7 +108,7 @@ fn listed_item(item: &str) -> (u32, String, String) {
     )
 }
 
-// Section "Channels": every code of three digits each gives what the lists say, later lists
+// FORMAT 3.2, 3.4: every code of three digits each gives what the lists say, later lists
 // replacing earlier ones.
 fn listed_examples(checks: &mut Checks) {
     let mut listed = HashMap::new();
@@ -137,7 +137,7 @@ fn listed_examples(checks: &mut Checks) {
     }
 }
 
-// Section "Channels": each listed code and its name give each other.
+// FORMAT 3.2, 3.4: each listed code and its name give each other.
 fn name_examples(checks: &mut Checks) {
     let mut listed = 0;
     for detector_type in 0..1_000 {
@@ -162,13 +162,13 @@ fn name_examples(checks: &mut Checks) {
     checks.check("code over nine digits", channel_of(1_004_001_002).is_err());
 }
 
-// Section "The six records": the answer for an administrative record alone.
+// FORMAT 5.1: the answer for an administrative record alone.
 fn administrative_at_0(series_date: u32, series_time: u32) -> Result<Record, Refusal> {
     let body = [series_date, series_time, 1, 2, 3, 4];
     record(&structure_of(ADMINISTRATIVE, &body), 0)
 }
 
-// Section "Examples to hold to": P6 and P7.
+// FORMAT 10.1: P6 and P7.
 fn series_examples(checks: &mut Checks) {
     let p6 = Record::Administrative {
         series_date: 1_100_115,
@@ -183,7 +183,7 @@ fn series_examples(checks: &mut Checks) {
     checks.check("P7 not", administrative_at_0(1_100_230, 0) == Err((10, 0)));
 }
 
-// Section "Examples to hold to": P8 to P10.
+// FORMAT 10.1: P8 to P10.
 fn gps_examples(checks: &mut Checks) {
     let at_0 = |body: [u32; 3]| record(&structure_of(GPS, &body), 0);
     let p8 = Record::Gps {
@@ -208,7 +208,7 @@ fn gps_examples(checks: &mut Checks) {
     );
 }
 
-// Section "Examples to hold to": P11, and the sample numbers.
+// FORMAT 10.1: P11, and the sample numbers.
 fn sample_examples(checks: &mut Checks) {
     let file = [vec![0xEE; 3], trace_of(2)].concat();
     let (offset, length) = samples(&file, 3);
@@ -233,13 +233,13 @@ fn sample_examples(checks: &mut Checks) {
     checks.check("sample past the end", sample(&tlb, 81, 1) == Err((2, 81)));
 }
 
-// Section "Rows and calls", Table: its number and place.
+// FORMAT 8.2: its number and place.
 fn answer(file: &[u8]) -> (u32, u64) {
     let given = table(file);
     (given.number, given.place)
 }
 
-// Section "Examples to hold to": P12, P13 and the byte after the last event.
+// FORMAT 10.1: P12, P13 and the byte after the last event.
 fn file_examples(checks: &mut Checks) {
     checks.check("P12", answer(&[]) == (2, 0));
     let with_first_word = |first_word: u32| {
@@ -255,7 +255,7 @@ fn file_examples(checks: &mut Checks) {
     );
 }
 
-// Section "Examples to hold to": P14.
+// FORMAT 10.1: P14.
 fn listing_example(checks: &mut Checks) {
     let file = words(&[
         0x0102_0304,
@@ -308,7 +308,7 @@ fn listing_example(checks: &mut Checks) {
     );
 }
 
-// Section "Rows and calls": a row of each kind.
+// FORMAT 7.2: a row of each kind.
 fn row_examples(checks: &mut Checks) {
     let rows: [Row; 13] = [
         [1, 0, 8, 0, 0x0100_0200, 0],
@@ -329,7 +329,7 @@ fn row_examples(checks: &mut Checks) {
     checks.check("rows of each kind", given.number == 0 && given.rows == rows);
 }
 
-// Section "Examples to hold to": n of 2 and 32,768 pass; 0, 3 and 32,770 give 11.
+// FORMAT 10.1: the counts of samples at both ends of what is admitted, and just past them.
 fn count_examples(checks: &mut Checks) {
     for n in [2, 32_768] {
         checks.check("n passes", answer(&with_record(trace_of(n))).0 == 0);
@@ -343,7 +343,7 @@ fn count_examples(checks: &mut Checks) {
     checks.check("n of 3 gives 11", answer(&with_record(three)) == (11, 56));
 }
 
-// Section "The six records": every field from its own word.
+// FORMAT 5: every field from its own word.
 fn field_examples(checks: &mut Checks) {
     let body = [
         0x11,
@@ -420,7 +420,7 @@ fn field_examples(checks: &mut Checks) {
     );
 }
 
-// Section "The six records": the counts and where each list starts.
+// FORMAT 5.3: the places of a history's lists.
 fn history_examples(checks: &mut Checks) {
     let missing = Record::History {
         nvt: 0,
@@ -451,7 +451,7 @@ fn history_examples(checks: &mut Checks) {
     );
 }
 
-// Section "Words and nesting": each x100 word divided by 100.
+// FORMAT 8.6: each x100 word divided by 100.
 fn setting_examples(checks: &mut Checks) {
     let minus = |value: u32| 0u32.wrapping_sub(value);
     let body = [10_001_003, 4, 1_025, minus(25), 0, 1, minus(7), 2, 3, 4, 5];
@@ -494,7 +494,7 @@ fn setting_examples(checks: &mut Checks) {
     checks.check("setting past the end", setting(&p14(), 90) == Err((2, 90)));
 }
 
-// Section "The six records", TLB: bit b of the low 24 is ZIP b+1.
+// FORMAT 5.6: the bits of the ZIPs.
 fn zip_examples(checks: &mut Checks) {
     let set: Vec<u32> = (0..64).filter(|number| zip(0x0100_0004, *number)).collect();
     checks.check("ZIP 3 of tower 1", set == [3]);
@@ -505,7 +505,7 @@ fn zip_examples(checks: &mut Checks) {
     );
 }
 
-// Section "Rows and calls", Find: the search goes on through later events.
+// FORMAT 8.8: the search goes on through later events.
 fn find_examples(checks: &mut Checks) {
     let administrative = |number: u32| structure_of(ADMINISTRATIVE, &[101, 0, number, 0, 0, 0]);
     let events = [
@@ -532,7 +532,7 @@ fn find_examples(checks: &mut Checks) {
     );
 }
 
-// Section "Numbers given back", 1: exactly 16,777,216 bytes are read, one more gives 1.
+// FORMAT 1.1, number 1: exactly 16,777,216 bytes are read, one more gives 1.
 fn limit_examples(checks: &mut Checks) {
     let mut file = full_of_traces();
     checks.check("limit reached", file.len() == MOST_BYTES);
@@ -572,7 +572,7 @@ fn limit_examples(checks: &mut Checks) {
     );
 }
 
-// Section "Numbers given back": the aimed cases give what they are said to give.
+// FORMAT 2.2: the aimed cases give what they are said to give.
 fn aimed_answers(checks: &mut Checks) {
     let mut names = HashSet::new();
     for case in aimed() {
@@ -594,7 +594,7 @@ fn aimed_answers(checks: &mut Checks) {
     checks.check("last place", last_place == Err((2, u64::MAX)));
 }
 
-// Section "Words and nesting": valid files are accepted with a row for each structure.
+// FORMAT 6.5: valid files are accepted with a row for each structure.
 fn valid_answers(checks: &mut Checks) {
     let mut random = Random::new(1);
     for _ in 0..3_000 {
@@ -606,7 +606,7 @@ fn valid_answers(checks: &mut Checks) {
     }
 }
 
-// Section "Rows and calls": walker, table and Record say the same of any file.
+// FORMAT 8.2, 8.3, 8.5: walker, table and Record say the same of any file.
 fn agreement(checks: &mut Checks) {
     let mut random = Random::new(2);
     for _ in 0..3_000 {

@@ -19,7 +19,7 @@ pub const TLB: u32 = 0x81;
 /// The kinds of an event's records.
 pub const RECORD_KINDS: [u32; 6] = [ADMINISTRATIVE, TRACE, HISTORY, GPS, TRIGGER, TLB];
 
-/// Words that stand near some rule of document 01.
+/// Words that stand near some rule of docs/FORMAT.md.
 const TELLING_WORDS: [u32; 64] = [
     0,
     1,
@@ -87,7 +87,7 @@ const TELLING_WORDS: [u32; 64] = [
     0xFFFF_FFFF,
 ];
 
-// Section "Words and nesting": words of 32 bits, little-endian.
+// FORMAT 1.2: words of 32 bits, little-endian.
 pub fn words(values: &[u32]) -> Vec<u8> {
     let mut bytes = Vec::with_capacity(4 * values.len());
     for value in values {
@@ -96,45 +96,45 @@ pub fn words(values: &[u32]) -> Vec<u8> {
     bytes
 }
 
-// Section "Words and nesting": a kind word, a length word and bytes, the length as it is said.
+// FORMAT 2.3: a kind word, a length word and bytes, the length as it is said.
 pub fn structure_saying(kind: u32, length: u32, body: &[u8]) -> Vec<u8> {
     let mut bytes = words(&[kind, length]);
     bytes.extend_from_slice(body);
     bytes
 }
 
-// Section "Words and nesting": a kind word, a length word and those bytes.
+// FORMAT 2.3: a kind word, a length word and those bytes.
 pub fn structure(kind: u32, body: &[u8]) -> Vec<u8> {
     structure_saying(kind, body.len() as u32, body)
 }
 
-// Section "Words and nesting": a structure of words.
+// FORMAT 2.3: a structure of words.
 pub fn structure_of(kind: u32, body: &[u32]) -> Vec<u8> {
     structure(kind, &words(body))
 }
 
-// Section "Words and nesting": the file header.
+// FORMAT 6.4: the file header.
 pub fn header() -> Vec<u8> {
     words(&[MAGIC, VERSION])
 }
 
-// Section "Words and nesting": a configuration of entries.
+// FORMAT 6.3: a configuration of entries.
 pub fn configuration(entries: &[Vec<u8>]) -> Vec<u8> {
     structure(CONFIGURATION, &entries.concat())
 }
 
-// Section "Words and nesting": an event of records.
+// FORMAT 6.2: an event of records.
 pub fn event(first_word: u32, records: &[Vec<u8>]) -> Vec<u8> {
     structure(first_word, &records.concat())
 }
 
-// Section "Words and nesting": the word at a place, if all of it stands there.
+// FORMAT 1.2: the word at a place, if all of it stands there.
 pub fn word_at(bytes: &[u8], place: usize) -> Option<u32> {
     let part = bytes.get(place..place.checked_add(4)?)?;
     Some(u32::from_le_bytes([part[0], part[1], part[2], part[3]]))
 }
 
-// Section "Words and nesting": puts a word at a place, as far as the bytes go.
+// FORMAT 1.2: puts a word at a place, as far as the bytes go.
 pub fn set_word(bytes: &mut [u8], place: usize, value: u32) {
     for (offset, byte) in value.to_le_bytes().iter().enumerate() {
         if let Some(held) = bytes.get_mut(place + offset) {
@@ -151,7 +151,7 @@ pub struct Parts {
 }
 
 impl Parts {
-    // Section "Words and nesting": header, configuration, events.
+    // FORMAT 6.5: header, configuration, events.
     pub fn bytes(&self) -> Vec<u8> {
         let mut bytes = words(&[MAGIC, self.version]);
         bytes.extend(configuration(&self.entries));
@@ -161,14 +161,14 @@ impl Parts {
         bytes
     }
 
-    // Section "Rows and calls": how many rows the file has.
+    // FORMAT 7.3: how many rows the file has.
     pub fn row_count(&self) -> usize {
         let records: usize = self.events.iter().map(|(_, records)| records.len()).sum();
         2 + self.entries.len() + self.events.len() + records
     }
 }
 
-// Section "Words and nesting": a valid file of any shape; the DAQ bytes are free.
+// FORMAT 6.5: a valid file of any shape; the DAQ bytes are free.
 pub fn valid_parts(random: &mut Random) -> Parts {
     let entries = match random.below(8) {
         0..=3 => 0,
@@ -190,7 +190,7 @@ pub fn valid_parts(random: &mut Random) -> Parts {
     }
 }
 
-// Section "Words and nesting": class 0 or 2, category 0, 1 or 6, type 0 to 0xA but 7.
+// FORMAT 6.2: a first word of two classes, three categories and ten types.
 fn first_word(random: &mut Random) -> u32 {
     let class = random.pick(&[0, 2]);
     let category = random.pick(&[0, 1, 6]);
@@ -198,7 +198,7 @@ fn first_word(random: &mut Random) -> u32 {
     EVENT | class << 12 | category << 8 | event_type
 }
 
-// Section "Words and nesting": administrative first, then others in any order, every kind but
+// FORMAT 6.2: administrative first, then others in any order, every kind but
 // trace at most once.
 fn records(random: &mut Random) -> Vec<Vec<u8>> {
     let mut others = Vec::new();
@@ -229,7 +229,7 @@ fn records(random: &mut Random) -> Vec<Vec<u8>> {
     records
 }
 
-// Section "Words and nesting": a phonon or a charge entry; all but the code is free.
+// FORMAT 4.1, 4.2: a phonon or a charge entry; all but the code is free.
 fn entry(random: &mut Random) -> Vec<u8> {
     let phonon = random.once_in(2);
     let channel = if phonon {
@@ -245,7 +245,7 @@ fn entry(random: &mut Random) -> Vec<u8> {
     structure_of(kind, &body)
 }
 
-// Section "Words and nesting": words that are free, signed ones too.
+// FORMAT 1.2: words that are free, signed ones too.
 fn free_word(random: &mut Random) -> u32 {
     match random.below(4) {
         0 => random.pick(&TELLING_WORDS),
@@ -255,7 +255,7 @@ fn free_word(random: &mut Random) -> u32 {
     }
 }
 
-// Section "Channels": type, number (0 to 999), channel, three digits each.
+// FORMAT 3.1: a code of any detector number, from its three groups of digits.
 fn code(random: &mut Random, channel: (u32, u32)) -> u32 {
     let number = match random.below(4) {
         0 => 0,
@@ -266,7 +266,7 @@ fn code(random: &mut Random, channel: (u32, u32)) -> u32 {
     channel.0 * 1_000_000 + number * 1_000 + channel.1
 }
 
-// Section "Channels": type and channel number of a phonon channel.
+// FORMAT 3.2: type and channel number of a phonon channel.
 fn phonon_channel(random: &mut Random) -> (u32, u32) {
     let detector_type = random.pick(&[1, 2, 4, 5, 6, 7, 10, 11]);
     let channel = match detector_type {
@@ -278,7 +278,7 @@ fn phonon_channel(random: &mut Random) -> (u32, u32) {
     (detector_type, channel)
 }
 
-// Section "Channels": type and channel number of a charge channel.
+// FORMAT 3.2: type and channel number of a charge channel.
 fn charge_channel(random: &mut Random) -> (u32, u32) {
     let detector_type = random.pick(&[1, 2, 4, 5, 6, 7, 10, 11]);
     let channel = match detector_type {
@@ -290,7 +290,7 @@ fn charge_channel(random: &mut Random) -> (u32, u32) {
     (detector_type, channel)
 }
 
-// Section "Channels": any listed channel; the veto has 0 only.
+// FORMAT 3.2: any listed channel; the veto has 0 only.
 fn any_channel(random: &mut Random) -> (u32, u32) {
     match random.below(7) {
         0 => (3, 0),
@@ -299,7 +299,7 @@ fn any_channel(random: &mut Random) -> (u32, u32) {
     }
 }
 
-// Section "The six records": administrative.
+// FORMAT 5.1: administrative.
 fn administrative(random: &mut Random) -> Vec<u8> {
     let location = random.pick(&[0, 1, 2, 3, 6, 7, 50, 51, 52, 53, 56, 57]);
     let year = random.below(100) as u32;
@@ -326,14 +326,14 @@ fn administrative(random: &mut Random) -> Vec<u8> {
     structure_of(ADMINISTRATIVE, &body)
 }
 
-// Section "The six records": the last day of a month; YY divisible by 4 is leap.
+// FORMAT 5.1: the last day of a month; every fourth year is leap.
 pub fn last_day(year: u32, month: u32) -> u32 {
     let days = [31, 28, 31, 30, 31, 30, 31, 31, 30, 31, 30, 31];
     let leap_day = u32::from(month == 2 && year % 4 == 0);
     days[month as usize - 1] + leap_day
 }
 
-// Section "The six records": trace.
+// FORMAT 5.2: trace.
 fn trace(random: &mut Random) -> Vec<u8> {
     let n = match random.below(200) {
         0 => 2 * random.between(1, 400) as u32,
@@ -359,7 +359,7 @@ fn trace(random: &mut Random) -> Vec<u8> {
     structure_of(TRACE, &body)
 }
 
-// Section "The six records": history, sections missing or not.
+// FORMAT 5.3: history, sections missing or not.
 fn history(random: &mut Random) -> Vec<u8> {
     let nvt = random.below(4) as u32;
     let nvw = if nvt == 0 {
@@ -380,7 +380,7 @@ fn history(random: &mut Random) -> Vec<u8> {
     structure_of(HISTORY, &body)
 }
 
-// Section "The six records": GPS.
+// FORMAT 5.4: GPS.
 fn gps(random: &mut Random) -> Vec<u8> {
     let year = match random.below(3) {
         0 => random.pick(&[0, 4, 100, 400, 1900, 1999, 2000, 2004, 2100, 9996, 9999]),
@@ -412,7 +412,7 @@ fn gps(random: &mut Random) -> Vec<u8> {
     structure_of(GPS, &body)
 }
 
-// Section "The six records", GPS: a number of at most eight digits in BCD.
+// FORMAT 5.4: a number of at most eight digits in BCD.
 pub fn bcd(value: u32) -> u32 {
     let mut rest = value;
     let mut digits = 0;
@@ -423,14 +423,14 @@ pub fn bcd(value: u32) -> u32 {
     digits
 }
 
-// Section "The six records": trigger, time 0, six masks.
+// FORMAT 5.5: trigger; the masks are free.
 fn trigger(random: &mut Random) -> Vec<u8> {
     let mut body = vec![0];
     body.extend((0..6).map(|_| free_word(random)));
     structure_of(TRIGGER, &body)
 }
 
-// Section "The six records": TLB, word i is zero or has top byte i.
+// FORMAT 5.6: TLB; each word is 0 or has its tower on top.
 fn tlb(random: &mut Random) -> Vec<u8> {
     let mut body = Vec::new();
     for tower in 1..=6 {
@@ -443,7 +443,7 @@ fn tlb(random: &mut Random) -> Vec<u8> {
     structure_of(TLB, &body)
 }
 
-// Section "Numbers given back": a valid file with one change.
+// FORMAT 2.2: a valid file with one change.
 fn damaged(random: &mut Random) -> Vec<u8> {
     let mut parts = valid_parts(random);
     if random.once_in(3) {
@@ -456,7 +456,7 @@ fn damaged(random: &mut Random) -> Vec<u8> {
     }
 }
 
-// Section "Numbers given back": a structure duplicated, removed, exchanged or moved.
+// FORMAT 2.2: a structure duplicated, removed, exchanged or moved.
 fn damage_parts(random: &mut Random, parts: &mut Parts) {
     if random.once_in(6) && !parts.entries.is_empty() {
         damage_list(random, &mut parts.entries);
@@ -473,7 +473,7 @@ fn damage_parts(random: &mut Random, parts: &mut Parts) {
     }
 }
 
-// Section "Words and nesting": a member of a container duplicated, removed or exchanged.
+// FORMAT 2.3: a member of a container duplicated, removed or exchanged.
 fn damage_list(random: &mut Random, list: &mut Vec<Vec<u8>>) {
     let first = random.below(list.len() as u64) as usize;
     let second = random.below(list.len() as u64) as usize;
@@ -489,7 +489,7 @@ fn damage_list(random: &mut Random, list: &mut Vec<Vec<u8>>) {
     }
 }
 
-// Section "Words and nesting": a structure of any kind, perhaps not allowed where it is put.
+// FORMAT 2.3: a structure of any kind, perhaps not allowed where it is put.
 fn foreign_structure(random: &mut Random) -> Vec<u8> {
     match random.below(6) {
         0 => entry(random),
@@ -501,7 +501,7 @@ fn foreign_structure(random: &mut Random) -> Vec<u8> {
     }
 }
 
-// Section "Numbers given back": one change of a file's bytes.
+// FORMAT 2.2: one change of a file's bytes.
 fn damage_bytes(random: &mut Random, bytes: &mut Vec<u8>) {
     match random.below(14) {
         0 => change_byte(random, bytes),
@@ -516,7 +516,7 @@ fn damage_bytes(random: &mut Random, bytes: &mut Vec<u8>) {
     }
 }
 
-// No section: one byte of the file takes any value.
+// One byte of the file takes any value.
 fn change_byte(random: &mut Random, bytes: &mut [u8]) {
     if !bytes.is_empty() {
         let place = random.below(bytes.len() as u64) as usize;
@@ -524,7 +524,7 @@ fn change_byte(random: &mut Random, bytes: &mut [u8]) {
     }
 }
 
-// No section: one bit of the file is turned.
+// One bit of the file is turned.
 fn flip_bit(random: &mut Random, bytes: &mut [u8]) {
     if !bytes.is_empty() {
         let place = random.below(bytes.len() as u64) as usize;
@@ -532,26 +532,26 @@ fn flip_bit(random: &mut Random, bytes: &mut [u8]) {
     }
 }
 
-// Section "Words and nesting": one word of the file takes a telling value.
+// FORMAT 1.2: one word of the file takes a telling value.
 fn change_word(random: &mut Random, bytes: &mut [u8]) {
     let place = 4 * random.below(bytes.len() as u64 / 4 + 1) as usize;
     set_word(bytes, place, random.pick(&TELLING_WORDS));
 }
 
-// Section "Numbers given back", 2: the file ends early.
+// FORMAT 2.3, number 2: the file ends early.
 fn shorten(random: &mut Random, bytes: &mut Vec<u8>) {
     let length = random.below(bytes.len() as u64 + 1) as usize;
     bytes.truncate(length);
 }
 
-// Section "Numbers given back", 2: strays after the last structure.
+// FORMAT 2.3, number 2: strays after the last structure.
 fn append(random: &mut Random, bytes: &mut Vec<u8>) {
     for _ in 0..random.between(1, 12) {
         bytes.push(random.below(256) as u8);
     }
 }
 
-// Section "Words and nesting": a length word is a little off, or a telling word.
+// FORMAT 2.3: a length word is a little off, or a telling word.
 fn change_length(random: &mut Random, bytes: &mut [u8]) {
     let place = likely_start(random, bytes) + 4;
     if let Some(length) = word_at(bytes, place) {
@@ -569,7 +569,7 @@ fn change_length(random: &mut Random, bytes: &mut [u8]) {
     }
 }
 
-// Section "Words and nesting": a kind word becomes another one.
+// FORMAT 2.3: a kind word becomes another one.
 fn change_kind(random: &mut Random, bytes: &mut [u8]) {
     let place = likely_start(random, bytes);
     let kind = match random.below(3) {
@@ -579,7 +579,7 @@ fn change_kind(random: &mut Random, bytes: &mut [u8]) {
     set_word(bytes, place, kind);
 }
 
-// Section "The six records": one of the first words after a length word is changed.
+// FORMAT 5: one of the first words after a length word is changed.
 fn change_field(random: &mut Random, bytes: &mut [u8]) {
     let place = likely_start(random, bytes) + 8 + 4 * random.below(12) as usize;
     if let Some(held) = word_at(bytes, place) {
@@ -593,7 +593,7 @@ fn change_field(random: &mut Random, bytes: &mut [u8]) {
     }
 }
 
-// Section "Words and nesting": a word of the header or the low half of an event's first word.
+// FORMAT 6.2, 6.4: a word of the header or the low half of an event's first word.
 fn change_header_or_event_word(random: &mut Random, bytes: &mut [u8]) {
     if random.once_in(3) {
         let place = random.below(8) as usize;
@@ -612,7 +612,7 @@ fn change_header_or_event_word(random: &mut Random, bytes: &mut [u8]) {
     }
 }
 
-// Section "Words and nesting": a place where some structure seems to start, or else byte 0.
+// FORMAT 2.3: a place where some structure seems to start, or else byte 0.
 pub fn likely_start(random: &mut Random, bytes: &[u8]) -> usize {
     let starts = likely_starts(bytes, |kind| {
         kind >> 16 == EVENT >> 16
@@ -626,7 +626,7 @@ pub fn likely_start(random: &mut Random, bytes: &[u8]) -> usize {
     }
 }
 
-// Section "Words and nesting": the places of words that seem to be kinds.
+// FORMAT 2.3: the places of words that seem to be kinds.
 fn likely_starts(bytes: &[u8], is_kind: impl Fn(u32) -> bool) -> Vec<usize> {
     let places = (8..bytes.len()).step_by(4);
     places
@@ -638,7 +638,7 @@ thread_local! {
     static AIMED: Vec<Case> = aimed();
 }
 
-// Section "Numbers given back": an aimed case, changed once more or not.
+// FORMAT 2.2: an aimed case, changed once more or not.
 fn aimed_and_damaged(random: &mut Random) -> Vec<u8> {
     let mut bytes = AIMED.with(|cases| {
         let chosen = random.below(cases.len() as u64) as usize;
@@ -650,7 +650,7 @@ fn aimed_and_damaged(random: &mut Random) -> Vec<u8> {
     bytes
 }
 
-// Sections "Words and nesting" and "Numbers given back": a file of any sort.
+// FORMAT 2.2, 6.5: a file of any sort.
 pub fn random_file(random: &mut Random) -> Vec<u8> {
     match random.below(10) {
         0..=2 => valid_parts(random).bytes(),

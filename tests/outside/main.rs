@@ -1,4 +1,4 @@
-//! A second reading of document 01: answers for files of every sort, to compare with.
+//! A second reading of docs/FORMAT.md: answers for files of every sort, to compare with.
 //!
 //! Commands: vectors SEED COUNT MOSTBYTES, channels, names, count SEED COUNT, big, selftest.
 
@@ -13,7 +13,7 @@ mod vectors;
 use std::io::Write;
 use std::process::ExitCode;
 
-// No section: the command and its numbers.
+// The command and its numbers.
 fn main() -> ExitCode {
     let arguments: Vec<String> = std::env::args().skip(1).collect();
     let number = |place: usize| {
@@ -46,7 +46,7 @@ fn main() -> ExitCode {
     }
 }
 
-// No section: what can be asked.
+// What can be asked.
 fn usage(text: &mut String) -> bool {
     text.push_str(
         "vectors SEED COUNT MOSTBYTES\nchannels\nnames\ncount SEED COUNT\nbig\nselftest\n",

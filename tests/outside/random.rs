@@ -5,12 +5,12 @@ pub struct Random {
 }
 
 impl Random {
-    // No section: a source that starts from a seed.
+    // A source that starts from a seed.
     pub fn new(seed: u64) -> Random {
         Random { state: seed }
     }
 
-    // No section: the next 64 bits of splitmix64.
+    // The next 64 bits of splitmix64.
     pub fn draw(&mut self) -> u64 {
         self.state = self.state.wrapping_add(0x9E37_79B9_7F4A_7C15);
         let mut mixed = self.state;
@@ -19,27 +19,27 @@ impl Random {
         mixed ^ (mixed >> 31)
     }
 
-    // Section "Words and nesting": any word of 32 bits.
+    // FORMAT 1.2: any word of 32 bits.
     pub fn word(&mut self) -> u32 {
         (self.draw() >> 32) as u32
     }
 
-    // No section: a number from 0 to bound - 1; bound is not 0.
+    // A number from 0 to bound - 1; bound is not 0.
     pub fn below(&mut self, bound: u64) -> u64 {
         (self.draw() >> 11) % bound
     }
 
-    // No section: a number from low to high, both included.
+    // A number from low to high, both included.
     pub fn between(&mut self, low: u64, high: u64) -> u64 {
         low + self.below(high - low + 1)
     }
 
-    // No section: true once in so many times.
+    // True once in so many times.
     pub fn once_in(&mut self, times: u64) -> bool {
         self.below(times) == 0
     }
 
-    // No section: a member of a list that is not empty.
+    // A member of a list that is not empty.
     pub fn pick<T: Copy>(&mut self, list: &[T]) -> T {
         list[self.below(list.len() as u64) as usize]
     }

@@ -1,15 +1,15 @@
-//! The reading rules of document 01, stated as pure functions over lent bytes.
+//! The reading rules of docs/FORMAT.md, stated as pure functions over lent bytes.
 
-/// Section "Covered and left to others": the most bytes of a lent file.
+/// FORMAT 1.1: the most bytes of a lent file.
 pub const MOST_BYTES: usize = 16_777_216;
 
-/// Section "Numbers given back": a refusal's number and place.
+/// FORMAT 2.1: a refusal's number and place.
 pub type Refusal = (u32, u64);
 
-/// Section "Rows and calls": kind, start, whole length, parent's row number, two values.
+/// FORMAT 7.1: kind, start, whole length, parent's row number, two values.
 pub type Row = [u32; 6];
 
-/// Section "Rows and calls": Table's answer and the rows; none when refused.
+/// FORMAT 8.2: Table's answer and the rows; none when refused.
 #[derive(Clone, Debug, PartialEq, Eq)]
 pub struct Table {
     pub number: u32,
@@ -18,7 +18,7 @@ pub struct Table {
     pub rows: Vec<Row>,
 }
 
-/// Section "Rows and calls": Record's answer, one of eight kinds with its fields.
+/// FORMAT 8.5: Record's answer: the fields of a record or an entry.
 #[derive(Clone, Debug, PartialEq, Eq)]
 pub enum Record {
     Phonon([i32; 11]),
@@ -62,7 +62,7 @@ pub enum Record {
     Tlb([u32; 6]),
 }
 
-/// Section "Words and nesting": an entry in working units.
+/// FORMAT 8.6: an entry in working units.
 #[derive(Clone, Debug, PartialEq)]
 pub enum Setting {
     Phonon {
@@ -90,7 +90,7 @@ pub enum Setting {
     },
 }
 
-/// Section "Rows and calls": what a walker yields.
+/// FORMAT 8.3: what a walker yields.
 #[derive(Clone, Debug, PartialEq, Eq)]
 pub enum Yield {
     Row(Row),
@@ -98,14 +98,14 @@ pub enum Yield {
     Refused(u32, u64),
 }
 
-/// Section "Rows and calls": a walker over a lent file.
+/// FORMAT 8.3: a walker over a lent file.
 pub struct Walk {
     rows: Vec<Row>,
     last: Yield,
     reached: usize,
 }
 
-/// Section "Channels": type, number, analysis name, cold name.
+/// FORMAT 3.4: type, number, analysis name, cold name.
 pub type Channel = (u32, u32, &'static [u8], &'static [u8]);
 
 const MAGIC: u32 = 0x0102_0304;
@@ -132,7 +132,7 @@ const RECORDS_AND_ENTRIES: [u32; 8] = [
     TLB,
 ];
 
-/// Section "Words and nesting": a kind word, a length word, and the bytes that follow.
+/// FORMAT 2.3: a kind word, a length word and a body.
 struct Structure {
     kind: u32,
     start: u64,
@@ -140,29 +140,29 @@ struct Structure {
 }
 
 impl Structure {
-    // Section "Words and nesting": the bytes that follow the length word.
+    // FORMAT 2.3: the bytes that follow the length word.
     fn length(&self) -> u64 {
         self.end - self.start - 8
     }
 
-    // Section "Words and nesting": a word after the length word, from 0.
+    // FORMAT 2.3: a word after the length word, from 0.
     fn word(&self, file: &[u8], number: u64) -> u32 {
         word(file, self.start + 8 + 4 * number)
     }
 
-    // Section "Numbers given back": a test of this structure, refused at its first byte.
+    // FORMAT 2.2: a test of this structure, refused at its first byte.
     fn require(&self, holds: bool, number: u32) -> Result<(), Refusal> {
         require(holds, number, self.start)
     }
 }
 
-// Section "Words and nesting": 32 bits, little-endian.
+// FORMAT 1.2: 32 bits, little-endian.
 fn word(file: &[u8], place: u64) -> u32 {
     let at = place as usize;
     u32::from_le_bytes([file[at], file[at + 1], file[at + 2], file[at + 3]])
 }
 
-// Section "Numbers given back": a rule that holds, or the refusal.
+// FORMAT 2.2: a rule that holds, or the refusal.
 fn require(holds: bool, number: u32, place: u64) -> Result<(), Refusal> {
     if holds {
         Ok(())
@@ -171,24 +171,24 @@ fn require(holds: bool, number: u32, place: u64) -> Result<(), Refusal> {
     }
 }
 
-// Section "Numbers given back", 1: the lent file is not over the limit.
+// FORMAT 1.1, number 1: the lent file is not over the limit.
 fn limit(file: &[u8]) -> Result<(), Refusal> {
     require(file.len() <= MOST_BYTES, 1, 0)
 }
 
-// Section "Numbers given back", 2: at least 8 bytes are left for a structure.
+// FORMAT 2.3, number 2: at least 8 bytes are left for a structure.
 fn room(place: u64, parent_end: u64) -> Result<(), Refusal> {
     require(place <= parent_end && parent_end - place >= 8, 2, place)
 }
 
-// Section "Numbers given back", 2: the length does not pass the parent; gives the end.
+// FORMAT 2.3, number 2: the length does not pass the parent; gives the end.
 fn end_in_parent(file: &[u8], place: u64, parent_end: u64) -> Result<u64, Refusal> {
     let end = place + 8 + u64::from(word(file, place + 4));
     require(end <= parent_end, 2, place)?;
     Ok(end)
 }
 
-// Section "Numbers given back": room, kind, length against the parent, in this order.
+// FORMAT 6.1: room, kind, length against the parent, in this order.
 fn structure(
     file: &[u8],
     place: u64,
@@ -206,7 +206,7 @@ fn structure(
     })
 }
 
-// Section "Numbers given back": length by kind, then fields in word order.
+// FORMAT 6.1: what a kind asks of its own: its length first, then its fields.
 fn contents(file: &[u8], given: &Structure) -> Result<Record, Refusal> {
     match given.kind {
         PHONON => phonon(file, given),
@@ -220,7 +220,7 @@ fn contents(file: &[u8], given: &Structure) -> Result<Record, Refusal> {
     }
 }
 
-// Section "Words and nesting": the phonon entry, length 44, eleven signed words.
+// FORMAT 4.1: the phonon entry, length 44, eleven signed words.
 fn phonon(file: &[u8], given: &Structure) -> Result<Record, Refusal> {
     given.require(given.length() == 44, 6)?;
     given.require(names_phonon(given.word(file, 0)), 10)?;
@@ -231,7 +231,7 @@ fn phonon(file: &[u8], given: &Structure) -> Result<Record, Refusal> {
     Ok(Record::Phonon(signed))
 }
 
-// Section "Words and nesting": the charge entry, length 32, eight signed words.
+// FORMAT 4.2: the charge entry, length 32, eight signed words.
 fn charge(file: &[u8], given: &Structure) -> Result<Record, Refusal> {
     given.require(given.length() == 32, 6)?;
     given.require(names_charge(given.word(file, 0)), 10)?;
@@ -242,7 +242,7 @@ fn charge(file: &[u8], given: &Structure) -> Result<Record, Refusal> {
     Ok(Record::Charge(signed))
 }
 
-// Section "Words and nesting": a phonon channel has a name beginning with P.
+// FORMAT 3.1: a phonon channel has a name beginning with P.
 fn names_phonon(code: u32) -> bool {
     match channel_of(code) {
         Ok((_, _, analysis, _)) => analysis[0] == b'P',
@@ -250,7 +250,7 @@ fn names_phonon(code: u32) -> bool {
     }
 }
 
-// Section "Words and nesting": a charge channel is Q, QI, QO or a side form of these.
+// FORMAT 3.1: a charge channel is Q, QI, QO or a side form of these.
 fn names_charge(code: u32) -> bool {
     let listed: [&[u8]; 7] = [b"Q", b"QI", b"QO", b"QIS1", b"QOS1", b"QIS2", b"QOS2"];
     match channel_of(code) {
@@ -259,7 +259,7 @@ fn names_charge(code: u32) -> bool {
     }
 }
 
-// Section "The six records": administrative, length 24.
+// FORMAT 5.1: administrative, length 24.
 fn administrative(file: &[u8], given: &Structure) -> Result<Record, Refusal> {
     given.require(given.length() == 24, 6)?;
     let series_date = given.word(file, 0);
@@ -276,7 +276,7 @@ fn administrative(file: &[u8], given: &Structure) -> Result<Record, Refusal> {
     })
 }
 
-// Section "The six records": LLYYMMDD by decimal digits, at most eight.
+// FORMAT 5.1: the series date, digit by digit.
 fn is_series_date(value: u32) -> bool {
     let location = value / 1_000_000;
     let year = value / 10_000 % 100;
@@ -285,13 +285,13 @@ fn is_series_date(value: u32) -> bool {
     value <= 99_999_999 && is_location(location) && is_date(year, month, day)
 }
 
-// Section "The six records": LL is 0, 1, 2, 3, 6, 7, or one of these plus 50.
+// FORMAT 5.1: the locations: six, and the same with 50 added.
 fn is_location(location: u32) -> bool {
     let listed = [0, 1, 2, 3, 6, 7];
     listed.contains(&location) || (location >= 50 && listed.contains(&(location - 50)))
 }
 
-// Section "The six records": the date exists; YY divisible by 4 is leap.
+// FORMAT 5.1: a day that the month has; every fourth year is leap.
 fn is_date(year: u32, month: u32, day: u32) -> bool {
     let last = match month {
         1 | 3 | 5 | 7 | 8 | 10 | 12 => 31,
@@ -303,13 +303,12 @@ fn is_date(year: u32, month: u32, day: u32) -> bool {
     day >= 1 && day <= last
 }
 
-// Section "The six records": HHMM is 0000 to 2359 with MM below 60.
+// FORMAT 5.1: hours and minutes by their digits.
 fn is_series_time(value: u32) -> bool {
     value <= 2359 && value % 100 < 60
 }
 
-// Sections "The six records" and "Numbers given back": trace, its words in order, n at
-// its second count, last the length against 48 + 2n.
+// FORMAT 5.2: a trace; n is tested where it stands the second time, and the length at the end.
 fn trace(file: &[u8], given: &Structure) -> Result<Record, Refusal> {
     given.require(given.length() >= 48, 6)?;
     given.require(given.word(file, 0) == 0x11, 5)?;
@@ -339,13 +338,13 @@ fn trace(file: &[u8], given: &Structure) -> Result<Record, Refusal> {
     })
 }
 
-// Section "Covered and left to others": 2 to 32,768 samples; "The six records": n is even.
+// FORMAT 1.1, 5.2: an even number of samples within the limits.
 fn is_sample_count(n: u32) -> bool {
     n % 2 == 0 && (2..=32_768).contains(&n)
 }
 
-// Sections "The six records" and "Numbers given back": history, each count in order, then
-// the words that are needed or left over. Positions are numbers of words in the record.
+// FORMAT 5.3: a history, count by count; at the end no word is missing and none is too many.
+// Positions are numbers of words in the record.
 fn history(file: &[u8], given: &Structure) -> Result<Record, Refusal> {
     given.require(given.length() >= 16 && given.length() % 4 == 0, 6)?;
     let words = given.length() / 4;
@@ -379,7 +378,7 @@ fn history(file: &[u8], given: &Structure) -> Result<Record, Refusal> {
     })
 }
 
-// Section "Numbers given back": a history count; 6 past the end, 10 if negative.
+// FORMAT 5.3: a history count; 6 past the end, 10 if negative.
 fn count_at(file: &[u8], given: &Structure, position: u64) -> Result<u64, Refusal> {
     given.require(position < given.length() / 4, 6)?;
     let count = given.word(file, position) as i32;
@@ -387,7 +386,7 @@ fn count_at(file: &[u8], given: &Structure, position: u64) -> Result<u64, Refusa
     Ok(count as u64)
 }
 
-// Section "The six records": GPS, length 12, BCD.
+// FORMAT 5.4: GPS, length 12, BCD.
 fn gps(file: &[u8], given: &Structure) -> Result<Record, Refusal> {
     given.require(given.length() == 12, 6)?;
     let refusal = (10, given.start);
@@ -417,7 +416,7 @@ fn gps(file: &[u8], given: &Structure) -> Result<Record, Refusal> {
     })
 }
 
-// Section "The six records", GPS: the number that so many BCD digits stand for.
+// FORMAT 5.4: the number that so many BCD digits stand for.
 fn decimal(digits: u32, how_many: u32) -> Option<u32> {
     let mut value = 0;
     for from_left in 0..how_many {
@@ -430,7 +429,7 @@ fn decimal(digits: u32, how_many: u32) -> Option<u32> {
     Some(value)
 }
 
-// Section "The six records", GPS: 365 days, 366 in a Gregorian leap year.
+// FORMAT 5.4: the days of a year in the Gregorian calendar.
 fn days_in_year(year: u32) -> u32 {
     if year % 4 == 0 && (year % 100 != 0 || year % 400 == 0) {
         366
@@ -439,14 +438,14 @@ fn days_in_year(year: u32) -> u32 {
     }
 }
 
-// Section "The six records": trigger, length 28, time 0, six masks.
+// FORMAT 5.5: a trigger: 28 bytes, of which the time is 0 and the masks are free.
 fn trigger(file: &[u8], given: &Structure) -> Result<Record, Refusal> {
     given.require(given.length() == 28, 6)?;
     given.require(given.word(file, 0) == 0, 10)?;
     Ok(Record::Trigger(six_words(file, given, 1)))
 }
 
-// Section "The six records": TLB mask, length 24, word i is zero or has top byte i.
+// FORMAT 5.6: a TLB mask: 24 bytes, each word 0 or with its tower on top.
 fn tlb(file: &[u8], given: &Structure) -> Result<Record, Refusal> {
     given.require(given.length() == 24, 6)?;
     let masks = six_words(file, given, 0);
@@ -457,7 +456,7 @@ fn tlb(file: &[u8], given: &Structure) -> Result<Record, Refusal> {
     Ok(Record::Tlb(masks))
 }
 
-// Section "The six records": six words from a given one on.
+// FORMAT 5: six words from a given one on.
 fn six_words(file: &[u8], given: &Structure, first: u64) -> [u32; 6] {
     let mut words = [0; 6];
     for (number, value) in words.iter_mut().enumerate() {
@@ -466,12 +465,12 @@ fn six_words(file: &[u8], given: &Structure, first: u64) -> [u32; 6] {
     words
 }
 
-/// Section "The six records", TLB: bit b of the low 24 is ZIP b+1 of that tower.
+/// FORMAT 5.6: whether a word has the bit of a ZIP, from 1 to 24.
 pub fn zip(word: u32, zip: u32) -> bool {
     (1..=24).contains(&zip) && (word >> (zip - 1)) & 1 == 1
 }
 
-// Section "Channels": the channel numbers of a type with analysis name and cold name.
+// FORMAT 3.2: the channel numbers of a type with analysis name and cold name.
 fn listed_channels(detector_type: u32) -> &'static [(u32, &'static str, &'static str)] {
     match detector_type {
         1 => &[
@@ -522,7 +521,7 @@ fn listed_channels(detector_type: u32) -> &'static [(u32, &'static str, &'static
     }
 }
 
-/// Section "Channels": a code gives type, number, analysis name and cold name.
+/// FORMAT 3.4: what a code stands for, where it is listed.
 pub fn channel_of(code: u32) -> Result<Channel, ()> {
     if code > 999_999_999 {
         return Err(());
@@ -538,7 +537,7 @@ pub fn channel_of(code: u32) -> Result<Channel, ()> {
     Err(())
 }
 
-/// Section "Channels": type, number and analysis name give the code.
+/// FORMAT 3.4: the code of a channel that is asked for by name.
 pub fn code_of(detector_type: u32, number: u32, analysis_name: &[u8]) -> Result<u32, ()> {
     if number > 999 {
         return Err(());
@@ -551,7 +550,7 @@ pub fn code_of(detector_type: u32, number: u32, analysis_name: &[u8]) -> Result<
     Err(())
 }
 
-/// Section "Rows and calls", Table: for a buffer in which every row fits.
+/// FORMAT 8.2: for a buffer in which every row fits.
 pub fn table(file: &[u8]) -> Table {
     match rows(file) {
         Ok(rows) => Table {
@@ -569,7 +568,7 @@ pub fn table(file: &[u8]) -> Table {
     }
 }
 
-/// Section "Rows and calls", Table: for a buffer of so many 32-bit numbers; 12 is given last.
+/// FORMAT 8.2: for a buffer of so many 32-bit numbers; 12 is given last.
 pub fn table_within(file: &[u8], capacity: u64) -> Table {
     let mut answer = table(file);
     if answer.number == 0 && 6 * u64::from(answer.count) > capacity {
@@ -579,7 +578,7 @@ pub fn table_within(file: &[u8], capacity: u64) -> Table {
     answer
 }
 
-// Sections "Words and nesting" and "Rows and calls": the whole file's rows in file order.
+// FORMAT 6.5, 7: the whole file's rows in file order.
 fn rows(file: &[u8]) -> Result<Vec<Row>, Refusal> {
     limit(file)?;
     let mut rows = vec![header(file)?];
@@ -590,7 +589,7 @@ fn rows(file: &[u8]) -> Result<Vec<Row>, Refusal> {
     Ok(rows)
 }
 
-// Section "Words and nesting": the file header.
+// FORMAT 6.4: the file header.
 fn header(file: &[u8]) -> Result<Row, Refusal> {
     room(0, file.len() as u64)?;
     require(word(file, 0) == MAGIC, 3, 0)?;
@@ -599,7 +598,7 @@ fn header(file: &[u8]) -> Result<Row, Refusal> {
     Ok([1, 0, 8, 0, version, 0])
 }
 
-// Section "Words and nesting": the configuration at byte 8 and its entries; gives its end.
+// FORMAT 6.3: the configuration at byte 8 and its entries; gives its end.
 fn configuration(file: &[u8], rows: &mut Vec<Row>) -> Result<u64, Refusal> {
     let own = structure(file, 8, file.len() as u64, &[CONFIGURATION])?;
     let own_row = rows.len();
@@ -615,7 +614,7 @@ fn configuration(file: &[u8], rows: &mut Vec<Row>) -> Result<u64, Refusal> {
     Ok(own.end)
 }
 
-// Section "Words and nesting": an event and its records; gives its end.
+// FORMAT 6.2: an event and its records; gives its end.
 fn event(file: &[u8], start: u64, rows: &mut Vec<Row>) -> Result<u64, Refusal> {
     let own = event_structure(file, start)?;
     let own_row = rows.len();
@@ -633,7 +632,7 @@ fn event(file: &[u8], start: u64, rows: &mut Vec<Row>) -> Result<u64, Refusal> {
     Ok(own.end)
 }
 
-// Section "Numbers given back": an event's own tests: room, 0xA980, 7, 8, its length against
+// FORMAT 6.2: an event's own tests: room, 0xA980, 7, 8, its length against
 // the file, then 9 for length 0.
 fn event_structure(file: &[u8], start: u64) -> Result<Structure, Refusal> {
     room(start, file.len() as u64)?;
@@ -655,8 +654,8 @@ fn event_structure(file: &[u8], start: u64) -> Result<Structure, Refusal> {
     })
 }
 
-// Section "Words and nesting": the first record is administrative; every kind but trace
-// occurs at most once. The list holds each kind seen so far once.
+// FORMAT 6.2: the administrative record before all others, and nothing but traces twice. The
+// list holds each kind seen so far once.
 fn event_rules(given: &Structure, seen: &mut Vec<u32>) -> Result<(), Refusal> {
     given.require(!seen.is_empty() || given.kind == ADMINISTRATIVE, 9)?;
     if seen.contains(&given.kind) {
@@ -667,7 +666,7 @@ fn event_rules(given: &Structure, seen: &mut Vec<u32>) -> Result<(), Refusal> {
     }
 }
 
-// Section "Rows and calls": a row's six numbers.
+// FORMAT 7.1: a row's six numbers.
 fn row(kind: u32, given: &Structure, parent: u32, values: (u32, u32)) -> Row {
     let whole_length = (given.end - given.start) as u32;
     [
@@ -680,7 +679,7 @@ fn row(kind: u32, given: &Structure, parent: u32, values: (u32, u32)) -> Row {
     ]
 }
 
-// Section "Rows and calls": a record's or an entry's row; the parent's index is from 0.
+// FORMAT 7.2: a record's or an entry's row; the parent's index is from 0.
 fn record_row(file: &[u8], given: &Structure, record: &Record, parent_index: usize) -> Row {
     let values = match record {
         Record::Phonon(words) => (words[0] as u32, words[1] as u32),
@@ -699,7 +698,7 @@ fn record_row(file: &[u8], given: &Structure, record: &Record, parent_index: usi
     row(row_kind(record), given, parent_index as u32 + 1, values)
 }
 
-/// Section "Rows and calls": the row kind of a record or an entry.
+/// FORMAT 7.2: the row kind of a record or an entry.
 pub fn row_kind(record: &Record) -> u32 {
     match record {
         Record::Phonon(_) => 3,
@@ -713,7 +712,7 @@ pub fn row_kind(record: &Record) -> u32 {
     }
 }
 
-/// Section "Rows and calls", Walker: opening a file.
+/// FORMAT 8.3: opening a file.
 pub fn walk(file: &[u8]) -> Walk {
     match rows(file) {
         Ok(rows) => Walk {
@@ -730,8 +729,8 @@ pub fn walk(file: &[u8]) -> Walk {
 }
 
 impl Walk {
-    /// Section "Rows and calls", Walker: the rows one at a time, then the end again and
-    /// again; over a refused file that refusal each time.
+    /// FORMAT 8.3: one yield: the next row; behind the last row the end; of a refused file its
+    /// refusal.
     pub fn step(&mut self) -> Yield {
         if self.reached < self.rows.len() {
             self.reached += 1;
@@ -742,16 +741,14 @@ impl Walk {
     }
 }
 
-/// Section "Rows and calls", Record: one record or entry at a given place, with the whole
-/// lent bytes as its parent and no event rules.
+/// FORMAT 8.5: what stands at a place, read without what stands around it.
 pub fn record(file: &[u8], place: u64) -> Result<Record, Refusal> {
     limit(file)?;
     let given = structure(file, place, file.len() as u64, &RECORDS_AND_ENTRIES)?;
     contents(file, &given)
 }
 
-/// Section "Words and nesting": an entry in working units, with Record's refusals, then 5
-/// there for another kind.
+/// FORMAT 8.6: an entry in working units; after Record's refusals 5 for what is no entry.
 pub fn setting(file: &[u8], place: u64) -> Result<Setting, Refusal> {
     match record(file, place)? {
         Record::Phonon(words) => Ok(Setting::Phonon {
@@ -781,13 +778,13 @@ pub fn setting(file: &[u8], place: u64) -> Result<Setting, Refusal> {
     }
 }
 
-// Section "Words and nesting": turned into a 64-bit float and divided by 100.
+// FORMAT 8.6: a hundredth of a stored word.
 fn hundredth(word: i32) -> f64 {
     f64::from(word) / 100.0
 }
 
-/// Section "Rows and calls", Samples: offset and length of the part that holds the samples;
-/// where Record finds no trace, an empty part.
+/// FORMAT 8.7: where the samples of the trace at a place start, and how many bytes they are;
+/// no bytes where there is no trace.
 pub fn samples(file: &[u8], place: u64) -> (u64, u64) {
     match record(file, place) {
         Ok(Record::Trace { n, .. }) => (place + 8 + 48, 2 * u64::from(n)),
@@ -795,8 +792,7 @@ pub fn samples(file: &[u8], place: u64) -> (u64, u64) {
     }
 }
 
-/// Section "Rows and calls", Samples: a sample by number, from 1; the lower half of a word is
-/// the earlier sample.
+/// FORMAT 8.7: a sample by number, from 1: a word has two, the first in its lower half.
 pub fn sample(file: &[u8], place: u64, number: u64) -> Result<u16, Refusal> {
     match record(file, place)? {
         Record::Trace { n, .. } => {
@@ -813,8 +809,7 @@ pub fn sample(file: &[u8], place: u64, number: u64) -> Result<u16, Refusal> {
     }
 }
 
-/// Section "Rows and calls", Find: the first trace in file order whose event carries that
-/// number and whose code is that code; or nothing.
+/// FORMAT 8.8: by the rows: the place of the first trace of a code in events of a number.
 pub fn find(file: &[u8], number: u32, code: u32) -> Result<Option<u64>, Refusal> {
     let mut carries_number = false;
     for found in rows(file)? {

@@ -1,4 +1,4 @@
-//! Calls of the writing half of document 01, for one implementation or another: random trees,
+//! Calls of the writing half (FORMAT 9), for one implementation or another: random trees,
 //! aimed calls, random calls. Another program needs its own `perform` alone.
 //!
 //! - A tree: `calls(&tree)` gives the calls in order, all over one output of any length; with
@@ -21,7 +21,7 @@ use super::writer::{self, Answer};
 /// What stands in an output before it is written.
 const FILLER: u8 = 0xC3;
 
-/// Section "Rows and calls", Writers: one call with its fields. A closing's contents are the
+/// FORMAT 9: one call with its fields. A closing's contents are the
 /// bytes put behind its eight free bytes before the call (see `output_before`); they are no
 /// part of the call itself, and empty where earlier calls have written them.
 #[derive(Clone, Debug, PartialEq, Eq)]
@@ -104,7 +104,7 @@ pub enum Call {
     },
 }
 
-/// Section "Rows and calls", Writers: the call, made of this side's writers.
+/// FORMAT 9.1: the call, made of this side's writers.
 pub fn perform(call: &Call, out: &mut [u8]) -> Answer {
     match call {
         Call::Header { major, minor } => writer::header(out, *major, *minor),
@@ -255,7 +255,7 @@ impl Call {
         }
     }
 
-    /// Sections "Words and nesting" and "The six records": how many bytes a header, an entry or
+    /// FORMAT 4, 5, 6.4: how many bytes a header, an entry or
     /// a record takes, its parts as they are handed over; a closing its eight; a rewrite all.
     pub fn size(&self) -> usize {
         match self {
@@ -309,7 +309,7 @@ pub struct Event {
     pub end_shift: isize,
 }
 
-/// Section "Rows and calls", Writers: the tree's calls in order: header; entries, the
+/// FORMAT 9: the tree's calls in order: header; entries, the
 /// configuration's closing; each event's records and its closing.
 pub fn calls(tree: &Tree) -> Vec<Call> {
     let mut list = vec![Call::Header {
@@ -373,7 +373,7 @@ pub fn tree_length(tree: &Tree) -> usize {
     longest
 }
 
-/// Section "Rows and calls", Writers: the tree's calls performed in order over one output.
+/// FORMAT 9: the tree's calls performed in order over one output.
 pub fn assemble(tree: &Tree, out: &mut [u8]) -> Vec<Answer> {
     calls(tree).iter().map(|call| perform(call, out)).collect()
 }
@@ -395,7 +395,7 @@ pub fn random_tree(random: &mut Random) -> Tree {
     tree
 }
 
-// Section "Words and nesting": a file in parts as a tree.
+// FORMAT 6.5: a file in parts as a tree.
 fn tree_of(parts: &Parts) -> Tree {
     let [major, minor, _, _] = parts.version.to_be_bytes();
     Tree {
@@ -407,7 +407,7 @@ fn tree_of(parts: &Parts) -> Tree {
     }
 }
 
-// Section "Words and nesting": an event in parts as a tree's event.
+// FORMAT 6.2: an event in parts as a tree's event.
 fn event_of((first_word, records): &(u32, Vec<Vec<u8>>)) -> Event {
     Event {
         class: first_word >> 12 & 0xF,
@@ -418,7 +418,7 @@ fn event_of((first_word, records): &(u32, Vec<Vec<u8>>)) -> Event {
     }
 }
 
-// Section "Rows and calls", Record: the call that writes a valid structure.
+// FORMAT 9.2: the call that writes a valid structure.
 fn call_of(bytes: &[u8]) -> Call {
     let place = 0;
     match record(bytes, 0).expect("a valid structure") {
@@ -500,7 +500,7 @@ fn call_of(bytes: &[u8]) -> Call {
     }
 }
 
-// Section "The six records", history: the bytes of so many words.
+// FORMAT 5.3: the bytes of so many words.
 fn words_from(bytes: &[u8], start: u64, count: u32) -> Vec<u8> {
     let first = start as usize;
     bytes[first..first + 4 * count as usize].to_vec()
@@ -547,13 +547,13 @@ fn spoil_members(random: &mut Random, members: &mut Vec<Call>, end_shift: &mut i
 // ---------------------------------------------------------------------------------------------
 // Values at and around the boundaries of the fields.
 
-/// Section "Words and nesting", events: class, four bits, 0 or 2.
+/// FORMAT 6.2: class, four bits, 0 or 2.
 const CLASSES: [u32; 10] = [0, 1, 2, 3, 4, 15, 16, 18, 0x8000_0000, u32::MAX];
 
-/// Section "Words and nesting", events: category, four bits, 0, 1 or 6.
+/// FORMAT 6.2: category, four bits, 0, 1 or 6.
 const CATEGORIES: [u32; 12] = [0, 1, 2, 5, 6, 7, 15, 16, 17, 22, 0x8000_0000, u32::MAX];
 
-/// Section "Words and nesting", events: type, eight bits, 0 to 0xA but 7.
+/// FORMAT 6.2: type, eight bits, 0 to 0xA but 7.
 const TYPES: [u32; 22] = [
     0,
     1,
@@ -579,7 +579,7 @@ const TYPES: [u32; 22] = [
     u32::MAX,
 ];
 
-/// Section "Words and nesting": signed words that are free.
+/// FORMAT 4: signed words that are free.
 const SIGNED: [i32; 9] = [
     i32::MIN,
     i32::MIN + 1,
@@ -592,10 +592,10 @@ const SIGNED: [i32; 9] = [
     i32::MAX,
 ];
 
-/// Section "The six records": words that are free.
+/// FORMAT 5: words that are free.
 const FREE: [u32; 6] = [0, 1, 0x0102_0304, 0x7FFF_FFFF, 0x8000_0000, u32::MAX];
 
-/// Section "The six records", history: counts at the ends of the signed words, and such whose
+/// FORMAT 5.3: counts at the ends of the signed words, and such whose
 /// size in bytes is not a 32-bit number.
 const COUNTS: [u32; 13] = [
     0,
@@ -613,7 +613,7 @@ const COUNTS: [u32; 13] = [
     u32::MAX,
 ];
 
-/// Sections "Words and nesting" and "The six records": words near some rule, for contents.
+/// FORMAT 4, 5: words near some rule, for contents.
 const CONTENT_WORDS: [u32; 62] = [
     0,
     1,
@@ -679,7 +679,7 @@ const CONTENT_WORDS: [u32; 62] = [
     u32::MAX,
 ];
 
-// Section "Channels": codes of listed and unlisted types and channels, and codes past the end.
+// FORMAT 3.2: codes of listed and unlisted types and channels, and codes past the end.
 fn codes() -> Vec<u32> {
     let mut list = vec![
         999_999_999,
@@ -699,7 +699,7 @@ fn codes() -> Vec<u32> {
     list
 }
 
-// Section "The six records": LLYYMMDD; every LL, then the ends of every month.
+// FORMAT 5.1: LLYYMMDD; every LL, then the ends of every month.
 fn series_dates() -> Vec<u32> {
     let mut list = vec![0, 101, 99_999_999, 100_000_000, 0x0110_0115, u32::MAX];
     list.extend((0..=101).map(|location| location * 1_000_000 + 100_115));
@@ -713,7 +713,7 @@ fn series_dates() -> Vec<u32> {
     list
 }
 
-// Section "The six records": HHMM; the ends of every hour.
+// FORMAT 5.1: HHMM; the ends of every hour.
 fn series_times() -> Vec<u32> {
     let mut list = vec![10_000, 10_059, 12_359, 0x1630, 0x8000_0000, u32::MAX];
     for hour in 0..=25 {
@@ -722,19 +722,19 @@ fn series_times() -> Vec<u32> {
     list
 }
 
-/// Section "The six records", trace: counts of samples around 512 and 1,024 bytes, 4,096, 8,192 and
+/// FORMAT 5.2: counts of samples around 512 and 1,024 bytes, 4,096, 8,192 and
 /// 12,288; an implementation may store a part in blocks.
 const AROUND_BLOCKS: [u32; 15] = [
     254, 256, 258, 510, 512, 514, 2_046, 2_048, 2_050, 4_094, 4_096, 4_098, 6_142, 6_144, 6_146,
 ];
 
-/// Section "The six records", history: counts of times, or of masks, whose lists have 512, 1,024,
+/// FORMAT 5.3: counts of times, or of masks, whose lists have 512, 1,024,
 /// 4,096 or 8,192 bytes, or a little less or more: of 4 bytes each, or of 24.
 const LONG_LISTS: [u32; 17] = [
     21, 22, 42, 43, 127, 128, 129, 170, 171, 341, 342, 1_023, 1_024, 1_025, 2_047, 2_048, 2_049,
 ];
 
-// Section "The six records", trace: n with the size of the samples handed over.
+// FORMAT 5.2: n with the size of the samples handed over.
 fn sample_sizes() -> Vec<(u32, usize)> {
     let mut list: Vec<(u32, usize)> = Vec::new();
     list.extend((0..=100).map(|n| (n, 2 * n as usize)));
@@ -798,7 +798,7 @@ fn changed<T: Copy>(call: &Call, list: &[T], change: impl Fn(&mut Call, T)) -> V
     copies
 }
 
-// Section "Words and nesting": the code, then the words that are free.
+// FORMAT 4.1, 4.2: the code, then the words that are free.
 fn entry_variants(words: &[i32], call: impl Fn(&[i32]) -> Call) -> Vec<Call> {
     let mut list = Vec::new();
     let mut held = words.to_vec();
@@ -816,7 +816,7 @@ fn entry_variants(words: &[i32], call: impl Fn(&[i32]) -> Call) -> Vec<Call> {
     list
 }
 
-// Section "The six records": administrative; the series words, then the words that are free.
+// FORMAT 5.1: administrative; the series words, then the words that are free.
 fn administrative_variants(call: &Call) -> Vec<Call> {
     let set = |position: usize| {
         move |call: &mut Call, value: u32| {
@@ -850,7 +850,7 @@ fn administrative_variants(call: &Call) -> Vec<Call> {
     list
 }
 
-// Section "The six records": trace; each word, then n with its samples.
+// FORMAT 5.2: trace; each word, then n with its samples.
 fn trace_variants(call: &Call) -> Vec<Call> {
     let set = |position: usize| {
         move |call: &mut Call, value: u32| {
@@ -886,7 +886,7 @@ fn trace_variants(call: &Call) -> Vec<Call> {
     list
 }
 
-// Section "The six records", trace: another n, and samples of a size.
+// FORMAT 5.2: another n, and samples of a size.
 fn set_samples(call: &mut Call, given: u32, size: usize) {
     if let Call::Trace { n, samples, .. } = call {
         *n = given;
@@ -894,7 +894,7 @@ fn set_samples(call: &mut Call, given: u32, size: usize) {
     }
 }
 
-// Section "The six records", history: a call from counts and sizes of the four lists; no list's
+// FORMAT 5.3: a call from counts and sizes of the four lists; no list's
 // bytes are another's.
 fn history_call(counts: [u32; 4], sizes: [usize; 4]) -> Call {
     let all = part(sizes.iter().sum());
@@ -917,13 +917,13 @@ fn history_call(counts: [u32; 4], sizes: [usize; 4]) -> Call {
     }
 }
 
-// Section "The six records", history: the sizes of the four lists by small counts.
+// FORMAT 5.3: the sizes of the four lists by small counts.
 fn list_sizes(counts: [u32; 4]) -> [usize; 4] {
     let [nvt, nvw, ntt, ntw] = counts.map(|count| count as usize);
     [4 * nvt, 4 * nvt * nvw, 4 * ntt, 4 * ntt * ntw]
 }
 
-// Section "The six records": history; every small set of counts, long lists, then each count and
+// FORMAT 5.3: history; every small set of counts, long lists, then each count and
 // each size off from the call's own.
 fn history_variants(call: &Call) -> Vec<Call> {
     let mut list = small_histories();
@@ -945,7 +945,7 @@ fn history_variants(call: &Call) -> Vec<Call> {
     list
 }
 
-// Section "The six records", history: the four counts, and the sizes of the lists handed over.
+// FORMAT 5.3: the four counts, and the sizes of the lists handed over.
 fn counts_and_sizes(call: &Call) -> ([u32; 4], [usize; 4]) {
     match call {
         Call::History {
@@ -966,7 +966,7 @@ fn counts_and_sizes(call: &Call) -> ([u32; 4], [usize; 4]) {
     }
 }
 
-// Section "The six records", history: every small set of counts, with lists of their sizes.
+// FORMAT 5.3: every small set of counts, with lists of their sizes.
 fn small_histories() -> Vec<Call> {
     let mut list = Vec::new();
     for nvt in 0..3 {
@@ -982,7 +982,7 @@ fn small_histories() -> Vec<Call> {
     list
 }
 
-// Section "The six records", history: long veto times with their masks, veto masks alone, trigger
+// FORMAT 5.3: long veto times with their masks, veto masks alone, trigger
 // times with their masks.
 fn long_histories() -> Vec<Call> {
     let mut list = Vec::new();
@@ -994,7 +994,7 @@ fn long_histories() -> Vec<Call> {
     list
 }
 
-// Section "Numbers given back", 6: the sizes that the counts would have by 32-bit arithmetic,
+// FORMAT 5.3, number 6: the sizes that the counts would have by 32-bit arithmetic,
 // where those are small; else none.
 fn wrapped_sizes(counts: [u32; 4]) -> [usize; 4] {
     let [nvt, nvw, ntt, ntw] = counts;
@@ -1008,7 +1008,7 @@ fn wrapped_sizes(counts: [u32; 4]) -> [usize; 4] {
     .map(|size| if size < 1_000 { size as usize } else { 0 })
 }
 
-// Section "The six records": GPS; each of the seven fields, the day in years of every sort.
+// FORMAT 5.4: GPS; each of the seven fields, the day in years of every sort.
 fn gps_variants(call: &Call) -> Vec<Call> {
     let set = |position: usize| {
         move |call: &mut Call, value: u32| {
@@ -1093,7 +1093,7 @@ fn gps_variants(call: &Call) -> Vec<Call> {
     list
 }
 
-// Section "The six records": trigger; six free masks.
+// FORMAT 5.5: trigger; six free masks.
 fn trigger_variants(masks: &[u32; 6]) -> Vec<Call> {
     let mut list = Vec::new();
     for position in 0..6 {
@@ -1106,7 +1106,7 @@ fn trigger_variants(masks: &[u32; 6]) -> Vec<Call> {
     list
 }
 
-// Section "The six records": TLB; each word zero, with its own top byte, or with another.
+// FORMAT 5.6: TLB; each word zero, with its own top byte, or with another.
 fn tlb_variants(masks: &[u32; 6]) -> Vec<Call> {
     let mut list = Vec::new();
     for position in 0..6 {
@@ -1126,7 +1126,7 @@ fn tlb_variants(masks: &[u32; 6]) -> Vec<Call> {
 // ---------------------------------------------------------------------------------------------
 // Aimed calls.
 
-/// Section "Numbers given back": single calls with their output's length. Every field of every
+/// FORMAT 9.1: single calls with their output's length. Every field of every
 /// writer stands at its boundaries; every refusal is given at least a hundred times.
 pub fn aimed_calls() -> Vec<(Call, usize)> {
     let mut list = Vec::new();
@@ -1146,7 +1146,7 @@ pub fn aimed_calls() -> Vec<(Call, usize)> {
     list
 }
 
-// Sections "Words and nesting" and "The six records": one valid call of each of the eight kinds.
+// FORMAT 4, 5: one valid call of each of the eight kinds.
 fn bases() -> Vec<Call> {
     let place = 0;
     vec![
@@ -1199,7 +1199,7 @@ fn bases() -> Vec<Call> {
     ]
 }
 
-/// Section "The six records": traces and histories with long parts.
+/// FORMAT 5.2, 5.3: traces and histories with long parts.
 pub fn long_calls() -> Vec<Call> {
     let mut long = long_histories();
     for base in bases() {
@@ -1221,7 +1221,7 @@ fn aim_long_parts(list: &mut Vec<(Call, usize)>) {
     }
 }
 
-// Section "Words and nesting": the file header; free DAQ bytes, lengths around 8 and the limit.
+// FORMAT 6.4: the file header; free DAQ bytes, lengths around 8 and the limit.
 fn aim_headers(list: &mut Vec<(Call, usize)>) {
     for (major, minor) in [
         (0, 0),
@@ -1238,7 +1238,7 @@ fn aim_headers(list: &mut Vec<(Call, usize)>) {
     }
 }
 
-// Section "Numbers given back", Writers: fields before 13; each version where it fits exactly,
+// FORMAT 9.1: fields before 13; each version where it fits exactly,
 // with bytes left over, and where one byte is missing.
 fn aim_fields(base: &Call, list: &mut Vec<(Call, usize)>) {
     for version in variants(base) {
@@ -1249,7 +1249,7 @@ fn aim_fields(base: &Call, list: &mut Vec<(Call, usize)>) {
     }
 }
 
-// Section "Numbers given back", 13: places and lengths around the room that is needed.
+// FORMAT 9.1, number 13: places and lengths around the room that is needed.
 fn aim_places(base: &Call, list: &mut Vec<(Call, usize)>) {
     let size = base.size();
     let near = [0, 1, 7, 8, size - 1, size, size + 1, 2 * size];
@@ -1270,7 +1270,7 @@ fn aim_places(base: &Call, list: &mut Vec<(Call, usize)>) {
     }
 }
 
-// Section "Numbers given back", 1: outputs at the limit and over it, before all else.
+// FORMAT 1.1, number 1: outputs at the limit and over it, before all else.
 fn aim_limits(base: &Call, list: &mut Vec<(Call, usize)>) {
     let last = MOST_BYTES - base.size();
     for place in [last, last + 1, MOST_BYTES, MOST_BYTES + 1] {
@@ -1285,14 +1285,14 @@ fn aim_limits(base: &Call, list: &mut Vec<(Call, usize)>) {
     }
 }
 
-// Sections "Words and nesting" and "The six records": a valid entry's or record's bytes.
+// FORMAT 4, 5: a valid entry's or record's bytes.
 fn written(call: &Call) -> Vec<u8> {
     let mut out = vec![0; call.size()];
     perform(call, &mut out).expect("a valid call");
     out
 }
 
-// Section "Words and nesting": the two entries, or the six records of an event, as bytes.
+// FORMAT 6.2, 6.3: the two entries, or the six records of an event, as bytes.
 fn valid_members() -> (Vec<Vec<u8>>, Vec<Vec<u8>>) {
     let mut all: Vec<Vec<u8>> = bases().iter().map(written).collect();
     let records = all.split_off(2);
@@ -1324,7 +1324,7 @@ fn closing_to(event: Option<[u32; 3]>, place: usize, end: usize, contents: Vec<u
     }
 }
 
-// Section "Numbers given back": 7, then 8, before 9 for length 0 and before the contents.
+// FORMAT 9.4: 7, then 8, before 9 for length 0 and before the contents.
 fn aim_own_words(list: &mut Vec<(Call, usize)>) {
     let (_, records) = valid_members();
     let contents = [records[0].clone(), Vec::new(), words(&[9, 9])];
@@ -1346,7 +1346,7 @@ fn aim_own_words(list: &mut Vec<(Call, usize)>) {
     }
 }
 
-// Section "Numbers given back", 13: places and ends around the output; before the own word.
+// FORMAT 9.4, number 13: places and ends around the output; before the own word.
 fn aim_ends(list: &mut Vec<(Call, usize)>) {
     let (entries, records) = valid_members();
     let kinds = [
@@ -1364,7 +1364,7 @@ fn aim_ends(list: &mut Vec<(Call, usize)>) {
     }
 }
 
-// Section "Numbers given back", 13: one closing, its places, ends and lengths of output.
+// FORMAT 9.4, number 13: one closing, its places, ends and lengths of output.
 fn aim_ends_of(
     event: Option<[u32; 3]>,
     place: usize,
@@ -1389,7 +1389,7 @@ fn aim_ends_of(
     }
 }
 
-// Section "Numbers given back": the contents' own refusals, in a configuration and an event.
+// FORMAT 9.4: the contents' own refusals, in a configuration and an event.
 fn aim_contents(list: &mut Vec<(Call, usize)>) {
     let (entries, records) = valid_members();
     for (event, base) in [(None, &entries), (Some([0, 0, 0]), &records)] {
@@ -1404,7 +1404,7 @@ fn aim_contents(list: &mut Vec<(Call, usize)>) {
     }
 }
 
-// Sections "Words and nesting" and "Numbers given back": contents made from valid members by
+// FORMAT 2.3, 9.4: contents made from valid members by
 // one change: of the list, of a word, of the length.
 fn contents_of(base: &[Vec<u8>], strangers: &[Vec<u8>]) -> Vec<Vec<u8>> {
     let mut list = member_changes(base, strangers);
@@ -1425,7 +1425,7 @@ fn contents_of(base: &[Vec<u8>], strangers: &[Vec<u8>]) -> Vec<Vec<u8>> {
     list
 }
 
-// Section "Words and nesting": no member, one alone, one missing, one put in again or a
+// FORMAT 2.3: no member, one alone, one missing, one put in again or a
 // stranger put in, two exchanged.
 fn member_changes(base: &[Vec<u8>], strangers: &[Vec<u8>]) -> Vec<Vec<u8>> {
     let mut list = vec![Vec::new()];
@@ -1452,7 +1452,7 @@ fn member_changes(base: &[Vec<u8>], strangers: &[Vec<u8>]) -> Vec<Vec<u8>> {
     list
 }
 
-// Section "Numbers given back", 6: each member with a body of another size and a length to it;
+// FORMAT 6.1, number 6: each member with a body of another size and a length to it;
 // 2: with a length that its bytes don't reach.
 fn length_changes(base: &[Vec<u8>]) -> Vec<Vec<u8>> {
     let mut list = Vec::new();
@@ -1472,7 +1472,7 @@ fn length_changes(base: &[Vec<u8>]) -> Vec<Vec<u8>> {
     list
 }
 
-// Section "Numbers given back", 1: closings over outputs at the limit and over it.
+// FORMAT 9.4, number 1: closings over outputs at the limit and over it.
 fn aim_closing_limits(list: &mut Vec<(Call, usize)>) {
     let (entries, records) = valid_members();
     let kinds = [
@@ -1495,7 +1495,7 @@ fn aim_closing_limits(list: &mut Vec<(Call, usize)>) {
     }
 }
 
-// Section "Words and nesting": a file from contents, as its configuration's or its event's.
+// FORMAT 6.5: a file from contents, as its configuration's or its event's.
 fn file_of(event: bool, contents: &[u8]) -> Vec<u8> {
     let length = contents.len() as u32;
     let mut file = words(&[MAGIC, VERSION]);
@@ -1508,7 +1508,7 @@ fn file_of(event: bool, contents: &[u8]) -> Vec<u8> {
     file
 }
 
-// Section "Rows and calls", Writers: the file's refusal before 13; accepted files into outputs
+// FORMAT 9.5: the file's refusal before 13; accepted files into outputs
 // of every length around theirs.
 fn aim_rewrites(list: &mut Vec<(Call, usize)>) {
     let (entries, records) = valid_members();
@@ -1531,7 +1531,7 @@ fn aim_rewrites(list: &mut Vec<(Call, usize)>) {
     aim_file_headers(&file, list);
 }
 
-// Section "Numbers given back", 3 and 4: files with any other first word or format; the DAQ
+// FORMAT 6.4, numbers 3 and 4: files with any other first word or format; the DAQ
 // bytes are free.
 fn aim_file_headers(file: &[u8], list: &mut Vec<(Call, usize)>) {
     let mut push = |place: usize, value: u8, length: usize| {
@@ -1547,7 +1547,7 @@ fn aim_file_headers(file: &[u8], list: &mut Vec<(Call, usize)>) {
     }
 }
 
-// Section "Rows and calls", Writers: 1 for either buffer, before the file's refusal and 13; the
+// FORMAT 9.5: 1 for either buffer, before the file's refusal and 13; the
 // limit is not asked of a list that is handed over.
 fn aim_rewrite_limits(list: &mut Vec<(Call, usize)>) {
     let (_, records) = valid_members();
@@ -1623,7 +1623,7 @@ fn random_closing(random: &mut Random) -> (Call, usize) {
     (closing_to(event, place, end, contents), length)
 }
 
-// Section "Words and nesting": class, category and type, admitted in most cases.
+// FORMAT 6.2: class, category and type, admitted in most cases.
 fn own_word(random: &mut Random) -> [u32; 3] {
     let mut own = [
         random.pick(&[0, 2]),
@@ -1639,7 +1639,7 @@ fn own_word(random: &mut Random) -> [u32; 3] {
     own
 }
 
-// Section "Numbers given back": one change of a container's contents.
+// FORMAT 9.4: one change of a container's contents.
 fn damage(random: &mut Random, contents: &mut Vec<u8>) {
     if contents.is_empty() {
         contents.extend(words(&[random.pick(&CONTENT_WORDS), 0]));

@@ -10,14 +10,14 @@ use super::reader::{
     channel_of, code_of, find, record, row_kind, sample, setting, table, Record, Row, Setting,
 };
 
-// No section: a line of text; writing to a string cannot fail.
+// A line of text; writing to a string cannot fail.
 macro_rules! line {
     ($text:expr, $($part:tt)*) => {
         let _ = writeln!($text, $($part)*);
     };
 }
 
-// Section "Rows and calls": the aimed cases, then random files, each with its answers.
+// FORMAT 8: the aimed cases, then random files, each with its answers.
 pub fn vectors(text: &mut String, seed: u64, count: u64, most_bytes: u64) -> bool {
     let mut random = Random::new(seed);
     let mut printed = 0;
@@ -39,7 +39,7 @@ pub fn vectors(text: &mut String, seed: u64, count: u64, most_bytes: u64) -> boo
     true
 }
 
-// Section "Rows and calls": all the answers for one file.
+// FORMAT 8: all the answers for one file.
 fn file_lines(text: &mut String, name: &str, file: &[u8], random: &mut Random) {
     line!(text, "case {name}");
     text.push_str("file");
@@ -77,7 +77,7 @@ fn file_lines(text: &mut String, name: &str, file: &[u8], random: &mut Random) {
     find_lines(text, file, &answer.rows, random);
 }
 
-// Section "Rows and calls", Record: three places: of a word, any, and near or past the end.
+// FORMAT 8.5: three places: of a word, any, and near or past the end.
 fn random_places(file: &[u8], random: &mut Random) -> [u64; 3] {
     let length = file.len() as u64;
     let word_place = match random.below(2) {
@@ -94,7 +94,7 @@ fn random_places(file: &[u8], random: &mut Random) -> [u64; 3] {
     [word_place, any_place, near_end]
 }
 
-// Section "Rows and calls", Record: its answer, with the setting of an entry and samples of a
+// FORMAT 8.5, 8.6, 8.7: its answer, with the setting of an entry and samples of a
 // trace.
 fn record_lines(text: &mut String, file: &[u8], place: u64) {
     match record(file, place) {
@@ -118,7 +118,7 @@ fn record_lines(text: &mut String, file: &[u8], place: u64) {
     }
 }
 
-// Section "Rows and calls": now and then a setting or a sample asked where there is none.
+// FORMAT 8.6, 8.7: now and then a setting or a sample asked where there is none.
 fn refused_example_lines(text: &mut String, file: &[u8], places: &[u64], random: &mut Random) {
     let place = random.pick(places);
     let found = record(file, place);
@@ -132,7 +132,7 @@ fn refused_example_lines(text: &mut String, file: &[u8], places: &[u64], random:
     }
 }
 
-// Section "Rows and calls": a record's fields in order.
+// FORMAT 8.5: a record's fields in order.
 fn fields(found: &Record) -> String {
     match found {
         Record::Phonon(words) => joined(words),
@@ -179,13 +179,13 @@ fn fields(found: &Record) -> String {
     }
 }
 
-// No section: numbers with one blank between.
+// Numbers with one blank between.
 fn joined<T: ToString>(values: &[T]) -> String {
     let texts: Vec<String> = values.iter().map(T::to_string).collect();
     texts.join(" ")
 }
 
-// Section "Words and nesting": an entry in working units, floats by their bits.
+// FORMAT 8.6: an entry in working units, floats by their bits.
 fn setting_line(text: &mut String, file: &[u8], place: u64) {
     match setting(file, place) {
         Err((number, at)) => {
@@ -225,7 +225,7 @@ fn setting_line(text: &mut String, file: &[u8], place: u64) {
     }
 }
 
-// Section "Rows and calls", Samples: a sample by number.
+// FORMAT 8.7: a sample by number.
 fn sample_line(text: &mut String, file: &[u8], place: u64, number: u64) {
     match sample(file, place, number) {
         Ok(value) => {
@@ -237,7 +237,7 @@ fn sample_line(text: &mut String, file: &[u8], place: u64, number: u64) {
     }
 }
 
-// Section "Rows and calls", Find: a trace that is there, and a mixture of what is there.
+// FORMAT 8.8: a trace that is there, and a mixture of what is there.
 fn find_lines(text: &mut String, file: &[u8], rows: &[Row], random: &mut Random) {
     let pairs = numbers_and_codes(rows);
     if pairs.is_empty() {
@@ -265,13 +265,13 @@ fn find_lines(text: &mut String, file: &[u8], rows: &[Row], random: &mut Random)
     }
 }
 
-// Section "Rows and calls": the first values of the rows of a kind.
+// FORMAT 7.2: the first values of the rows of a kind.
 fn values_of_kind(rows: &[Row], kind: u32) -> Vec<u32> {
     let of_kind = rows.iter().filter(|row| row[0] == kind);
     of_kind.map(|row| row[4]).collect()
 }
 
-// Section "Rows and calls": each trace's event number and code.
+// FORMAT 8.8: each trace's event number and code.
 fn numbers_and_codes(rows: &[Row]) -> Vec<(u32, u32)> {
     let mut number = 0;
     let mut pairs = Vec::new();
@@ -285,7 +285,7 @@ fn numbers_and_codes(rows: &[Row]) -> Vec<(u32, u32)> {
     pairs
 }
 
-// Section "Rows and calls", Find: found, nothing or refused.
+// FORMAT 8.8: found, nothing or refused.
 fn find_line(text: &mut String, file: &[u8], number: u32, code: u32) {
     match find(file, number, code) {
         Ok(Some(place)) => {
@@ -300,7 +300,7 @@ fn find_line(text: &mut String, file: &[u8], number: u32, code: u32) {
     }
 }
 
-// Section "Channels": what each code gives.
+// FORMAT 3.4: what each code gives.
 pub fn channels(text: &mut String) -> bool {
     for detector_type in (0..=13).chain([999]) {
         for number in [0, 17, 999] {
@@ -312,7 +312,7 @@ pub fn channels(text: &mut String) -> bool {
     true
 }
 
-// Section "Channels": a code gives type, number, analysis name and cold name.
+// FORMAT 3.4: a code and what it stands for.
 fn channel_line(text: &mut String, code: u32) {
     match channel_of(code) {
         Ok((detector_type, number, analysis, cold)) => {
@@ -337,7 +337,7 @@ const NAMES: [&str; 50] = [
     "PE", "QI2", "PAS3", "PAS", "PAS11", "PS3", "QIS", "PS",
 ];
 
-// Section "Channels": what each type, number and name give.
+// FORMAT 3.4: what each type, number and name give.
 pub fn names(text: &mut String) -> bool {
     for detector_type in (0..=13).chain([999, 1_000, 4_295]) {
         for name in NAMES {
@@ -356,13 +356,13 @@ pub fn names(text: &mut String) -> bool {
     true
 }
 
-// Section "Channels": type, number and analysis name give the code.
+// FORMAT 3.4: a channel by its name, and its code.
 fn name_line(text: &mut String, detector_type: u32, number: u32, name: &str) {
     let answer = code_of(detector_type, number, name.as_bytes()).unwrap_or(10);
     line!(text, "name {detector_type} {number} {name} {answer}");
 }
 
-// Section "Numbers given back": how often random files get each number, and how often each
+// FORMAT 2.1: how often random files get each number, and how often each
 // kind of row stands in accepted ones.
 pub fn count(text: &mut String, seed: u64, files: u64) -> bool {
     let started = Instant::now();

@@ -1,8 +1,8 @@
-//! The writing rules of document 01, stated as functions over a lent output.
+//! The writing rules of docs/FORMAT.md, stated as functions over a lent output.
 //!
-//! Open choices, where the documents leave something open:
+//! Readings of this implementation, where a rule could be taken in two ways:
 //!
-//!  1. Trigger: "time 0" is a constant like a trace's inner words, and Record's answer here has
+//!  1. Trigger: the time is a constant like a trace's inner words, and Record's answer here has
 //!     six masks alone; the writer takes the six masks and writes the time 0 itself.
 //!  2. Trace: n is handed over once and stands at both counts. It is tested where the reading
 //!     rules test it, at its second count, so after delta t; the samples' size comes last.
@@ -28,10 +28,10 @@
 
 use super::reader::{channel_of, record, table, Record, Row, MOST_BYTES};
 
-/// Section "Numbers given back": a writer's refusal, its number and place.
+/// FORMAT 9.1: a writer's refusal, its number and place.
 pub type Refusal = (u32, usize);
 
-/// Section "Rows and calls", Writers: the next place, or a refusal.
+/// FORMAT 9.1: the next place, or a refusal.
 pub type Answer = Result<usize, Refusal>;
 
 const MAGIC: u32 = 0x0102_0304;
@@ -46,7 +46,7 @@ const GPS: u32 = 0x60;
 const TRIGGER: u32 = 0x80;
 const TLB: u32 = 0x81;
 
-// Section "Numbers given back": a rule that holds, or the refusal.
+// FORMAT 2.2: a rule that holds, or the refusal.
 fn require(holds: bool, number: u32, place: usize) -> Result<(), Refusal> {
     if holds {
         Ok(())
@@ -55,12 +55,12 @@ fn require(holds: bool, number: u32, place: usize) -> Result<(), Refusal> {
     }
 }
 
-// Section "Numbers given back", 1: a lent file or output is not over the limit.
+// FORMAT 1.1, number 1: a lent file or output is not over the limit.
 fn limit(buffer: &[u8]) -> Result<(), Refusal> {
     require(buffer.len() <= MOST_BYTES, 1, 0)
 }
 
-// Section "Numbers given back", 13: so many bytes of the output from the place on.
+// FORMAT 9.1, number 13: so many bytes of the output from the place on.
 fn room(out: &mut [u8], place: usize, size: usize) -> Result<&mut [u8], Refusal> {
     match out.get_mut(place..) {
         Some(rest) if rest.len() >= size => Ok(&mut rest[..size]),
@@ -68,18 +68,17 @@ fn room(out: &mut [u8], place: usize, size: usize) -> Result<&mut [u8], Refusal>
     }
 }
 
-// Section "Words and nesting": words of 32 bits, little-endian.
+// FORMAT 1.2: words of 32 bits, little-endian.
 fn bytes(words: &[u32]) -> Vec<u8> {
     words.iter().flat_map(|word| word.to_le_bytes()).collect()
 }
 
-// Section "Words and nesting": signed words as the bits that stand in a file.
+// FORMAT 1.2: signed words as the bits that stand in a file.
 fn bits(words: &[i32]) -> Vec<u32> {
     words.iter().map(|word| *word as u32).collect()
 }
 
-// Section "Words and nesting": a kind word, a length word giving the bytes that follow, and
-// those bytes, here in parts; "Numbers given back", 13: all of it or nothing.
+// FORMAT 2.3, 9.1: a structure from its kind and its body in parts: all of it, or nothing and 13.
 fn write(out: &mut [u8], place: usize, kind: u32, parts: &[&[u8]]) -> Answer {
     let length = parts
         .iter()
@@ -95,7 +94,7 @@ fn write(out: &mut [u8], place: usize, kind: u32, parts: &[&[u8]]) -> Answer {
     Ok(place + 8 + length)
 }
 
-/// Section "Words and nesting": the file header, at byte 0; the two DAQ bytes are free.
+/// FORMAT 6.4: the file header, at byte 0; the two DAQ bytes are free.
 pub fn header(out: &mut [u8], daq_major: u8, daq_minor: u8) -> Answer {
     limit(out)?;
     let version = u32::from_be_bytes([daq_major, daq_minor, 2, 0]);
@@ -103,21 +102,21 @@ pub fn header(out: &mut [u8], daq_major: u8, daq_minor: u8) -> Answer {
     Ok(8)
 }
 
-/// Section "Words and nesting": a phonon entry; its code names a phonon channel.
+/// FORMAT 4.1: a phonon entry; its code names a phonon channel.
 pub fn phonon(out: &mut [u8], place: usize, words: &[i32; 11]) -> Answer {
     limit(out)?;
     require(names(words[0], b'P'), 10, place)?;
     write(out, place, PHONON, &[&bytes(&bits(words))])
 }
 
-/// Section "Words and nesting": a charge entry; its code names a charge channel.
+/// FORMAT 4.2: a charge entry; its code names a charge channel.
 pub fn charge(out: &mut [u8], place: usize, words: &[i32; 8]) -> Answer {
     limit(out)?;
     require(names(words[0], b'Q'), 10, place)?;
     write(out, place, CHARGE, &[&bytes(&bits(words))])
 }
 
-// Sections "Words and nesting" and "Channels": the code's name begins with this letter. Every
+// FORMAT 3.2, 4: the code's name begins with this letter. Every
 // listed name with Q is Q, QI, QO or a side form of these.
 fn names(code: i32, letter: u8) -> bool {
     match channel_of(code as u32) {
@@ -126,7 +125,7 @@ fn names(code: i32, letter: u8) -> bool {
     }
 }
 
-/// Section "The six records": administrative.
+/// FORMAT 5.1: administrative.
 #[allow(clippy::too_many_arguments)]
 pub fn administrative(
     out: &mut [u8],
@@ -152,15 +151,14 @@ pub fn administrative(
     write(out, place, ADMINISTRATIVE, &[&body])
 }
 
-// Section "The six records": LLYYMMDD by decimal digits, at most eight; LL is 0, 1, 2, 3, 6,
-// 7, or one of these plus 50.
+// FORMAT 5.1: the series date, digit by digit: a location and a day.
 fn is_series_date(value: u32) -> bool {
     let locations = [0, 1, 2, 3, 6, 7, 50, 51, 52, 53, 56, 57];
     let date = value % 1_000_000;
     locations.contains(&(value / 1_000_000)) && is_date(date / 10_000, date / 100 % 100, date % 100)
 }
 
-// Section "The six records": the date exists; YY divisible by 4 is leap.
+// FORMAT 5.1: a day that the month has; every fourth year is leap.
 fn is_date(year: u32, month: u32, day: u32) -> bool {
     const DAYS: [u32; 13] = [0, 31, 28, 31, 30, 31, 30, 31, 31, 30, 31, 30, 31];
     match DAYS.get(month as usize) {
@@ -172,13 +170,13 @@ fn is_date(year: u32, month: u32, day: u32) -> bool {
     }
 }
 
-// Section "The six records": HHMM is 0000 to 2359 with MM below 60.
+// FORMAT 5.1: hours and minutes by their digits.
 fn is_series_time(value: u32) -> bool {
     value / 100 < 24 && value % 100 < 60
 }
 
-/// Section "The six records": trace; the samples are bytes standing as in a file. Words in
-/// order, n at its second count, then the samples' size against n.
+/// FORMAT 5.2: trace; the samples are bytes standing as in a file. The fields are tested as a
+/// reader meets them, then the samples' size against n.
 #[allow(clippy::too_many_arguments)]
 pub fn trace(
     out: &mut [u8],
@@ -208,8 +206,8 @@ pub fn trace(
     )
 }
 
-/// Section "The six records": history; the four lists are bytes standing as in a file. Each
-/// count in order, 10 if negative or against the missing rule; each list behind its count, 6.
+/// FORMAT 5.3: history; the four lists are bytes standing as in a file. A count's own tests give
+/// 10; behind each count comes its list, whose size gives 6.
 #[allow(clippy::too_many_arguments)]
 pub fn history(
     out: &mut [u8],
@@ -246,17 +244,17 @@ pub fn history(
     write(out, place, HISTORY, &parts)
 }
 
-// Section "The six records", history: counts are signed and not negative.
+// FORMAT 5.3: a count is below 2^31.
 fn is_count(word: u32) -> bool {
     word as i32 >= 0
 }
 
-// Section "Numbers given back", 6: a list's size is its counts', four bytes for each word.
+// FORMAT 5.3, number 6: a list's size is its counts', four bytes for each word.
 fn is_list(list: &[u8], times: u32, words_per_time: u32) -> bool {
     list.len() as u128 == 4 * u128::from(times) * u128::from(words_per_time)
 }
 
-/// Section "The six records": GPS from year, day, status, hour, minute, second and tenths.
+/// FORMAT 5.4: GPS from its seven numbers.
 #[allow(clippy::too_many_arguments)]
 pub fn gps(
     out: &mut [u8],
@@ -283,7 +281,7 @@ pub fn gps(
     write(out, place, GPS, &[&body])
 }
 
-// Section "The six records", GPS: day 1 to 365, 366 in a Gregorian leap year.
+// FORMAT 5.4: the days of a year in the Gregorian calendar.
 fn days_in_year(year: u32) -> u32 {
     let leap = if year % 100 == 0 {
         year % 400 == 0
@@ -293,7 +291,7 @@ fn days_in_year(year: u32) -> u32 {
     365 + u32::from(leap)
 }
 
-// Section "The six records", GPS: a number in BCD, its last digit in the lowest four bits.
+// FORMAT 5.4: a number in BCD, its last digit in the lowest four bits.
 fn decimal_digits(value: u32) -> u32 {
     if value < 10 {
         value
@@ -302,13 +300,13 @@ fn decimal_digits(value: u32) -> u32 {
     }
 }
 
-/// Section "The six records": trigger, time 0, six masks.
+/// FORMAT 5.5: trigger; the masks are free.
 pub fn trigger(out: &mut [u8], place: usize, masks: &[u32; 6]) -> Answer {
     limit(out)?;
     write(out, place, TRIGGER, &[&bytes(&[0]), &bytes(masks)])
 }
 
-/// Section "The six records": TLB mask, word i is zero or has top byte i.
+/// FORMAT 5.6: TLB mask; each word is 0 or has its tower on top.
 pub fn tlb(out: &mut [u8], place: usize, masks: &[u32; 6]) -> Answer {
     limit(out)?;
     for (tower, mask) in (1..).zip(masks) {
@@ -317,8 +315,8 @@ pub fn tlb(out: &mut [u8], place: usize, masks: &[u32; 6]) -> Answer {
     write(out, place, TLB, &[&bytes(masks)])
 }
 
-/// Section "Rows and calls", Writers: a configuration from the place to the end, over entries
-/// already written after eight free bytes.
+/// FORMAT 9.4: a configuration's closing, over the entries that stand between its eight bytes and
+/// the end.
 pub fn close_configuration(out: &mut [u8], place: usize, end: usize) -> Answer {
     limit(out)?;
     span(out, place, end)?;
@@ -326,8 +324,8 @@ pub fn close_configuration(out: &mut [u8], place: usize, end: usize) -> Answer {
     Ok(put_own_words(out, place, end, CONFIGURATION))
 }
 
-/// Section "Rows and calls", Writers: an event from the place to the end, over records already
-/// written after eight free bytes; class, category and type as numbers.
+/// FORMAT 9.4: an event's closing, over the records that stand between its eight bytes and the
+/// end; its class, category and type are numbers of any size.
 pub fn close_event(
     out: &mut [u8],
     place: usize,
@@ -345,15 +343,13 @@ pub fn close_event(
     Ok(put_own_words(out, place, end, first_word))
 }
 
-// Section "Numbers given back", 13: neither place nor end past the output, the end not below
-// the place plus 8.
+// FORMAT 9.4, number 13: the eight bytes and what they close lie in the output.
 fn span(out: &[u8], place: usize, end: usize) -> Result<(), Refusal> {
     let inside = place <= out.len() && end <= out.len();
     require(inside && end >= place + 8, 13, place)
 }
 
-// Sections "Words and nesting" and "Numbers given back": class 0 or 2, category 0, 1 or 6,
-// type 0 to 0xA, each 7; then 8 for type 7.
+// FORMAT 6.2: class, category and type in this order, each 7; then 8 for monitoring.
 fn admitted(class: u32, category: u32, event_type: u32, place: usize) -> Result<(), Refusal> {
     require([0, 2].contains(&class), 7, place)?;
     require([0, 1, 6].contains(&category), 7, place)?;
@@ -361,14 +357,14 @@ fn admitted(class: u32, category: u32, event_type: u32, place: usize) -> Result<
     require(event_type != 7, 8, place)
 }
 
-// Section "Rows and calls", Writers: a container's own eight bytes; gives its end.
+// FORMAT 9.4: a container's own eight bytes; gives its end.
 fn put_own_words(out: &mut [u8], place: usize, end: usize, first_word: u32) -> usize {
     let length = (end - place - 8) as u32;
     out[place..place + 8].copy_from_slice(&bytes(&[first_word, length]));
     end
 }
 
-// Section "Words and nesting": entries from a place to the end of the part of the output.
+// FORMAT 6.3: entries from a place to the end of the part of the output.
 fn entries(part: &[u8], first: usize) -> Result<(), Refusal> {
     let mut place = first;
     while place < part.len() {
@@ -379,8 +375,8 @@ fn entries(part: &[u8], first: usize) -> Result<(), Refusal> {
     Ok(())
 }
 
-// Section "Words and nesting": records from a place to the end of the part of the output; the
-// first is administrative, every kind but trace occurs at most once.
+// FORMAT 6.2: records from a place to the end of the part of the output; the administrative one
+// before all others, and nothing but traces twice.
 fn records(part: &[u8], first: usize) -> Result<(), Refusal> {
     let allowed = [ADMINISTRATIVE, TRACE, HISTORY, GPS, TRIGGER, TLB];
     let mut seen = Vec::new();
@@ -396,8 +392,8 @@ fn records(part: &[u8], first: usize) -> Result<(), Refusal> {
     Ok(())
 }
 
-// Section "Numbers given back": 2 for room; kind; length against the parent, which ends where
-// the part ends. Gives the kind and the next place.
+// FORMAT 6.1: room, kind, and a length that doesn't pass the part's end. Gives the kind and the
+// next place.
 fn structure(part: &[u8], place: usize, allowed: &[u32]) -> Result<(u32, usize), Refusal> {
     let left = part.len() - place;
     require(left >= 8, 2, place)?;
@@ -408,20 +404,20 @@ fn structure(part: &[u8], place: usize, allowed: &[u32]) -> Result<(u32, usize),
     Ok((kind, place + 8 + length))
 }
 
-// Section "Words and nesting": the word at a place, little-endian.
+// FORMAT 1.2: the word at a place, little-endian.
 fn word(part: &[u8], place: usize) -> u32 {
     let mut held = [0; 4];
     held.copy_from_slice(&part[place..place + 4]);
     u32::from_le_bytes(held)
 }
 
-// Section "Rows and calls", Record: a record or an entry with its fields; by the reading rules.
+// FORMAT 8.5: a record or an entry with its fields; by the reading rules.
 fn read(part: &[u8], place: usize) -> Result<Record, Refusal> {
     record(part, place as u64).map_err(|(number, at)| (number, at as usize))
 }
 
-/// Section "Rows and calls", Writers: reads an accepted file's fields and writes them through
-/// the writers from byte 0; 1 for either buffer, the file's refusal, then 13.
+/// FORMAT 9.5: an accepted file's fields, handed to the writers from byte 0 on; of two faults the
+/// limit's comes first, then the file's, then the room's.
 pub fn rewrite(file: &[u8], out: &mut [u8]) -> Answer {
     limit(file)?;
     limit(out)?;
@@ -446,13 +442,13 @@ pub fn rewrite(file: &[u8], out: &mut [u8]) -> Answer {
     close(out, open, place)
 }
 
-// Section "Rows and calls", row 1: the version word's two highest bytes are the DAQ bytes.
+// FORMAT 9.5: row 1: the version word's two highest bytes are the DAQ bytes.
 fn rewrite_header(row: &Row, out: &mut [u8]) -> Answer {
     let [major, minor, _, _] = row[4].to_be_bytes();
     header(out, major, minor)
 }
 
-// Section "Rows and calls", rows 2 and 5: the container begun at a place is closed at an end;
+// FORMAT 9.5: rows 2 and 5: the container begun at a place is closed at an end;
 // an event's first value is the low half of its first word.
 fn close(out: &mut [u8], open: Option<(&Row, usize)>, end: usize) -> Answer {
     match open {
@@ -465,7 +461,7 @@ fn close(out: &mut [u8], open: Option<(&Row, usize)>, end: usize) -> Answer {
     }
 }
 
-// Section "Rows and calls", Writers: one record or entry, read at a place of the file, written
+// FORMAT 9.5: one record or entry, read at a place of the file, written
 // at a place of the output.
 fn rewrite_record(file: &[u8], from: usize, out: &mut [u8], place: usize) -> Answer {
     match read(file, from)? {
@@ -544,7 +540,7 @@ fn rewrite_record(file: &[u8], from: usize, out: &mut [u8], place: usize) -> Ans
     }
 }
 
-// Section "The six records", history: a list of so many words from where it starts.
+// FORMAT 5.3: a list of so many words from where it starts.
 fn list(file: &[u8], start: u64, words: u32) -> &[u8] {
     let start = start as usize;
     &file[start..start + 4 * words as usize]

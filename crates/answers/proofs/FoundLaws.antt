@@ -41,7 +41,7 @@ module _ (o : Order) (bs : List ℕ) (place : ℕ) where
 
 -- A record that was found: what it is, and what its body shows.
 pub record Found (o : Order) (bs : List ℕ) (place k n : ℕ) : Type 0 where
-  pub found : recordFound o bs place ≡ ok (record { kind = k; body = bodyAt bs place n })
+  pub found : recordFound o bs place ≡ ok (record { word = k; body = bodyAt bs place n })
   pub within : length bs ≤ fileLimit
   pub fits : place + 8 + n ≤ length bs
   pub size : length (bodyAt bs place n) ≡ n
@@ -77,7 +77,7 @@ module _ {o : Order} {bs : List ℕ} {place k n : ℕ} where
     pub body-ends : place + 8 + length b ≤ fileLimit
     body-ends = rw (cut, g .size) (omega (arith, g .fits, g .within))
 
-    pub good-given : (given : Res Record → Given) {a : Given} → a ≡ given (ok (record { kind = k; body = b }))
+    pub good-given : (given : Res Record → Given) {a : Given} → a ≡ given (ok (record { word = k; body = b }))
         → a ≡ given (recordFound o bs place)
     good-given given e = rw (g .found, ← cut) e
 

@@ -14,7 +14,7 @@ use Rattle.answers.specs.declared.Section.{Section}
 abbrev pub bodyAt : List ℕ → ℕ → ℕ → List ℕ
 bodyAt bs place n = take n (drop (place + 8) bs)
 
--- Record's answer for a body of a kind: the kind's row, then its values.
+-- FORMAT 8.5: Record's answer for a body of a kind: the kind's row, then its values.
 abbrev pub kindGiven : Order → Kind → ℕ → List ℕ → Given
 kindGiven o x place b = accepted (count (x .row) ∷ x .values o place b)
 
@@ -25,6 +25,6 @@ sixNumbers w = w .first ∷ w .second ∷ w .third ∷ w .fourth ∷ w .fifth �
 abbrev pub sixFrom : Order → ℕ → List ℕ → List ℕ
 sixFrom o p b = word o p b ∷ word o (p + 4) b ∷ word o (p + 8) b ∷ word o (p + 12) b ∷ word o (p + 16) b ∷ word o (p + 20) b ∷ []
 
--- A section's numbers in the answer's order.
+-- FORMAT 5.3: a section's numbers in the answer's order.
 abbrev pub sectionNumbers : Section → List ℕ
 sectionNumbers s = s .count ∷ s .times ∷ s .width ∷ s .masks ∷ []

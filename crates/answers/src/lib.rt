@@ -4,9 +4,19 @@ use fields::hundredth;
 use fields::to_signed;
 use note::RecordAnswer;
 use note::SettingAnswer;
+use note::TOO_LARGE;
+use note::TOO_SHORT;
+use note::WRONG_KIND;
 use record::ALONE;
+use record::FRONT;
 use record::Step;
 use record::record_in;
+use rules::ADDRESS_AT;
+use rules::CHANNEL_AT;
+use rules::CODE_AT;
+use rules::DELTA_AT;
+use rules::N_AT;
+use rules::T0_AT;
 use rules::section_end;
 use words::word_at;
 ghost use mathlib.Core.Path.{_≡_};
@@ -125,16 +135,16 @@ fn trace_of(b: &[u8], big: bool) -> RecordAnswer
     ensures { λ r. ⌜ givenRecord r ≡ kindGiven (orderFrom big) traceKind 0 (now (b .entry)) ⌝ }
 {
     RecordAnswer::Trace {
-        address: word_at(b, 8, big),
-        channel: word_at(b, 12, big),
-        code: word_at(b, 16, big),
-        t0: signed_at(b, 28, big),
-        delta_t: word_at(b, 32, big),
-        samples: word_at(b, 44, big),
+        address: word_at(b, ADDRESS_AT, big),
+        channel: word_at(b, CHANNEL_AT, big),
+        code: word_at(b, CODE_AT, big),
+        t0: signed_at(b, T0_AT, big),
+        delta_t: word_at(b, DELTA_AT, big),
+        n: word_at(b, N_AT, big),
     }
 }
 
-// A GPS record's numbers. By shifts and nibbles (document 01).
+// A GPS record's numbers, by shifts and nibbles (FORMAT 5.4).
 fn gps_of(b: &[u8], big: bool) -> RecordAnswer
     requires { ⌜ 12 ≤ length (now b) ⌝ }
     ensures { λ r. ⌜ givenRecord r ≡ kindGiven (orderFrom big) gpsKind 0 (now (b .entry)) ⌝ }
@@ -213,7 +223,7 @@ fn history_of(place: usize, b: &[u8], big: bool) -> RecordAnswer
     requires { ⌜ (historyRule (orderFrom big) (now b) ≡ 0) × (place + 8 + length (now b) ≤ fileLimit) ⌝ }
     ensures { λ r. ⌜ givenRecord r ≡ kindGiven (orderFrom big) historyKind place (now (b .entry)) ⌝ }
 {
-    let from = place + 8;
+    let from = place + FRONT;
     let veto = section_of(from, 0, b, big);
     let trigger = section_of(from, section_end(0, b, big), b, big);
     RecordAnswer::History {
@@ -229,11 +239,11 @@ fn history_of(place: usize, b: &[u8], big: bool) -> RecordAnswer
 }
 
 // The fields of a body that follows its kind's rule, of a record at `place`. The default isn't reached.
-fn fields_of(kind: u32, place: usize, b: &[u8], big: bool) -> RecordAnswer
-    requires { ⌜ (recordRule (orderFrom big) kind (now b) ≡ 0) × (place + 8 + length (now b) ≤ fileLimit) ⌝ }
-    ensures { λ r. ⌜ givenRecord r ≡ kindGiven (orderFrom big) (kindOf kind) place (now (b .entry)) ⌝ }
+fn fields_of(word: u32, place: usize, b: &[u8], big: bool) -> RecordAnswer
+    requires { ⌜ (recordRule (orderFrom big) word (now b) ≡ 0) × (place + 8 + length (now b) ≤ fileLimit) ⌝ }
+    ensures { λ r. ⌜ givenRecord r ≡ kindGiven (orderFrom big) (kindOf word) place (now (b .entry)) ⌝ }
 {
-    match kind {
+    match word {
         rules::PHONON => phonon_of(b, big),
         rules::CHARGE => charge_of(b, big),
         rules::ADMINISTRATIVE => administrative_of(b, big),
@@ -242,7 +252,10 @@ fn fields_of(kind: u32, place: usize, b: &[u8], big: bool) -> RecordAnswer
         rules::GPS => gps_of(b, big),
         rules::TRIGGER => trigger_of(b, big),
         rules::TLB => tlb_of(b, big),
-        _ => RecordAnswer::Refused { number: 5, place },
+        _ => RecordAnswer::Refused {
+            number: WRONG_KIND,
+            place,
+        },
     }
 }
 
@@ -254,12 +267,15 @@ pub fn record_found(file: &[u8], place: usize, big: bool) -> Step
 {
     if file.len() > record::FILE_LIMIT {
         return Step::Bad {
-            number: 1,
+            number: TOO_LARGE,
             place: 0,
         };
     }
     if place > file.len() {
-        return Step::Bad { number: 2, place };
+        return Step::Bad {
+            number: TOO_SHORT,
+            place,
+        };
     }
     record_in(&file[place..], place, ALONE, big)
 }
@@ -269,21 +285,21 @@ fn body_at(file: &[u8], place: usize, n: usize) -> &[u8]
     requires { ⌜ place + 8 + n ≤ length (now file) ⌝ }
     ensures { λ r. ⌜ now r ≡ bodyAt (now (file .entry)) place n ⌝ }
 {
-    &file[place + 8..place + 8 + n]
+    &file[place + FRONT..place + FRONT + n]
 }
 
 /// Record: the record or entry at a place with its fields, the whole file its parent and no event's rules; or a refusal.
-/// A case for each kind (document 01).
+/// A case for each kind (FORMAT 8.5).
 pub fn record(file: &[u8], place: usize, big: bool) -> RecordAnswer
     ensures { λ r. ⌜ givenRecord r ≡ recordAt (orderFrom big) (now (file .entry)) place ⌝ }
 {
     match record_found(file, place, big) {
-        Step::Good { kind, length } => fields_of(kind, place, body_at(file, place, length), big),
+        Step::Good { word, length } => fields_of(word, place, body_at(file, place, length), big),
         Step::Bad { number, place: at } => RecordAnswer::Refused { number, place: at },
     }
 }
 
-// A x100 word in working units. A float (document 01).
+// A x100 word in working units, a float (FORMAT 8.6).
 fn hundredth_at(s: &[u8], at: usize, big: bool) -> f64
     requires { ⌜ at + 4 ≤ length (now s) ⌝ }
     ensures { λ r. ⌜ r ≡ hundredth (signed (word (orderFrom big) at (now (s .entry)))) ⌝ }
@@ -329,24 +345,27 @@ fn charge_setting(b: &[u8], big: bool) -> SettingAnswer
 }
 
 // The setting of a body that follows its kind's rule; 5 at the place for another kind.
-fn setting_of(kind: u32, place: usize, b: &[u8], big: bool) -> SettingAnswer
-    requires { ⌜ recordRule (orderFrom big) kind (now b) ≡ 0 ⌝ }
-    ensures { λ r. ⌜ givenSetting r ≡ settingGiven (orderFrom big) place (ok (record { kind = kind; body = now (b .entry) })) ⌝ }
+fn setting_of(word: u32, place: usize, b: &[u8], big: bool) -> SettingAnswer
+    requires { ⌜ recordRule (orderFrom big) word (now b) ≡ 0 ⌝ }
+    ensures { λ r. ⌜ givenSetting r ≡ settingGiven (orderFrom big) place (ok (record { word = word; body = now (b .entry) })) ⌝ }
 {
-    match kind {
+    match word {
         rules::PHONON => phonon_setting(b, big),
         rules::CHARGE => charge_setting(b, big),
-        _ => SettingAnswer::Refused { number: 5, place },
+        _ => SettingAnswer::Refused {
+            number: WRONG_KIND,
+            place,
+        },
     }
 }
 
 /// Setting: the entry at a place in working units; Record's refusals, then 5 there for another kind.
-/// An enum with floats (document 01).
+/// A case for each kind of entry, with floats (FORMAT 8.6).
 pub fn setting(file: &[u8], place: usize, big: bool) -> SettingAnswer
     ensures { λ r. ⌜ givenSetting r ≡ settingAt (orderFrom big) (now (file .entry)) place ⌝ }
 {
     match record_found(file, place, big) {
-        Step::Good { kind, length } => setting_of(kind, place, body_at(file, place, length), big),
+        Step::Good { word, length } => setting_of(word, place, body_at(file, place, length), big),
         Step::Bad { number, place: at } => SettingAnswer::Refused { number, place: at },
     }
 }

@@ -11,7 +11,7 @@ use native.Mathlib.Decide.{decLe}
 use lib.Dec.{eqb}
 use lib.ListN.{getD}
 use borrow.Author.Tests.{eqb-true, ne-eqb}
-use Rattle.note.specs.Channels.{Channel, numbered, channelOf, isSome, beginsWith, named, phononNamed, chargeNamed}
+use Rattle.note.specs.Channels.{Channel, numbered, channelOf, isSome, beginsWith, namesChannel, namesPhonon, namesCharge}
 use Rattle.note.proofs.Computing.{computing}
 use Rattle.note.proofs.Sweep.{all, all-at}
 use Rattle.channels.specs.Tables.{groupOf, groupsFrom, groupsOf}
@@ -72,24 +72,24 @@ phonon-digit false true h = refl
 phonon-digit false false h = refl
 
 -- So a code's digit tells whether it is named, and as what.
-pub named-by-group : (w : ℕ) → not (eqb (groupOf (channelOf w)) 0) ≡ named w
-unfolding named groupOf
+pub named-by-group : (w : ℕ) → not (eqb (groupOf (channelOf w)) 0) ≡ namesChannel w
+unfolding namesChannel groupOf
 named-by-group w = go (channelOf w)
   where
     go : (o : Option Channel) → not (eqb (groupOf o) 0) ≡ isSome o
     go none = refl
     go (some x) = listed-digit (beginsWith "Q" (some x)) (beginsWith "P" (some x))
 
-pub charge-by-group : (w : ℕ) → eqb (groupOf (channelOf w)) 1 ≡ chargeNamed w
-unfolding chargeNamed groupOf
+pub charge-by-group : (w : ℕ) → eqb (groupOf (channelOf w)) 1 ≡ namesCharge w
+unfolding namesCharge groupOf
 charge-by-group w = go (channelOf w)
   where
     go : (o : Option Channel) → eqb (groupOf o) 1 ≡ beginsWith "Q" o
     go none = refl
     go (some x) = charge-digit (beginsWith "Q" (some x)) (beginsWith "P" (some x))
 
-pub phonon-by-group : (w : ℕ) → eqb (groupOf (channelOf w)) 2 ≡ phononNamed w
-unfolding phononNamed groupOf
+pub phonon-by-group : (w : ℕ) → eqb (groupOf (channelOf w)) 2 ≡ namesPhonon w
+unfolding namesPhonon groupOf
 phonon-by-group w = go (channelOf w)
   where
     go : (o : Option Channel) → eqb (groupOf o) 2 ≡ beginsWith "P" o

@@ -103,7 +103,7 @@ abbrev pub answerOf : ℕ → Option Channel → ChannelAnswer
 answerOf w o = record {
   number = 0;
   place = 0;
-  kind = typeOf w;
+  «detector_type» = typeOf w;
   detector = detectorOf w;
   analysis = nameOfNumber (analysisNumber o);
   cold = nameOfNumber (coldNumber o);

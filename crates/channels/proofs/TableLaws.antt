@@ -1,4 +1,4 @@
--- The tables of letters say what the lists of document 01 say.
+-- The tables of letters say what the lists of channels say.
 -- The idea: nothing is listed past type 11 or channel 11, and antt computes both sides at the 144 places that are left.
 use Prim.Native.Nat.{ℕ, _+_, _*_, _<_, _≤_}
 use mathlib.Core.Path.{_≡_, refl, sym, _∙_}

@@ -1,4 +1,5 @@
--- How the code holds the lists of document 01: names as numbers, tables of letters, a type's channels as hex digits.
+-- How the code holds the lists of channels (FORMAT 3.2, 3.3): names as numbers, tables of letters, a type's channels as hex digits. What a code
+-- names is then found by an index or a shift.
 -- Holds the definitions alone; that they say what the lists say is in proofs/: TableLaws, NameLaws, GroupLaws.
 use Prim.Native.Nat.{ℕ, zero, suc, _+_, _*_, _/_, _%_}
 use mathlib.Core.Bool.{Bool, cond, not, _&&_}
@@ -22,12 +23,12 @@ abbrev pub dotted : ℕ → ℕ
 dotted b = cond (eqb b 0) 46 b
 
 abbrev pub rowOf : (Channel → List ℕ) → ℕ → ℕ → ℕ → List ℕ
-rowOf name kind zero c = []
-rowOf name kind (suc n) c = map dotted (padded (nameIn name (numbered kind c))) ++ rowOf name kind n (suc c)
+rowOf name type zero c = []
+rowOf name type (suc n) c = map dotted (padded (nameIn name (numbered type c))) ++ rowOf name type n (suc c)
 
 abbrev pub rowsOf : (Channel → List ℕ) → ℕ → ℕ → List ℕ
-rowsOf name zero kind = []
-rowsOf name (suc n) kind = rowOf name kind 12 0 ++ rowsOf name n (suc kind)
+rowsOf name zero type = []
+rowsOf name (suc n) type = rowOf name type 12 0 ++ rowsOf name n (suc type)
 
 abbrev pub tableOf : (Channel → List ℕ) → List ℕ
 tableOf name = rowsOf name 12 0
@@ -49,7 +50,7 @@ abbrev pub lettersAt : List ℕ → ℕ → List ℕ
 lettersAt t p = undotted (getD t p 0) ∷ undotted (getD t (p + 1) 0) ∷ undotted (getD t (p + 2) 0) ∷ undotted (getD t (p + 3) 0) ∷ []
 
 unfoldable pub lookedUp : List ℕ → ℕ → ℕ → ℕ
-lookedUp t kind c = cond (leb kind 11 && leb c 11) (num (lettersAt t (kind * 48 + c * 4))) 0
+lookedUp t type c = cond (leb type 11 && leb c 11) (num (lettersAt t (type * 48 + c * 4))) 0
 
 -- The name that a number other than 0 stands for: its letters, and how many they are.
 unfoldable pub sizeOf : ℕ → ℕ
@@ -72,7 +73,7 @@ channelOr n none = n
 channelOr n (some x) = x .channel
 
 unfoldable pub channelCalled : ℕ → List ℕ → ℕ
-channelCalled kind name = channelOr 12 (called kind name)
+channelCalled type name = channelOr 12 (called type name)
 
 -- ---- groups of channels as hex digits
 
@@ -83,8 +84,8 @@ groupOf (some x) = cond (beginsWith "Q" (some x)) 1 (cond (beginsWith "P" (some 
 
 -- The groups of a type's n channels from c on, a hex digit for each, the first lowest; of all its channels.
 abbrev pub groupsFrom : ℕ → ℕ → ℕ → ℕ
-groupsFrom kind zero c = 0
-groupsFrom kind (suc n) c = groupOf (numbered kind c) + 16 * groupsFrom kind n (suc c)
+groupsFrom type zero c = 0
+groupsFrom type (suc n) c = groupOf (numbered type c) + 16 * groupsFrom type n (suc c)
 
 unfoldable pub groupsOf : ℕ → ℕ
-groupsOf kind = groupsFrom kind 12 0
+groupsOf type = groupsFrom type 12 0

@@ -1,12 +1,13 @@
-// Detector codes and channel names, as document 01 lists them under 'Channels'.
+// Detector codes and channel names (FORMAT 3).
 use note::ChannelAnswer;
 use note::CodeAnswer;
 use note::Name;
+use note::WRONG_FIELD;
 use words::join;
 ghost use mathlib.Core.Path.{_≡_};
 ghost use Prim.Native.Nat.{_%_};
 ghost use Rattle.note.specs.Answers.{givenCode};
-ghost use Rattle.note.specs.Channels.{channelAnswer, codeAnswer, named, phononNamed, chargeNamed, numbered, channelOf};
+ghost use Rattle.note.specs.Channels.{channelAnswer, codeAnswer, namesChannel, namesPhonon, namesCharge, numbered, channelOf};
 ghost use Rattle.channels.specs.Tables.{undotted, lookedUp, analysisNumber, coldNumber, sizeOf, nameOfNumber, isSpelled, channelCalled, groupsOf, groupOf};
 
 // The analysis names: a row for each detector type, four letters for each channel, dots for what is not there.
@@ -39,8 +40,21 @@ Q...PA..PB......................................\
 QIS1QOS1A1..B1..C1..D1..QIS2QOS2A2..B2..C2..D2..\
 QIS1QOS1A1..B1..C1..D1..QIS2QOS2A2..B2..C2..D2..";
 
-// The refusal of a code or a name that no list has.
-const NOT_LISTED: u32 = 10;
+// The greatest listed type, the greatest channel of any type, and the bytes of a table for a type and for a channel.
+const LAST_TYPE: u32 = 11;
+
+const LAST_CHANNEL: u32 = 11;
+
+const TYPE_BYTES: u32 = 48;
+
+const NAME_BYTES: u32 = 4;
+
+// A detector code is type, number and channel, three decimal digits each.
+const TYPE_UNIT: u32 = 1_000_000;
+
+const NUMBER_UNIT: u32 = 1_000;
+
+const LAST_NUMBER: u32 = 999;
 
 // The groups of channels, as hex digits.
 const CHARGE: u64 = 1;
@@ -58,16 +72,16 @@ fn letter(byte: u8) -> u8
 }
 
 // The name that a table has for a type's channel, as a number; 0 where it has none.
-fn look_up(table: &[u8; 576], kind: u32, channel: u32) -> u32
-    ensures { λ r. ⌜ r ≡ lookedUp (now (table .entry)) kind channel ⌝ }
+fn look_up(table: &[u8; 576], detector_type: u32, channel: u32) -> u32
+    ensures { λ r. ⌜ r ≡ lookedUp (now (table .entry)) «detector_type» channel ⌝ }
 {
-    if kind > 11 {
+    if detector_type > LAST_TYPE {
         return 0;
     }
-    if channel > 11 {
+    if channel > LAST_CHANNEL {
         return 0;
     }
-    let at = (kind * 48 + channel * 4) as usize;
+    let at = (detector_type * TYPE_BYTES + channel * NAME_BYTES) as usize;
     join(
         letter(table[at]),
         letter(table[at + 1]),
@@ -77,17 +91,17 @@ fn look_up(table: &[u8; 576], kind: u32, channel: u32) -> u32
 }
 
 // The analysis name of a type's channel, as a number; 0 where none is listed.
-fn analysis_name(kind: u32, channel: u32) -> u32
-    ensures { λ r. ⌜ r ≡ analysisNumber (numbered kind channel) ⌝ }
+fn analysis_name(detector_type: u32, channel: u32) -> u32
+    ensures { λ r. ⌜ r ≡ analysisNumber (numbered «detector_type» channel) ⌝ }
 {
-    look_up(&ANALYSIS, kind, channel)
+    look_up(&ANALYSIS, detector_type, channel)
 }
 
 // The cold name of a type's channel, as a number; 0 where none is listed.
-fn cold_name(kind: u32, channel: u32) -> u32
-    ensures { λ r. ⌜ r ≡ coldNumber (numbered kind channel) ⌝ }
+fn cold_name(detector_type: u32, channel: u32) -> u32
+    ensures { λ r. ⌜ r ≡ coldNumber (numbered «detector_type» channel) ⌝ }
 {
-    look_up(&COLD, kind, channel)
+    look_up(&COLD, detector_type, channel)
 }
 
 // The letter that stands lowest in a number.
@@ -154,12 +168,12 @@ fn is_spelled(number: u32, name: &[u8]) -> bool
 }
 
 // The number of a type's channel of that analysis name; 12 where none is listed.
-fn channel_called(kind: u32, name: &[u8]) -> u32
-    ensures { λ r. ⌜ r ≡ channelCalled kind (now (name .entry)) ⌝ }
+fn channel_called(detector_type: u32, name: &[u8]) -> u32
+    ensures { λ r. ⌜ r ≡ channelCalled «detector_type» (now (name .entry)) ⌝ }
 {
     let mut channel: u32 = 0;
     while channel < 12 {
-        if is_spelled(analysis_name(kind, channel), name) {
+        if is_spelled(analysis_name(detector_type, channel), name) {
             return channel;
         }
         channel += 1;
@@ -168,10 +182,10 @@ fn channel_called(kind: u32, name: &[u8]) -> u32
 }
 
 // The groups of a type's channels, a hex digit for each from channel 0 up: 1 charge, 2 phonon, 3 the veto, 0 not listed.
-fn groups(kind: u32) -> u64
-    ensures { λ r. ⌜ r ≡ groupsOf kind ⌝ }
+fn groups(detector_type: u32) -> u64
+    ensures { λ r. ⌜ r ≡ groupsOf «detector_type» ⌝ }
 {
-    match kind {
+    match detector_type {
         1 => 0x2_2110,
         2 | 4 | 5 | 6 => 0x22_2211,
         3 => 0x3,
@@ -186,7 +200,7 @@ fn group(code: u32) -> u64
     ensures { λ r. ⌜ r ≡ groupOf (channelOf code) ⌝ }
 {
     let channel = code % 1000;
-    if channel > 11 {
+    if channel > LAST_CHANNEL {
         return 0;
     }
     (groups(code / 1000000) >> (4 * channel)) % 16
@@ -194,21 +208,21 @@ fn group(code: u32) -> u64
 
 /// Whether a code names a listed channel.
 pub fn is_named(code: u32) -> bool
-    ensures { λ r. ⌜ r ≡ named code ⌝ }
+    ensures { λ r. ⌜ r ≡ namesChannel code ⌝ }
 {
     group(code) != 0
 }
 
 /// Whether a code names a phonon channel.
 pub fn is_phonon(code: u32) -> bool
-    ensures { λ r. ⌜ r ≡ phononNamed code ⌝ }
+    ensures { λ r. ⌜ r ≡ namesPhonon code ⌝ }
 {
     group(code) == PHONON
 }
 
 /// Whether a code names a charge channel.
 pub fn is_charge(code: u32) -> bool
-    ensures { λ r. ⌜ r ≡ chargeNamed code ⌝ }
+    ensures { λ r. ⌜ r ≡ namesCharge code ⌝ }
 {
     group(code) == CHARGE
 }
@@ -217,51 +231,51 @@ pub fn is_charge(code: u32) -> bool
 pub fn channel(code: u32) -> ChannelAnswer
     ensures { λ r. ⌜ r ≡ channelAnswer code ⌝ }
 {
-    let kind = code / 1000000;
-    let analysis = analysis_name(kind, code % 1000);
+    let detector_type = code / TYPE_UNIT;
+    let analysis = analysis_name(detector_type, code % NUMBER_UNIT);
     if analysis == 0 {
         let none = Name {
             bytes: [0; 4],
             length: 0,
         };
         return ChannelAnswer {
-            number: NOT_LISTED,
+            number: WRONG_FIELD,
             place: 0,
-            kind: 0,
+            detector_type: 0,
             detector: 0,
             analysis: none,
             cold: none,
         };
     }
-    let cold = cold_name(kind, code % 1000);
+    let cold = cold_name(detector_type, code % NUMBER_UNIT);
     ChannelAnswer {
         number: 0,
         place: 0,
-        kind,
-        detector: code / 1000 % 1000,
+        detector_type,
+        detector: code / NUMBER_UNIT % NUMBER_UNIT,
         analysis: name_of(analysis),
         cold: name_of(cold),
     }
 }
 
 /// Code: the detector code of a type, a number from 0 to 999 and an analysis name; 10 at place 0 where there is none.
-pub fn code(kind: u32, detector: u32, name: &[u8]) -> CodeAnswer
-    ensures { λ r. ⌜ givenCode r ≡ codeAnswer kind detector (now (name .entry)) ⌝ }
+pub fn code(detector_type: u32, detector: u32, name: &[u8]) -> CodeAnswer
+    ensures { λ r. ⌜ givenCode r ≡ codeAnswer «detector_type» detector (now (name .entry)) ⌝ }
 {
-    if detector > 999 {
+    if detector > LAST_NUMBER {
         return CodeAnswer::Refused {
-            number: NOT_LISTED,
+            number: WRONG_FIELD,
             place: 0,
         };
     }
-    let channel = channel_called(kind, name);
-    if channel > 11 {
+    let channel = channel_called(detector_type, name);
+    if channel > LAST_CHANNEL {
         return CodeAnswer::Refused {
-            number: NOT_LISTED,
+            number: WRONG_FIELD,
             place: 0,
         };
     }
     CodeAnswer::Code {
-        code: kind * 1000000 + detector * 1000 + channel,
+        code: detector_type * TYPE_UNIT + detector * NUMBER_UNIT + channel,
     }
 }

@@ -1,6 +1,6 @@
 -- Each way through a closing's answer before its contents are asked, and what it tells that the end was answered there.
 -- The idea: one law for the three ways to 13, and one for each test behind it.
-use Prim.Native.Nat.{ℕ, _+_, _≤_, _<_}
+use Prim.Native.Nat.{ℕ, _+_, _-_, _≤_, _<_}
 use mathlib.Core.Path.{_≡_, refl, sym, ap}
 use mathlib.Core.Bool.{Bool, true, false}
 use mathlib.Core.List.{[], _∷_}
@@ -39,7 +39,7 @@ module _ (n place end fault least : ℕ) where
 
   module _ (room : HasRoom n place end) where
     -- Place and end lie as they must: the other two tests are left.
-    passed : bounded n place end fault least ≡ need fault place (need (unless (leb (place + (8 + least)) end) 9) place (ok end))
+    passed : bounded n place end fault least ≡ need fault place (need (unless (leb least (end - (place + 8))) 9) place (ok end))
     unfolding bounded
     passed = within-grants n place end _ room
 
@@ -47,13 +47,13 @@ module _ (n place end fault least : ℕ) where
     unfolding writerGiven
     faulty h = rw (passed, positive fault h)
 
-    pub few : fault ≡ 0 → end < place + (8 + least) → refused 9 place ≡ answer
+    pub few : fault ≡ 0 → end - (place + 8) < least → refused 9 place ≡ answer
     unfolding writerGiven
-    few e h = rw (passed, e, lt-leb (place + (8 + least)) end h)
+    few e h = rw (passed, e, lt-leb least (end - (place + 8)) h)
 
-    pub fine : fault ≡ 0 → place + (8 + least) ≤ end → accepted (counts (end ∷ [])) ≡ answer
+    pub fine : fault ≡ 0 → least ≤ end - (place + 8) → accepted (counts (end ∷ [])) ≡ answer
     unfolding writerGiven
-    fine e h = rw (passed, e, le-leb (place + (8 + least)) end h)
+    fine e h = rw (passed, e, le-leb least (end - (place + 8)) h)
 
   -- What is known where nothing stood against the closing.
   pub record Bounds (next : ℕ) : Type 0 where
@@ -66,5 +66,5 @@ module _ (n place end fault least : ℕ) where
   bounds next e =
       let (room, e1) = within-ok n place end _ next e in
       let (f, e2) = need-ok fault place _ e1 in
-      let (m, e3) = need-ok (unless (leb (place + (8 + least)) end) 9) place _ e2 in
+      let (m, e3) = need-ok (unless (leb least (end - (place + 8))) 9) place _ e2 in
       record { room = room; clean = f; is = ok-inj e3 }

@@ -2,20 +2,22 @@
 -- The idea: what is answered before the contents are asked, then the contents; a configuration's own word has no fault, and its contents may be none.
 use Prim.Native.Nat.{ℕ, zero, suc, _+_, _-_, _%_, _≤_}
 use mathlib.Core.Path.{_≡_, refl, sym, ap, _∙_, subst}
-use mathlib.Core.Bool.{Bool, true, false}
+use mathlib.Core.Bool.{true}
 use mathlib.Core.List.{List, [], _∷_}
 use native.Mathlib.Omega.{arith}
+use lib.Dec.{leb}
 use lib.ListN.{length}
 use lib.Seq.{sets}
+use borrow.Author.Tests.{le-leb}
 use Rattle.theory.specs.declared.Order.{Order}
-use Rattle.theory.specs.Tests.{Res, ok, need, bind, unless}
+use Rattle.theory.specs.Tests.{Res, ok, need, bind}
 use Rattle.theory.proofs.WordLaws.{length-puts}
 use Rattle.theory.proofs.TestLaws.{bind-ok}
 use Rattle.note.specs.Answers.{Given, givenWriter}
-use Rattle.note.specs.Records.{Record, Context, entry, event, none, readRecords}
+use Rattle.note.specs.Records.{Record, Context, entry, event, unseen, readRecords}
 use Rattle.note.specs.Events.{eventWord, eventFault}
 use Rattle.note.specs.Files.{configurationWord}
-use Rattle.note.specs.Writers.{writerGiven, written, contentsOf, ended, closingBytes}
+use Rattle.note.specs.Writers.{writerGiven, outputAfter, contentsOf, endGiven, closingBytes}
 use Rattle.note.specs.Writers.{configurationClosed, configurationOutput, eventClosed, eventOutput}
 use Rattle.note.proofs.ContainerFieldLaws.{admitted}
 use Rattle.note.specs.declared.WriterAnswer.{WriterAnswer}
@@ -56,7 +58,7 @@ module _ (o : Order) (k : Call) where
 
   -- The answer and the output afterwards.
   abbrev pub Ends : Given → List ℕ → Type 0
-  Ends given after = (given ≡ writerGiven result) × (after ≡ written result (k .out) (k .place) head)
+  Ends given after = (given ≡ writerGiven result) × (after ≡ outputAfter result (k .out) (k .place) head)
 
   -- A refusal changes no byte.
   ends-refused : (x p : ℕ) → givenWriter (Refused x p) ≡ writerGiven result → Ends (givenWriter (Refused x p)) (k .out)
@@ -95,15 +97,12 @@ need-bind : {A B : Type 0} (c p : ℕ) (r : Res A) (k : A → Res B) → bind (n
 need-bind zero p r k = refl
 need-bind (suc c) p r k = refl
 
--- That the end leaves room for the two words, asked a second time, says nothing new.
-once : (b : Bool) (p : ℕ) (r : Res ℕ) → need (unless b 13) p (need (unless b 9) p r) ≡ need (unless b 13) p r
-once true p r = refl
-once false p r = refl
-
 -- Each container's closing is a case of any container's, as its definition has it.
 configuration-is : (o : Order) (out : List ℕ) (place end : ℕ) → closed o out place end 0 0 entry ≡ configurationClosed o out place end
 unfolding closed bounded configurationClosed
-configuration-is o out place end = simp (need-bind, once)
+configuration-is o out place end =
+    let any : leb 0 (end - (place + 8)) ≡ true = le-leb 0 (end - (place + 8)) (omega arith) in
+    simp (need-bind, any)
 
 pub configuration-ends : (o : Order) (out : List ℕ) (place end : ℕ) {given : Given} {after : List ℕ}
     → Ends o (record { out = out; place = place; end = end; fault = 0; least = 0; word = configurationWord; context = entry }) given after
@@ -111,10 +110,10 @@ pub configuration-ends : (o : Order) (out : List ℕ) (place end : ℕ) {given :
 unfolding configurationOutput
 configuration-ends o out place end {given} {after} s =
     let head : List ℕ = closingBytes o configurationWord place end in
-    subst (λ (r : Res ℕ). (given ≡ writerGiven r) × (after ≡ written r out place head)) (configuration-is o out place end) s
+    subst (λ (r : Res ℕ). (given ≡ writerGiven r) × (after ≡ outputAfter r out place head)) (configuration-is o out place end) s
 
 event-is : (o : Order) (out : List ℕ) (place end class category type : ℕ)
-    → closed o out place end (eventFault class category type) 1 (event none) ≡ eventClosed o out place end class category type
+    → closed o out place end (eventFault class category type) 1 (event unseen) ≡ eventClosed o out place end class category type
 unfolding closed bounded eventClosed
 event-is o out place end class category type = simp need-bind
 
@@ -133,25 +132,25 @@ module _ (o : Order) (out : List ℕ) (place end class category type : ℕ) wher
 
   -- Where the closing is granted, the word that was made is the event's.
   head-is : (word : ℕ) → word ≡ eventWord (class % 16) (category % 16) (type % 256) → (next : ℕ)
-      → closed o out place end own-fault 1 (event none) ≡ ok next → closingBytes o word place end ≡ own-head
+      → closed o out place end own-fault 1 (event unseen) ≡ ok next → closingBytes o word place end ≡ own-head
   unfolding closed
   head-is word word-is next e =
-      let contents : Res (List Record) = readRecords o (event none) (place + 8) (contentsOf out place end) in
-      let (n, bounded-ok, rest) = bind-ok (bounded (length out) place end own-fault 1) (λ m. ended m contents) e in
+      let contents : Res (List Record) = readRecords o (event unseen) (place + 8) (contentsOf out place end) in
+      let (n, bounded-ok, rest) = bind-ok (bounded (length out) place end own-fault 1) (λ m. endGiven m contents) e in
       let clean : own-fault ≡ 0 = bounds (length out) place end own-fault 1 n bounded-ok .clean in
       ap (λ (w : ℕ). closingBytes o w place end) (word-is ∙ word-whole class category type clean)
 
   pub event-ends : {fault word : ℕ} {c : Context} {given : Given} {after : List ℕ} → fault ≡ own-fault
-      → word ≡ eventWord (class % 16) (category % 16) (type % 256) → c ≡ event none
+      → word ≡ eventWord (class % 16) (category % 16) (type % 256) → c ≡ event unseen
       → Ends o (record { out = out; place = place; end = end; fault = fault; least = 1; word = word; context = c }) given after
       → (given ≡ writerGiven (eventClosed o out place end class category type)) × (after ≡ eventOutput o out place end class category type)
   unfolding eventOutput
   event-ends {fault} {word} {c} fault-is word-is context-is (answer, output) =
-      let r : Res ℕ = closed o out place end own-fault 1 (event none) in
+      let r : Res ℕ = closed o out place end own-fault 1 (event unseen) in
       let same : closed o out place end fault 1 c ≡ r = λ i. closed o out place end (fault-is i) 1 (context-is i) in
       let is : r ≡ eventClosed o out place end class category type = event-is o out place end class category type in (
         answer ∙ ap writerGiven (same ∙ is),
-        output ∙ ap (λ (x : Res ℕ). written x out place (closingBytes o word place end)) same
+        output ∙ ap (λ (x : Res ℕ). outputAfter x out place (closingBytes o word place end)) same
             ∙ written-unasked r out place _ _ (head-is word word-is)
-            ∙ ap (λ (x : Res ℕ). written x out place own-head) is,
+            ∙ ap (λ (x : Res ℕ). outputAfter x out place own-head) is,
       )

@@ -4,12 +4,17 @@ use containers::CONFIGURATION;
 use containers::Count;
 use containers::FILE_MARK;
 use containers::FORMAT;
+use containers::HEADER;
 use containers::records_in;
 use fields::EVENT_MARK;
 use fields::event_fault;
+use note::MISPLACED;
+use note::NO_ROOM;
+use note::TOO_LARGE;
 use note::WriterAnswer;
 use record::ENTRY;
 use record::FILE_LIMIT;
+use record::FRONT;
 use record::fresh;
 use stores::admitted;
 use stores::put_words;
@@ -21,12 +26,12 @@ ghost use Rattle.theory.specs.Words.{orderFrom};
 ghost use Rattle.note.specs.Answers.{givenWriter};
 ghost use Rattle.note.specs.Events.{eventWord, eventFault};
 ghost use Rattle.note.specs.Files.{versionWord, configurationWord};
-ghost use Rattle.note.specs.Writers.{writerGiven, written, closingBytes, headerWrote, headerOutput, configurationClosed, configurationOutput, eventClosed, eventOutput};
+ghost use Rattle.note.specs.Writers.{writerGiven, outputAfter, closingBytes, headerNext, headerOutput, configurationClosed, configurationOutput, eventClosed, eventOutput};
 ghost use Rattle.record.specs.Steps.{contextOf};
 ghost use Rattle.demands.specs.Outputs.{HasRoom};
 ghost use Rattle.closings.specs.Closing.{bounded, closed};
 
-// The bits of a number with the `k` bits of another below them. By shift (document 01); its callers mask.
+// The bits of a number with the `k` bits of another below them. By shift (FORMAT 6.2, 6.4); its callers mask.
 fn above(high: u32, k: u32, low: u32) -> u32
     requires { ⌜ (k < 32) × (high * 2 ^ k ≤ 0xFFFFFFFF) × (low < 2 ^ k) ⌝ }
     ensures { λ r. ⌜ r ≡ high * 2 ^ k + low ⌝ }
@@ -45,10 +50,10 @@ fn version_word(major: u8, minor: u8) -> u32
 
 /// Writes the file header with these two DAQ bytes, from byte 0 on.
 pub fn write_header(out: &mut [u8], major: u8, minor: u8, big: bool) -> WriterAnswer
-    ensures answer { λ r. ⌜ givenWriter r ≡ writerGiven (headerWrote (now (out .entry))) ⌝ }
+    ensures answer { λ r. ⌜ givenWriter r ≡ writerGiven (headerNext (now (out .entry))) ⌝ }
     ensures output { λ _. ⌜ now (out .exit) ≡ headerOutput (orderFrom big) (now (out .entry)) major minor ⌝ }
 {
-    match admitted(out.len(), 0, 0, 8) {
+    match admitted(out.len(), 0, 0, HEADER) {
         WriterAnswer::Refused { number, place } => WriterAnswer::Refused { number, place },
         WriterAnswer::Next { place } => {
             put_words(out, 0, &[FILE_MARK, version_word(major, minor)], big);
@@ -66,18 +71,27 @@ fn bounded(room: usize, place: usize, end: usize, fault: u32, least: usize) -> W
 {
     if room > FILE_LIMIT {
         return WriterAnswer::Refused {
-            number: 1,
+            number: TOO_LARGE,
             place: 0,
         };
     }
     if end > room {
-        return WriterAnswer::Refused { number: 13, place };
+        return WriterAnswer::Refused {
+            number: NO_ROOM,
+            place,
+        };
     }
     if place > end {
-        return WriterAnswer::Refused { number: 13, place };
+        return WriterAnswer::Refused {
+            number: NO_ROOM,
+            place,
+        };
     }
-    if end - place < 8 {
-        return WriterAnswer::Refused { number: 13, place };
+    if end - place < FRONT {
+        return WriterAnswer::Refused {
+            number: NO_ROOM,
+            place,
+        };
     }
     if fault != 0 {
         return WriterAnswer::Refused {
@@ -85,8 +99,11 @@ fn bounded(room: usize, place: usize, end: usize, fault: u32, least: usize) -> W
             place,
         };
     }
-    if end - place - 8 < least {
-        return WriterAnswer::Refused { number: 9, place };
+    if end - place - FRONT < least {
+        return WriterAnswer::Refused {
+            number: MISPLACED,
+            place,
+        };
     }
     WriterAnswer::Next { place: end }
 }
@@ -96,7 +113,7 @@ fn put_head(out: &mut [u8], place: usize, end: usize, word: u32, big: bool)
     requires { ⌜ HasRoom (length (now out)) place end ⌝ }
     ensures { λ _. ⌜ now (out .exit) ≡ sets (now (out .entry)) place (closingBytes (orderFrom big) word place end) ⌝ }
 {
-    put_words(out, place, &[word, (end - place - 8) as u32], big);
+    put_words(out, place, &[word, (end - place - FRONT) as u32], big);
 }
 
 // Closes a container, whose own word has this fault: its contents are read in their context, where they stand; then its two words are stored.
@@ -111,13 +128,13 @@ fn close(
     big: bool,
 ) -> WriterAnswer
     ensures answer { λ r. ⌜ givenWriter r ≡ writerGiven (closed (orderFrom big) (now (out .entry)) place end fault least (contextOf context)) ⌝ }
-    ensures output { λ _. ⌜ now (out .exit) ≡ written (closed (orderFrom big) (now (out .entry)) place end fault least (contextOf context))
+    ensures output { λ _. ⌜ now (out .exit) ≡ outputAfter (closed (orderFrom big) (now (out .entry)) place end fault least (contextOf context))
         (now (out .entry)) place (closingBytes (orderFrom big) word place end) ⌝ }
 {
     match bounded(out.len(), place, end, fault, least) {
         WriterAnswer::Refused { number, place } => WriterAnswer::Refused { number, place },
         WriterAnswer::Next { place: next } => {
-            let from = place + 8;
+            let from = place + FRONT;
             match records_in(&out[from..end], from, context, big) {
                 Count::Bad { number, place } => WriterAnswer::Refused { number, place },
                 Count::Good { count: _ } => {
@@ -140,11 +157,11 @@ pub fn close_configuration(out: &mut [u8], place: usize, end: usize, big: bool) 
 }
 
 // An event's first word, of the bits that it has room for.
-fn event_word(class: u32, category: u32, kind: u32) -> u32
-    ensures { λ r. ⌜ r ≡ eventWord (class % 16) (category % 16) (kind % 256) ⌝ }
+fn event_word(class: u32, category: u32, event_type: u32) -> u32
+    ensures { λ r. ⌜ r ≡ eventWord (class % 16) (category % 16) («event_type» % 256) ⌝ }
 {
     let front = above(above(EVENT_MARK, 4, class & 15), 4, category & 15);
-    above(front, 8, kind & 255)
+    above(front, 8, event_type & 255)
 }
 
 /// Closes an event of this class, category and type over the records written between its first eight bytes and the end.
@@ -154,19 +171,19 @@ pub fn close_event(
     end: usize,
     class: u32,
     category: u32,
-    kind: u32,
+    event_type: u32,
     big: bool,
 ) -> WriterAnswer
-    ensures answer { λ r. ⌜ givenWriter r ≡ writerGiven (eventClosed (orderFrom big) (now (out .entry)) place end class category kind) ⌝ }
-    ensures output { λ _. ⌜ now (out .exit) ≡ eventOutput (orderFrom big) (now (out .entry)) place end class category kind ⌝ }
+    ensures answer { λ r. ⌜ givenWriter r ≡ writerGiven (eventClosed (orderFrom big) (now (out .entry)) place end class category «event_type») ⌝ }
+    ensures output { λ _. ⌜ now (out .exit) ≡ eventOutput (orderFrom big) (now (out .entry)) place end class category «event_type» ⌝ }
 {
     close(
         out,
         place,
         end,
-        event_fault(class, category, kind),
+        event_fault(class, category, event_type),
         1,
-        event_word(class, category, kind),
+        event_word(class, category, event_type),
         fresh(),
         big,
     )
@@ -189,12 +206,19 @@ pub fn begin_event(
     end: usize,
     class: u32,
     category: u32,
-    kind: u32,
+    event_type: u32,
     big: bool,
 )
     requires room { ⌜ HasRoom (length (now out)) place end ⌝ }
-    requires word { ⌜ eventFault class category kind ≡ 0 ⌝ }
-    ensures { λ _. ⌜ now (out .exit) ≡ sets (now (out .entry)) place (closingBytes (orderFrom big) (eventWord class category kind) place end) ⌝ }
+    requires word { ⌜ eventFault class category «event_type» ≡ 0 ⌝ }
+    ensures { λ _. ⌜ now (out .exit)
+        ≡ sets (now (out .entry)) place (closingBytes (orderFrom big) (eventWord class category «event_type») place end) ⌝ }
 {
-    put_head(out, place, end, event_word(class, category, kind), big);
+    put_head(
+        out,
+        place,
+        end,
+        event_word(class, category, event_type),
+        big,
+    );
 }

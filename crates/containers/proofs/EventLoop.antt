@@ -8,11 +8,11 @@ use lib.ListN.{length, take, drop, length-append}
 use Rattle.theory.specs.declared.Order.{Order}
 use Rattle.theory.specs.Words.{Bytes}
 use Rattle.theory.specs.Tests.{Res, ok, bad}
-use Rattle.theory.proofs.StructureLaws.{length-structure, opens, length-is, inside}
+use Rattle.theory.proofs.StructureLaws.{stateless, length-structure, opens, length-is, inside}
 use Rattle.theory.proofs.LoopLaws.{At, start, ended, stopped, more}
 use Rattle.note.specs.Words.{word}
-use Rattle.note.specs.Records.{Record, event, none, recordBytes, recordsBytes, readRecords}
-use Rattle.note.specs.Events.{Container, containerSize, eventHead, eventLate, readEvent, readEvents}
+use Rattle.note.specs.Records.{Record, event, unseen, recordBytes, recordsBytes, readRecords}
+use Rattle.note.specs.Events.{Container, containerSize, eventWordRule, eventLate, readEvent, readEvents}
 use Rattle.demands.proofs.Bundles.{records, eventItem, same-records, same-event, same-events}
 use Rattle.record.proofs.StepLaws.{cutBody, cut}
 use Rattle.containers.specs.declared.Count.the-variants as Count
@@ -21,6 +21,8 @@ use Rattle.containers.specs.declared.Holding.the-variants.{Good, Bad}
 use Rattle.containers.specs.Counts.{countOf, containerStep, rowsOfEvents, eventRows}
 use Rattle.containers.proofs.RecordLoop.{behindOf, left, Bytes-behind}
 use Rattle.containers.proofs.ContainerLaws.{sized}
+use Rattle.note.specs.Faults.{tooShort}
+use Rattle.note.proofs.FaultLaws.{short-some}
 
 abbrev stepped : Holding → Type 0
 stepped (Good k n t) = Unit {0}
@@ -28,7 +30,7 @@ stepped (Bad c p) = ⊥
 
 -- What a container's answer says of what was read.
 pub holding-good : (o : Order) (r : Res Container) (k n t : ℕ) → Good k n t ≡ containerStep o r
-    → (e : Container) × (r ≡ ok e) × (e .kind ≡ k) × (length (recordsBytes o (e .body)) ≡ n) × (length (e .body) ≡ t)
+    → (e : Container) × (r ≡ ok e) × (e .word ≡ k) × (length (recordsBytes o (e .body)) ≡ n) × (length (e .body) ≡ t)
 unfolding containerStep
 holding-good o (ok e) k n t q = (e, refl, cc, cc, cc)
 holding-good o (bad c p) k n t q = absurd (subst stepped q tt)
@@ -41,22 +43,24 @@ holding-bad o (bad c′ p′) c p q = cc
 -- What an event that was read shows of its bytes: its first word, its contents' length, its records as code cuts them out.
 pub record Shown (o : Order) (at : ℕ) (rest : List ℕ) (e : Container) : Type 0 where
   pub read : eventItem o .read tt at rest ≡ ok e
-  pub kind-is : e .kind ≡ word o 0 rest
+  pub kind-is : e .word ≡ word o 0 rest
   pub size : length (recordsBytes o (e .body)) ≡ word o 4 rest
   pub fits : 8 + word o 4 rest ≤ length rest
-  pub contents : readRecords o (event none) (at + 8) (cutBody (word o 4 rest) rest) ≡ ok (e .body)
+  pub contents : readRecords o (event unseen) (at + 8) (cutBody (word o 4 rest) rest) ≡ ok (e .body)
 
 pub event-shows : (o : Order) (at : ℕ) (rest : List ℕ) (e : Container) → Bytes rest → eventItem o .read tt at rest ≡ ok e → Shown o at rest e
 event-shows o at rest e h r =
-    let shown = opens o eventHead eventLate (inside (λ s. event none) (records o) .read) tt at rest e r in
+    let shown =
+    opens o tooShort short-some (stateless eventWordRule) (stateless eventLate) (inside (λ s. event unseen) (records o) .read) tt at rest e r in
     record {
       read = r;
       kind-is = shown .kind-is;
-      size = length-is o eventHead eventLate (inside (λ s. event none) (records o)) tt at rest e h r;
+      size =
+          length-is o tooShort short-some (stateless eventWordRule) (stateless eventLate) (inside (λ s. event unseen) (records o)) tt at rest e h r;
       fits = shown .fits;
       contents =
-          ap (readRecords o (event none) (at + 8)) (cut (word o 4 rest) rest)
-          ∙ same-records o (event none) (at + 8) (take (word o 4 rest) (drop 8 rest))
+          ap (readRecords o (event unseen) (at + 8)) (cut (word o 4 rest) rest)
+          ∙ same-records o (event unseen) (at + 8) (take (word o 4 rest) (drop 8 rest))
           ∙ shown .body-is;
     }
 
@@ -99,28 +103,28 @@ module _ {o : Order} {from : ℕ} {bs : List ℕ} {at : ℕ} {rest : List ℕ} {
   pub low : from + count ≤ at
   low = i .low
 
-  pub done : length rest ≤ 0 → Count.Good count ≡ eventRows (readEvents o tt from bs)
+  pub done : length rest ≤ 0 → Count.Good count ≡ eventRows (readEvents o from bs)
   unfolding countOf
   done h = ap Count.Good (sym (i .size)) ∙ ap eventRows (ended (eventItem o) (i .is) (omega arith) ∙ sym (same-events o tt from bs))
 
-  pub stops : 0 < length rest → (c p : ℕ) → Bad c p ≡ containerStep o (readEvent o tt at rest)
-      → Count.Bad c p ≡ eventRows (readEvents o tt from bs)
+  pub stops : 0 < length rest → (c p : ℕ) → Bad c p ≡ containerStep o (readEvent o at rest)
+      → Count.Bad c p ≡ eventRows (readEvents o from bs)
   unfolding countOf
   stops l c p e =
-      let r : eventItem o .read tt at rest ≡ bad c p = sym (same-event o tt at rest) ∙ holding-bad o (readEvent o tt at rest) c p e in
+      let r : eventItem o .read tt at rest ≡ bad c p = sym (same-event o tt at rest) ∙ holding-bad o (readEvent o at rest) c p e in
       ap eventRows (stopped (eventItem o) (i .is) l c p r ∙ sym (same-events o tt from bs))
 
-  module _ (l : 0 < length rest) (k n t : ℕ) (q : Good k n t ≡ containerStep o (readEvent o tt at rest)) where
+  module _ (l : 0 < length rest) (k n t : ℕ) (q : Good k n t ≡ containerStep o (readEvent o at rest)) where
     pub fits : (8 + n ≤ length rest) × (t ≤ n)
     unfolding readEvent
     fits =
-        let (e, r, k-is, n-is, t-is) = holding-good o (readEvent o tt at rest) k n t q in
-        let (a, b) = sized o eventHead eventLate (event none) at rest e (i .bytes) r in
+        let (e, r, k-is, n-is, t-is) = holding-good o (readEvent o at rest) k n t q in
+        let (a, b) = sized o eventWordRule eventLate (event unseen) at rest e (i .bytes) r in
         (omega arith, omega (arith, few o (e .body)))
 
     pub next : Rows o from bs (at + (8 + n)) (behindOf (8 + n) rest) (count + 1 + t)
     next =
-        let (e, r, k-is, n-is, t-is) = holding-good o (readEvent o tt at rest) k n t q in
+        let (e, r, k-is, n-is, t-is) = holding-good o (readEvent o at rest) k n t q in
         let f : (8 + n ≤ length rest) × (t ≤ n) = fits in
         record {
           es = i .es ++ e ∷ [];

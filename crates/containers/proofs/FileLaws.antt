@@ -10,13 +10,12 @@ use borrow.Author.Tests.{le-leb, lt-leb, eq-eqb, ne-eqb}
 use Rattle.theory.specs.declared.Order.{Order}
 use Rattle.theory.specs.Words.{Bytes}
 use Rattle.theory.specs.Tests.{Res, ok, bad, bind}
-use Rattle.theory.specs.Structures.{readPair}
 use Rattle.theory.proofs.WordLaws.{Bytes-drop}
 use Rattle.note.specs.Limits.{fileLimit}
 use Rattle.note.specs.Words.{word}
 use Rattle.note.specs.Records.{entry, recordsBytes}
 use Rattle.note.specs.Events.{Container, containerBytes, containerSize, eventsBytes, readEvents}
-use Rattle.note.specs.Files.{Parts, fileMark, format, configurationHead, configurationLate}
+use Rattle.note.specs.Files.{Parts, fileMark, format, configurationRule, configurationLate}
 use Rattle.note.specs.Files.{readHeader, readConfiguration, readParts, orderOf, readFile}
 use Rattle.demands.proofs.Bundles.{events, same-events}
 use Rattle.demands.proofs.RowLaws.{container-size}
@@ -73,17 +72,21 @@ pub record Headed (o : Order) (bs : List ℕ) : Type 0 where
 
 -- What configuration_in answers behind the header, and events_in behind n bytes of entries.
 abbrev configurationAnswer : Order → List ℕ → Holding
-configurationAnswer o bs = containerStep o (readConfiguration o tt 8 (behindOf 8 bs))
+configurationAnswer o bs = containerStep o (readConfiguration o 8 (behindOf 8 bs))
 
 abbrev pub eventsAnswer : Order → List ℕ → ℕ → Count
-eventsAnswer o bs n = eventRows (readEvents o tt (16 + n) (behindOf (16 + n) bs))
+eventsAnswer o bs n = eventRows (readEvents o (16 + n) (behindOf (16 + n) bs))
 
--- A file's parts by its version word and by what is read behind its header.
-abbrev partsOf : ℕ → Res (Container × List Container) → Res Parts
-partsOf v r = bind {B = Parts} r (λ b. ok (v, b))
+-- A file's parts by its version word, its configuration and its events; and what is read behind its header.
+abbrev three : ℕ → Container → List Container → Res Parts
+three v c es = ok (v, (c, es))
 
-headed-reads : {o : Order} {bs : List ℕ} → Headed o bs
-    → readParts o bs ≡ partsOf (word o 4 bs) (readPair (λ s c. tt) (containerSize o) (readConfiguration o) (readEvents o) tt 8 (drop 8 bs))
+abbrev behindHeader : Order → List ℕ → Res Parts
+behindHeader o bs =
+    bind (readConfiguration o 8 (drop 8 bs)) (λ c.
+    bind (readEvents o (8 + containerSize o c) (drop (8 + containerSize o c) bs)) (three (word o 4 bs) c))
+
+headed-reads : {o : Order} {bs : List ℕ} → Headed o bs → readParts o bs ≡ behindHeader o bs
 unfolding readParts readHeader
 headed-reads {o} {bs} h =
     rw (
@@ -96,7 +99,7 @@ headed-reads {o} {bs} h =
 pub record Configured (o : Order) (bs : List ℕ) (n t : ℕ) : Type 0 where
   pub headed : Headed o bs
   pub configuration : Container
-  pub reads : readConfiguration o tt 8 (drop 8 bs) ≡ ok configuration
+  pub reads : readConfiguration o 8 (drop 8 bs) ≡ ok configuration
   pub size : length (recordsBytes o (configuration .body)) ≡ n
   pub entries : length (configuration .body) ≡ t
   pub fits : 16 + n ≤ length bs
@@ -106,15 +109,15 @@ module _ {o : Order} {bs : List ℕ} (h : Headed o bs) where
   pub configuration-fault : (c p : ℕ) → Holding.Bad c p ≡ configurationAnswer o bs → Count.Bad c p ≡ partRows (readParts o bs)
   unfolding countOf
   configuration-fault c p q =
-      let r : readConfiguration o tt 8 (drop 8 bs) ≡ bad c p = ap (readConfiguration o tt 8) (left 8 bs) ∙ holding-bad o _ c p q in
+      let r : readConfiguration o 8 (drop 8 bs) ≡ bad c p = ap (readConfiguration o 8) (left 8 bs) ∙ holding-bad o _ c p q in
       rw (headed-reads h, r)
 
   pub configured : (k n t : ℕ) → Holding.Good k n t ≡ configurationAnswer o bs → Configured o bs n t
   unfolding readConfiguration
   configured k n t q =
-      let (c, r, k-is, n-is, t-is) = holding-good o (readConfiguration o tt 8 (behindOf 8 bs)) k n t q in
-      let same : readConfiguration o tt 8 (drop 8 bs) ≡ ok c = ap (readConfiguration o tt 8) (left 8 bs) ∙ r in
-      let (s, fit) = sized o configurationHead configurationLate entry 8 (drop 8 bs) c (Bytes-drop 8 bs (h .bytes)) same in
+      let (c, r, k-is, n-is, t-is) = holding-good o (readConfiguration o 8 (behindOf 8 bs)) k n t q in
+      let same : readConfiguration o 8 (drop 8 bs) ≡ ok c = ap (readConfiguration o 8) (left 8 bs) ∙ r in
+      let (s, fit) = sized o configurationRule configurationLate entry 8 (drop 8 bs) c (Bytes-drop 8 bs (h .bytes)) same in
       record {
         headed = h;
         configuration = c;
@@ -130,15 +133,15 @@ module _ {o : Order} {bs : List ℕ} {n t : ℕ} (i : Configured o bs n t) where
   at-events : 8 + containerSize o (i .configuration) ≡ 16 + n
   at-events = omega (arith, i .size)
 
-  same-part : drop (containerSize o (i .configuration)) (drop 8 bs) ≡ behindOf (16 + n) bs
-  same-part = drop-drop (containerSize o (i .configuration)) 8 bs ∙ ap (λ (x : ℕ). drop x bs) at-events ∙ left (16 + n) bs
+  same-part : drop (8 + containerSize o (i .configuration)) bs ≡ behindOf (16 + n) bs
+  same-part = ap (λ (x : ℕ). drop x bs) at-events ∙ left (16 + n) bs
 
   -- The parts are read as the events are.
-  parts-read : (r : Res (List Container)) → readEvents o tt (16 + n) (behindOf (16 + n) bs) ≡ r
-      → readParts o bs ≡ partsOf (word o 4 bs) (bind r (λ es. ok (i .configuration, es)))
+  parts-read : (r : Res (List Container)) → readEvents o (16 + n) (behindOf (16 + n) bs) ≡ r
+      → readParts o bs ≡ bind r (three (word o 4 bs) (i .configuration))
   parts-read r e =
-      let r-is : readEvents o tt (8 + containerSize o (i .configuration)) (drop (containerSize o (i .configuration)) (drop 8 bs)) ≡ r =
-      ap₂ (readEvents o tt) at-events same-part ∙ e in
+      let r-is : readEvents o (8 + containerSize o (i .configuration)) (drop (8 + containerSize o (i .configuration)) bs) ≡ r =
+      ap₂ (readEvents o) at-events same-part ∙ e in
       headed-reads (i .headed) ∙ rw (i .reads, r-is)
 
   pub events-fault : (c p : ℕ) → Count.Bad c p ≡ eventsAnswer o bs n → Count.Bad c p ≡ partRows (readParts o bs)

@@ -81,7 +81,7 @@ module _ (bs : List ℕ) (f : File) (h : Bytes bs) (e : readFile bs ≡ ok f) wh
   length-is =
       sym (word-of-drop o 4 4 8 bs)
       ∙ ap (word o 4) (behind-header ∙ structure-apart o (recordsBytes o) conf (eventsBytes o es))
-      ∙ second-word o (conf .kind) n (recordsBytes o (conf .body) ++ eventsBytes o es) (sound .1 .configuration-fits)
+      ∙ second-word o (conf .word) n (recordsBytes o (conf .body) ++ eventsBytes o es) (sound .1 .configuration-fits)
 
   pub room : (16 + n ≤ length bs) × (length bs ≤ fileLimit)
   room =
@@ -91,7 +91,7 @@ module _ (bs : List ℕ) (f : File) (h : Bytes bs) (e : readFile bs ≡ ok f) wh
   behind-words : drop 16 bs ≡ recordsBytes o (conf .body) ++ eventsBytes o es
   behind-words =
       sym (drop-drop 8 8 bs) ∙ ap (drop 8) (behind-header ∙ structure-apart o (recordsBytes o) conf (eventsBytes o es))
-      ∙ drop-two o (conf .kind) n (recordsBytes o (conf .body) ++ eventsBytes o es)
+      ∙ drop-two o (conf .word) n (recordsBytes o (conf .body) ++ eventsBytes o es)
 
   -- The entries.
   pub entries-part : (m : ℕ) → m ≡ word o 12 bs → take m (drop 16 bs) ≡ recordsBytes o (conf .body)
@@ -109,7 +109,7 @@ module _ (bs : List ℕ) (f : File) (h : Bytes bs) (e : readFile bs ≡ ok f) wh
       sym (left q bs) ∙ ap (λ (x : ℕ). drop x bs) k ∙ sym (drop-drop n 16 bs) ∙ ap (drop n) behind-words
       ∙ drop-at (recordsBytes o (conf .body)) (eventsBytes o es) n refl
 
-  pub events-read : (q : ℕ) → q ≡ 16 + word o 12 bs → readEvents o tt q (behindOf q bs) ≡ ok es
+  pub events-read : (q : ℕ) → q ≡ 16 + word o 12 bs → readEvents o q (behindOf q bs) ≡ ok es
   events-read q eq =
-      ap (readEvents o tt q) (events-part q eq) ∙ same-events o tt q (eventsBytes o es)
+      ap (readEvents o q) (events-part q eq) ∙ same-events o tt q (eventsBytes o es)
       ∙ events o .complete tt q es (events-ok o es (sound .1 .events-valid))

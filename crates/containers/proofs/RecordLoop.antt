@@ -20,7 +20,7 @@ use Rattle.containers.specs.Counts.{countOf, recordCount}
 
 -- The record at the front, as its step says it.
 abbrev pub recordAt : ℕ → ℕ → List ℕ → Record
-recordAt k n rest = record { kind = k; body = take n (drop 8 rest) }
+recordAt k n rest = record { word = k; body = take n (drop 8 rest) }
 
 -- What is left of a list after n bytes, as code cuts it.
 abbrev pub behindOf : ℕ → List ℕ → List ℕ

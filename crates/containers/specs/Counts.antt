@@ -1,4 +1,5 @@
--- What the code answers of the note's readers: how many records, a container's word, length and count, how many rows.
+-- What the code answers of the note's readers: how many records, a container's word, length and count, how many rows. The code keeps no tree, so
+-- what it has in hand after reading is measures of one.
 use Prim.Native.Nat.{ℕ, _+_}
 use mathlib.Core.List.{List, [], _∷_}
 use lib.ListN.{length}
@@ -21,10 +22,10 @@ abbrev pub recordCount : Res (List Record) → Count
 recordCount = countOf length
 
 unfoldable pub containerStep : Order → Res Container → Holding
-containerStep o (ok c) = Holding.Good (c .kind) (length (recordsBytes o (c .body))) (length (c .body))
+containerStep o (ok c) = Holding.Good (c .word) (length (recordsBytes o (c .body))) (length (c .body))
 containerStep o (bad c p) = Holding.Bad c p
 
--- The rows of events: each its own and one for each record.
+-- FORMAT 7.3: the rows of events: each its own and one for each record.
 abbrev pub rowsOfEvents : List Container → ℕ
 rowsOfEvents [] = 0
 rowsOfEvents (e ∷ es) = 1 + length (e .body) + rowsOfEvents es
@@ -32,7 +33,7 @@ rowsOfEvents (e ∷ es) = 1 + length (e .body) + rowsOfEvents es
 abbrev pub eventRows : Res (List Container) → Count
 eventRows = countOf rowsOfEvents
 
--- The rows of a file: the header's, the configuration's and its entries', the events'.
+-- FORMAT 7.3: the rows of a file: the header's, the configuration's and its entries', the events'.
 abbrev pub rowsOfParts : Parts → ℕ
 rowsOfParts p = 2 + length (p .1 .0 .body) + rowsOfEvents (p .1 .1)
 

@@ -1,6 +1,13 @@
 // Containers: the records that fill a part, a configuration, an event, the events of a file, and the file as a whole.
 use fields::event_word_rule;
+use note::MISPLACED;
+use note::NOT_A_FILE;
+use note::TOO_LARGE;
+use note::TOO_SHORT;
+use note::WRONG_FORMAT;
+use note::WRONG_KIND;
 use record::ENTRY;
+use record::FRONT;
 use record::Step;
 use record::fresh;
 use record::next_context;
@@ -27,6 +34,15 @@ pub const FORMAT: u32 = 0x0200;
 /// A configuration's first word.
 pub const CONFIGURATION: u32 = 0x0001_0000;
 
+/// The bytes of the file header; the configuration begins behind it.
+pub const HEADER: usize = 8;
+
+/// Where the configuration's length word stands.
+pub const ENTRIES_LENGTH: usize = 12;
+
+/// Where the configuration's entries begin.
+pub const ENTRIES: usize = 16;
+
 /// How many there are, or the refusal.
 pub enum Count {
     Good { count: usize },
@@ -52,7 +68,7 @@ pub enum Holding {
 fn length_at(part: &[u8], big: bool) -> usize
     ensures { λ r. ⌜ (8 ≤ length (now (part .entry)) → r ≡ word (orderFrom big) 4 (now (part .entry))) ⌝ }
 {
-    if part.len() < 8 {
+    if part.len() < FRONT {
         return 0;
     }
     word_at(part, 4, big) as usize
@@ -62,7 +78,7 @@ fn length_at(part: &[u8], big: bool) -> usize
 fn is_alike(part: &[u8], known: usize, big: bool) -> bool
     ensures { λ r. ⌜ (r ≡ true → (8 ≤ length (now (part .entry))) × (known ≡ word (orderFrom big) 4 (now (part .entry)))) ⌝ }
 {
-    if part.len() < 8 {
+    if part.len() < FRONT {
         return false;
     }
     word_at(part, 4, big) as usize == known
@@ -84,9 +100,9 @@ pub fn records_in(part: &[u8], from: usize, context: u32, big: bool) -> Count
         while more {
             match record_in(rest, at, state, big) {
                 Step::Bad { number, place } => return Count::Bad { number, place },
-                Step::Good { kind, length: _ } => {
-                    let size = 8 + known;
-                    state = next_context(state, kind);
+                Step::Good { word, length: _ } => {
+                    let size = FRONT + known;
+                    state = next_context(state, word);
                     rest = &rest[size..];
                     at = at + size;
                     count = count + 1;
@@ -103,30 +119,30 @@ pub fn records_in(part: &[u8], from: usize, context: u32, big: bool) -> Count
 /// The configuration at the front of a part whose first byte stands at `at`.
 pub fn configuration_in(part: &[u8], at: usize, big: bool) -> Holding
     requires { ⌜ at + length (now part) ≤ 0x1000000 ⌝ }
-    ensures { λ r. ⌜ r ≡ containerStep (orderFrom big) (readConfiguration (orderFrom big) tt at (now (part .entry))) ⌝ }
+    ensures { λ r. ⌜ r ≡ containerStep (orderFrom big) (readConfiguration (orderFrom big) at (now (part .entry))) ⌝ }
 {
     let room = part.len();
-    if room < 8 {
+    if room < FRONT {
         return Holding::Bad {
-            number: 2,
+            number: TOO_SHORT,
             place: at,
         };
     }
     let word = word_at(part, 0, big);
     if word != CONFIGURATION {
         return Holding::Bad {
-            number: 5,
+            number: WRONG_KIND,
             place: at,
         };
     }
     let length = word_at(part, 4, big) as usize;
-    if room - 8 < length {
+    if room - FRONT < length {
         return Holding::Bad {
-            number: 2,
+            number: TOO_SHORT,
             place: at,
         };
     }
-    match records_in(&part[8..8 + length], at + 8, ENTRY, big) {
+    match records_in(&part[FRONT..FRONT + length], at + FRONT, ENTRY, big) {
         Count::Good { count } => Holding::Good {
             word,
             length,
@@ -139,12 +155,12 @@ pub fn configuration_in(part: &[u8], at: usize, big: bool) -> Holding
 /// The event at the front of a part whose first byte stands at `at`.
 pub fn event_in(part: &[u8], at: usize, big: bool) -> Holding
     requires { ⌜ at + length (now part) ≤ 0x1000000 ⌝ }
-    ensures { λ r. ⌜ r ≡ containerStep (orderFrom big) (readEvent (orderFrom big) tt at (now (part .entry))) ⌝ }
+    ensures { λ r. ⌜ r ≡ containerStep (orderFrom big) (readEvent (orderFrom big) at (now (part .entry))) ⌝ }
 {
     let room = part.len();
-    if room < 8 {
+    if room < FRONT {
         return Holding::Bad {
-            number: 2,
+            number: TOO_SHORT,
             place: at,
         };
     }
@@ -157,19 +173,19 @@ pub fn event_in(part: &[u8], at: usize, big: bool) -> Holding
         };
     }
     let length = word_at(part, 4, big) as usize;
-    if room - 8 < length {
+    if room - FRONT < length {
         return Holding::Bad {
-            number: 2,
+            number: TOO_SHORT,
             place: at,
         };
     }
     if length < 1 {
         return Holding::Bad {
-            number: 9,
+            number: MISPLACED,
             place: at,
         };
     }
-    match records_in(&part[8..8 + length], at + 8, fresh(), big) {
+    match records_in(&part[FRONT..FRONT + length], at + FRONT, fresh(), big) {
         Count::Good { count } => Holding::Good {
             word,
             length,
@@ -182,7 +198,7 @@ pub fn event_in(part: &[u8], at: usize, big: bool) -> Holding
 /// How many rows the events have that fill a part whose first byte stands at `from`.
 pub fn events_in(part: &[u8], from: usize, big: bool) -> Count
     requires { ⌜ from + length (now part) ≤ 0x1000000 ⌝ }
-    ensures { λ r. ⌜ r ≡ eventRows (readEvents (orderFrom big) tt from (now (part .entry))) ⌝ }
+    ensures { λ r. ⌜ r ≡ eventRows (readEvents (orderFrom big) from (now (part .entry))) ⌝ }
 {
     let mut rest = part;
     let mut at = from;
@@ -195,7 +211,7 @@ pub fn events_in(part: &[u8], from: usize, big: bool) -> Count
                 length,
                 count: records,
             } => {
-                let size = 8 + length;
+                let size = FRONT + length;
                 rest = &rest[size..];
                 at = at + size;
                 count = count + 1 + records;
@@ -211,32 +227,32 @@ fn parts_in(file: &[u8], big: bool) -> Count
     ensures { λ r. ⌜ r ≡ partRows (readParts (orderFrom big) (now (file .entry))) ⌝ }
 {
     let room = file.len();
-    if room < 8 {
+    if room < FRONT {
         return Count::Bad {
-            number: 2,
+            number: TOO_SHORT,
             place: 0,
         };
     }
     if word_at(file, 0, big) != FILE_MARK {
         return Count::Bad {
-            number: 3,
+            number: NOT_A_FILE,
             place: 0,
         };
     }
     if word_at(file, 4, big) % 65536 != FORMAT {
         return Count::Bad {
-            number: 4,
+            number: WRONG_FORMAT,
             place: 0,
         };
     }
-    match configuration_in(&file[8..], 8, big) {
+    match configuration_in(&file[HEADER..], HEADER, big) {
         Holding::Bad { number, place } => Count::Bad { number, place },
         Holding::Good {
             word: _,
             length,
             count,
         } => {
-            let from = 16 + length;
+            let from = ENTRIES + length;
             match events_in(&file[from..], from, big) {
                 Count::Bad { number, place } => Count::Bad { number, place },
                 Count::Good { count: rows } => Count::Good {
@@ -253,7 +269,7 @@ pub fn check(file: &[u8]) -> Count
 {
     if record::FILE_LIMIT < file.len() {
         return Count::Bad {
-            number: 1,
+            number: TOO_LARGE,
             place: 0,
         };
     }

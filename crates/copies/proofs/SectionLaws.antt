@@ -8,28 +8,28 @@ use lib.ListN.{length, take, drop}
 use Rattle.theory.specs.declared.Order.{Order}
 use Rattle.theory.proofs.TestLaws.{first-at, equal-passed}
 use Rattle.note.specs.Words.{word}
-use Rattle.note.specs.History.{widthAt, widthOf, after, sectionOf, historyTests, historyRule}
+use Rattle.note.specs.History.{widthAt, widthOf, endAt, sectionOf, historyTests, historyRule}
 
 -- Where the veto section's width stands, where the trigger section begins, and where its width stands.
 pub record Cuts (o : Order) (b : List ℕ) (veto middle trigger : ℕ) : Type 0 where
   pub veto-is : veto ≡ widthAt o 0 b
-  pub middle-is : middle ≡ after o 0 b
+  pub middle-is : middle ≡ endAt o 0 b
   pub trigger-is : trigger ≡ widthAt o middle b
 
 module _ {o : Order} {b : List ℕ} (e : historyRule o b ≡ 0) {veto middle trigger : ℕ} (c : Cuts o b veto middle trigger) where
-  pub ends : length b ≡ after o middle b
+  pub ends : length b ≡ endAt o middle b
   unfolding historyRule
-  ends = equal-passed (length b) (after o (after o 0 b) b) 5 (first-at (historyTests o b) e 4) ∙ ap (λ (p : ℕ). after o p b) (sym (c .middle-is))
+  ends = equal-passed (length b) (endAt o (endAt o 0 b) b) 5 (first-at (historyTests o b) e 4) ∙ ap (λ (p : ℕ). endAt o p b) (sym (c .middle-is))
 
   pub in-order : (4 ≤ veto) × (veto + 4 ≤ middle) × (middle + 4 ≤ trigger) × (trigger + 4 ≤ length b)
-  unfolding after widthAt
+  unfolding endAt widthAt
   in-order = (omega (arith, c .veto-is), omega (arith, c .veto-is, c .middle-is), omega (arith, c .trigger-is), omega (arith, c .trigger-is, ends))
 
 -- The section whose count stands at p, whose width stands at v, and which ends at q.
-pub section-cut : (o : Order) (b : List ℕ) (p v q count width : ℕ) → v ≡ widthAt o p b → q ≡ after o p b → count ≡ word o p b → width ≡ word o v b
+pub section-cut : (o : Order) (b : List ℕ) (p v q count width : ℕ) → v ≡ widthAt o p b → q ≡ endAt o p b → count ≡ word o p b → width ≡ word o v b
     → record { count = count; times = take (v - (p + 4)) (drop (p + 4) b); width = width; masks = take (q - (v + 4)) (drop (v + 4) b) }
     ≡ sectionOf o p b
-unfolding sectionOf widthOf widthAt after
+unfolding sectionOf widthOf widthAt endAt
 section-cut o b p v q count width ev eq ec ew =
     let times : v - (p + 4) ≡ 4 * word o p b = omega (arith, ev) in
     let wide : width ≡ word o (p + 4 + 4 * word o p b) b = ew ∙ ap (λ (x : ℕ). word o x b) ev in

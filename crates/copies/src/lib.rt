@@ -3,11 +3,18 @@
 use answers::signed_at;
 use answers::six_at;
 use fields::decimal;
+use rules::ADDRESS_AT;
 use rules::ADMINISTRATIVE;
+use rules::CHANNEL_AT;
 use rules::CHARGE;
+use rules::CODE_AT;
+use rules::DELTA_AT;
 use rules::GPS;
 use rules::HISTORY;
+use rules::N_AT;
 use rules::PHONON;
+use rules::SAMPLES_AT;
+use rules::T0_AT;
 use rules::TLB;
 use rules::TRACE;
 use rules::TRIGGER;
@@ -106,13 +113,13 @@ fn copy_trace(body: &[u8], out: &mut [u8], place: usize, big: bool)
     write_trace(
         out,
         place,
-        word_at(body, 8, big),
-        word_at(body, 12, big),
-        word_at(body, 16, big),
-        signed_at(body, 28, big),
-        word_at(body, 32, big),
-        word_at(body, 44, big),
-        &body[48..],
+        word_at(body, ADDRESS_AT, big),
+        word_at(body, CHANNEL_AT, big),
+        word_at(body, CODE_AT, big),
+        signed_at(body, T0_AT, big),
+        word_at(body, DELTA_AT, big),
+        word_at(body, N_AT, big),
+        &body[SAMPLES_AT..],
         big,
     );
 }
@@ -206,11 +213,11 @@ fn copy_tlb(body: &[u8], out: &mut [u8], place: usize, big: bool)
 // ---- any of them
 
 /// Writes a record or an entry of this kind again, from its body's fields, into the output from the place on.
-pub fn copy_record(kind: u32, body: &[u8], out: &mut [u8], place: usize, big: bool)
-    requires { ⌜ Copyable (orderFrom big) (kindOf kind) (now body) (length (now out)) place ⌝ }
-    ensures { λ _. ⌜ Copied (orderFrom big) (kindOf kind) (now (body .entry)) (now (out .entry)) place (now (out .exit)) ⌝ }
+pub fn copy_record(word: u32, body: &[u8], out: &mut [u8], place: usize, big: bool)
+    requires { ⌜ Copyable (orderFrom big) (kindOf word) (now body) (length (now out)) place ⌝ }
+    ensures { λ _. ⌜ Copied (orderFrom big) (kindOf word) (now (body .entry)) (now (out .entry)) place (now (out .exit)) ⌝ }
 {
-    match kind {
+    match word {
         PHONON => copy_phonon(body, out, place, big),
         CHARGE => copy_charge(body, out, place, big),
         ADMINISTRATIVE => copy_administrative(body, out, place, big),

@@ -8,7 +8,7 @@ use Rattle.theory.specs.declared.Order.the-variants.{Little}
 use Rattle.theory.specs.Tests.{ok}
 use Rattle.note.specs.Examples.{p14}
 use Rattle.note.proofs.Computing.{computing}
-use Rattle.demands.specs.Pieces.{administrative, tlb, writtenOf, PieceFits}
+use Rattle.demands.specs.Pieces.{administrative, tlb, draftOf, PieceFits}
 use Rattle.demands.specs.Assembly.{FilePieces, FileFits}
 use Rattle.demands.specs.Assembly.{recordsAssembled, containerAssembled, eventsAssembled, fileAssembled}
 
@@ -28,7 +28,7 @@ pieces = record {
 }
 
 pub example-assembled : fileAssembled Little (replicate 96 255) pieces ≡ ok (record { next = 88; out = p14 ++ replicate 8 255 })
-unfolding computing writtenOf recordsAssembled containerAssembled eventsAssembled fileAssembled
+unfolding computing draftOf recordsAssembled containerAssembled eventsAssembled fileAssembled
 example-assembled = refl
 
 -- Its pieces fit, as every law of an assembly asks; that they are without fault and stand where they may,

@@ -16,14 +16,14 @@ use Rattle.theory.proofs.TestLaws.{bind-ok, ok-inj}
 use Rattle.theory.proofs.Items.{seqs, Oks, turn, seq-open}
 use Rattle.theory.proofs.StructureLaws.{second-word, drop-two}
 use Rattle.note.specs.Limits.{fileLimit}
-use Rattle.note.specs.Records.{Record, Context, entry, event, none, recordStep, recordBytes, recordSize, recordsBytes, readRecords}
-use Rattle.note.specs.Events.{Container, containerBytes, eventWord, eventHead, eventLate, eventsBytes}
-use Rattle.note.specs.Files.{versionWord, versionRule, configurationWord, configurationHead, configurationLate, fileBytes, readFile}
+use Rattle.note.specs.Records.{Record, Context, entry, event, unseen, nextContext, recordBytes, recordSize, recordsBytes, readRecords}
+use Rattle.note.specs.Events.{Container, containerBytes, eventWord, eventWordRule, eventLate, eventsBytes}
+use Rattle.note.specs.Files.{versionWord, versionRule, configurationWord, configurationRule, configurationLate, fileBytes, readFile}
 use Rattle.note.specs.Rows.{tableGiven, tableFilled, tableAnswer, tableBuffer}
-use Rattle.note.specs.Writers.{Written, written, recordWrote, recordOutput, contentsOf, closingBytes, headerWrote, headerOutput}
+use Rattle.note.specs.Writers.{Draft, outputAfter, recordNext, recordOutput, contentsOf, closingBytes, headerNext, headerOutput}
 use Rattle.note.specs.Writers.{configurationClosed, configurationOutput, eventOutput}
 use Rattle.note.proofs.ContainerFieldLaws.{header-admitted}
-use Rattle.demands.specs.Pieces.{Piece, writtenOf, recordOf}
+use Rattle.demands.specs.Pieces.{Piece, draftOf, recordOf}
 use Rattle.demands.specs.Outputs.{Laid}
 use Rattle.demands.specs.Assembly.{EventPieces, FilePieces, AllFitting, EventsFitting, FileFits, containerOf, eventOf, fileOf, Built}
 use Rattle.demands.specs.Assembly.{recordsAssembled, containerAssembled, configurationAssembled, eventAssembled, eventsAssembled}
@@ -38,23 +38,23 @@ use Rattle.demands.proofs.ClosingLaws.{Checked, container-ok, container
 
 -- ---- what is read from the bytes of records is those records
 
-module _ (o : Order) (r : Record) (kind : Fits 4 (r .kind)) (size : Fits 4 (length (r .body))) where
+module _ (o : Order) (r : Record) (kind : Fits 4 (r .word)) (size : Fits 4 (length (r .body))) where
   record-exact : (c : Context) (at : ℕ) (rest : List ℕ) (x : Record) → recordItem o .read c at (recordBytes o r ++ rest) ≡ ok x → x ≡ r
   record-exact c at rest x e =
       let n : ℕ = length (r .body) in
       let later : List ℕ = r .body ++ rest in
-      let bs : List ℕ = put o 4 (r .kind) ++ (put o 4 n ++ later) in
+      let bs : List ℕ = put o 4 (r .word) ++ (put o 4 n ++ later) in
       let shape : recordBytes o r ++ rest ≡ bs = structure-apart o (λ (b : List ℕ). b) r rest in
       let (first, second) = record-opens o c at bs x (sym (ap (recordItem o .read c at) shape) ∙ e) in
-      let ek : x .kind ≡ r .kind = first ∙ word-after-put o 4 (r .kind) (put o 4 n ++ later) kind in
-      let en : wordAt o 4 4 bs ≡ n = second-word o (r .kind) n later size in
-      let eb : x .body ≡ r .body = second ∙ ap₂ take en (drop-two o (r .kind) n later) ∙ take-at (r .body) rest n refl in
-      λ i. record { kind = ek i; body = eb i }
+      let ek : x .word ≡ r .word = first ∙ word-after-put o 4 (r .word) (put o 4 n ++ later) kind in
+      let en : wordAt o 4 4 bs ≡ n = second-word o (r .word) n later size in
+      let eb : x .body ≡ r .body = second ∙ ap₂ take en (drop-two o (r .word) n later) ∙ take-at (r .body) rest n refl in
+      λ i. record { word = ek i; body = eb i }
 
 -- Each kind word fits.
 abbrev KindsFit : List Record → Type 0
 KindsFit [] = Unit {0}
-KindsFit (r ∷ rs) = Fits 4 (r .kind) × KindsFit rs
+KindsFit (r ∷ rs) = Fits 4 (r .word) × KindsFit rs
 
 -- With fuel f for as many records.
 sequence-exact : (o : Order) (f : ℕ) (c : Context) (at : ℕ) (rs xs : List Record) → KindsFit rs
@@ -69,11 +69,11 @@ sequence-exact o (suc f) c at (r ∷ rs) xs k l s e =
     let opened = sym (seq-open (recordItem o) f c at bs (omega arith)) ∙ e in
     let (a, ea, e1) = bind-ok (recordItem o .read c at bs) (turn (recordItem o) f c at bs) opened in
     let same : a ≡ r = record-exact o r (k .0) (omega arith) c at (recordsBytes o rs) a ea in
-    let later : List ℕ → Res (List Record) = seqs (recordItem o) f (recordStep c r) (at + recordSize r) in
+    let later : List ℕ → Res (List Record) = seqs (recordItem o) f (nextContext c r) (at + recordSize r) in
     let (ys, ey, e2) = bind-ok (later (drop (recordSize r) bs)) (λ ys. ok (r ∷ ys))
     (subst (λ (x : Record). turn (recordItem o) f c at bs x ≡ ok xs) same e1) in
     let rest : drop (recordSize r) bs ≡ recordsBytes o rs = drop-at (recordBytes o r) (recordsBytes o rs) (recordSize r) own in
-    let tail : ys ≡ rs = sequence-exact o f (recordStep c r) (at + recordSize r) rs ys (k .1) (omega arith) (omega arith)
+    let tail : ys ≡ rs = sequence-exact o f (nextContext c r) (at + recordSize r) rs ys (k .1) (omega arith) (omega arith)
     (sym (ap later rest) ∙ ey) in
     sym (ok-inj e2) ∙ ap (λ (zs : List Record). r ∷ zs) tail
 
@@ -101,7 +101,7 @@ pub structure-bytes : (o : Order) {B : Type 0} (bodyBytes : B → List ℕ) (c :
     → Bytes (structureBytes o bodyBytes c)
 structure-bytes o bodyBytes c h =
     let body : List ℕ = bodyBytes (c .body) in
-    Bytes-append (put o 4 (c .kind)) _ (Bytes-put o 4 (c .kind))
+    Bytes-append (put o 4 (c .word)) _ (Bytes-put o 4 (c .word))
     (Bytes-append (put o 4 (length body)) body (Bytes-put o 4 (length body)) h)
 
 pub pieces-bytes : (o : Order) (ps : List Piece) → AllFitting ps → Bytes (piecesBytes o ps)
@@ -125,9 +125,9 @@ pub records-laid : (o : Order) (b : Built) (ps : List Piece) (after : Built) →
 unfolding recordsAssembled
 records-laid o b [] after h e = none-lays b after e
 records-laid o b (p ∷ ps) after h e =
-    let w : Written = writtenOf o p in
+    let w : Draft = draftOf o p in
     let out : List ℕ = recordOutput (b .out) (b .next) w in
-    let (next, e1, e2) = bind-ok (recordWrote (b .out) (b .next) w) (λ next. recordsAssembled o (record { next = next; out = out }) ps) e in
+    let (next, e1, e2) = bind-ok (recordNext (b .out) (b .next) w) (λ next. recordsAssembled o (record { next = next; out = out }) ps) e in
     let g = record-granted (b .out) (b .next) next w e1 in
     let one : Laid (b .out) out (b .next) next (recordBytes o (recordOf o p)) =
     subst (λ (x : List ℕ). Laid (b .out) out (b .next) next x) (piece-writes o p (h .0) .bytes-are) (record-laid (b .out) (b .next) next w e1) in
@@ -155,16 +155,16 @@ container-calls o closed output b ps after e =
     (filled, next, e1, e3, ok-inj e4)
 
 -- A container: what stands afterwards is the container of the pieces, and it is valid.
-pub record Stood (o : Order) (head : Unit {0} → ℕ → ℕ) (late : Unit {0} → ℕ → ℕ → ℕ) (c : Context)
+pub record Stood (o : Order) (head : ℕ → ℕ) (late : ℕ → ℕ → ℕ) (c : Context)
     (b after : Built) (x : Container) : Type 0 where
   pub laid : Lays b after (containerBytes o x)
   pub room : after .next ≤ length (b .out)
   pub valid : box o head late c .Ok tt x
 
-module _ (o : Order) (head : Unit {0} → ℕ → ℕ) (late : Unit {0} → ℕ → ℕ → ℕ) (c : Context) (word : ℕ)
+module _ (o : Order) (head : ℕ → ℕ) (late : ℕ → ℕ → ℕ) (c : Context) (word : ℕ)
     (closed : List ℕ → ℕ → ℕ → Res ℕ) (output : List ℕ → ℕ → ℕ → List ℕ)
     (checked : (out : List ℕ) (place end next : ℕ) → closed out place end ≡ ok next → Checked o head late c out place end next word)
-    (is : (old : List ℕ) (place end : ℕ) → output old place end ≡ written (closed old place end) old place (closingBytes o word place end)) where
+    (is : (old : List ℕ) (place end : ℕ) → output old place end ≡ outputAfter (closed old place end) old place (closingBytes o word place end)) where
   -- A closing over pieces that were laid behind eight free bytes.
   closed-stands : (b filled : Built) (ps : List Piece) (next : ℕ) → AllFitting ps → Lays (contentsFrom b) filled (piecesBytes o ps)
       → closed (filled .out) (b .next) (filled .next) ≡ ok next
@@ -180,9 +180,9 @@ module _ (o : Order) (head : Unit {0} → ℕ → ℕ) (late : Unit {0} → ℕ 
       let again : readRecords o c (place + 8) (recordsBytes o rs) ≡ ok (k .read) = sym (ap (readRecords o c (place + 8)) contents) ∙ k .contents in
       let same : k .read ≡ rs =
       records-exact o c (place + 8) rs (k .read) (pieces-kinds o ps h) (omega (arith, l .ends, k .room)) again in
-      let left : written (ok next) old place (closingBytes o word place end) ≡ output old place end =
-      ap (λ (r : Res ℕ). written r old place (closingBytes o word place end)) (sym e) ∙ sym (is old place end) in
-      let whole : List Record → Container = λ xs. record { kind = word; body = xs } in
+      let left : outputAfter (ok next) old place (closingBytes o word place end) ≡ output old place end =
+      ap (λ (r : Res ℕ). outputAfter r old place (closingBytes o word place end)) (sym e) ∙ sym (is old place end) in
+      let whole : List Record → Container = λ xs. record { word = word; body = xs } in
       let shut = around-laid (b .out) old _ (recordsBytes o rs) _ place (place + 8) end (omega arith) l
       (container-laid o head late c old place end next word k bytes) in
       let there = subst (λ (x : List ℕ). Laid (b .out) x place end (containerBytes o (whole (k .read)))) left shut in
@@ -201,17 +201,17 @@ module _ (o : Order) (head : Unit {0} → ℕ → ℕ) (late : Unit {0} → ℕ 
       (closed-stands b filled ps next h (records-laid o _ ps filled h e1) e2)
 
 pub configuration-stands : (o : Order) (b : Built) (ps : List Piece) (after : Built) → AllFitting ps → configurationAssembled o b ps ≡ ok after
-    → Stood o configurationHead configurationLate entry b after (containerOf o configurationWord ps)
+    → Stood o configurationRule configurationLate entry b after (containerOf o configurationWord ps)
 unfolding configurationOutput
 configuration-stands o =
-    container-stands o configurationHead configurationLate entry configurationWord (configurationClosed o) (configurationOutput o)
+    container-stands o configurationRule configurationLate entry configurationWord (configurationClosed o) (configurationOutput o)
     (configuration-checked o) (λ out place end. refl)
 
 pub event-stands : (o : Order) (b : Built) (e : EventPieces) (after : Built) → AllFitting (e .records) → eventAssembled o b e ≡ ok after
-    → Stood o eventHead eventLate (event none) b after (eventOf o e)
+    → Stood o eventWordRule eventLate (event unseen) b after (eventOf o e)
 unfolding eventOutput
 event-stands o b e after h q =
-    container-stands o eventHead eventLate (event none) (eventWord (e .class) (e .category) (e .type)) _ _
+    container-stands o eventWordRule eventLate (event unseen) (eventWord (e .class) (e .category) (e .type)) _ _
     (λ out place end. event-checked o out place end (e .class) (e .category) (e .type)) (λ out place end. refl) b (e .records) after h q
 
 events-stand : (o : Order) (b : Built) (es : List EventPieces) (after : Built) → EventsFitting es → eventsAssembled o b es ≡ ok after
@@ -240,12 +240,12 @@ headed o out f next = record { next = next; out = headerOutput o out (f .major) 
 
 -- A file's calls: the header, the configuration, the events.
 pub file-calls : (o : Order) (out : List ℕ) (f : FilePieces) (b : Built) → fileAssembled o out f ≡ ok b
-    → (next : ℕ) × (mid : Built) × (headerWrote out ≡ ok next)
+    → (next : ℕ) × (mid : Built) × (headerNext out ≡ ok next)
     × (configurationAssembled o (headed o out f next) (f .entries) ≡ ok mid) × (eventsAssembled o mid (f .events) ≡ ok b)
 unfolding fileAssembled
 file-calls o out f b e =
     let rest : Built → Res Built = λ mid. eventsAssembled o mid (f .events) in
-    let (next, e1, e2) = bind-ok (headerWrote out) (λ next. bind (configurationAssembled o (headed o out f next) (f .entries)) rest) e in
+    let (next, e1, e2) = bind-ok (headerNext out) (λ next. bind (configurationAssembled o (headed o out f next) (f .entries)) rest) e in
     let (mid, e3, e4) = bind-ok (configurationAssembled o (headed o out f next) (f .entries)) rest e2 in
     (next, mid, e1, e3, e4)
 
@@ -253,7 +253,7 @@ module _ (o : Order) (out : List ℕ) (f : FilePieces) (h : FileFits f) where
   -- The calls lay the bytes of the tree, which is valid.
   pub file-stands : (b : Built) → fileAssembled o out f ≡ ok b
       → Laid out (b .out) 0 (b .next) (fileBytes (fileOf o f)) × (length out ≤ fileLimit) × parts o .Ok tt (fileOf o f .1)
-  unfolding fileOf headerWrote
+  unfolding fileOf headerNext
   file-stands b e =
       let top : List ℕ = headerOutput o out (f .major) (f .minor) in
       let (next, mid, e1, e2, e3) = file-calls o out f b e in

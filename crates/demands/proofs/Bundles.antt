@@ -1,20 +1,23 @@
 -- The note's readers with the theory's laws: the same readers, by computation, as items and wholes.
 -- The idea: a format made of the theory's parts needs no proof of its own.
-use mathlib.Core.Path.{_≡_, refl}
+use mathlib.Core.Path.{_≡_, refl, sym, ap, _∙_}
 use mathlib.Core.Bool.{Bool, true}
 use mathlib.Core.List.{List, [], _∷_}
-use Prim.Native.Nat.{ℕ, suc}
+use Prim.Native.Nat.{ℕ, suc, _+_}
 use native.Mathlib.Omega.{arith}
-use lib.ListN.{length}
+use lib.ListN.{length, drop}
+use lib.Seq.{drop-drop}
 use Rattle.theory.specs.declared.Order.{Order}
-use Rattle.theory.specs.Tests.{unless}
-use Rattle.theory.proofs.TestLaws.{unless-zero, unless-holds, most-passed, most-passes}
+use Rattle.theory.specs.Tests.{Res, ok, bind, unless}
+use Rattle.theory.proofs.TestLaws.{unless-zero, unless-holds, most-passed, most-passes, bind-ext, bind-bind}
 use Rattle.theory.proofs.Items.{Item, Whole, seqW, Oks}
-use Rattle.theory.proofs.StructureLaws.{structure, ruled, inside, pair, twoWords}
-use Rattle.note.specs.Records.{Record, Context, entry, event, none, isKind, isAllowed, recordHead, recordLate, recordRule, recordStep}
+use Rattle.theory.proofs.StructureLaws.{stateless, structure, ruled, inside, pair, twoWords}
+use Rattle.note.specs.Faults.{tooShort, notAFile}
+use Rattle.note.proofs.FaultLaws.{short-some}
+use Rattle.note.specs.Records.{Record, Context, entry, event, unseen, isKind, isAllowed, recordHead, recordLate, recordRule, nextContext}
 use Rattle.note.specs.Records.{readRecord, readRecords}
-use Rattle.note.specs.Events.{Container, eventHead, eventLate, readEvent, readEvents}
-use Rattle.note.specs.Files.{Parts, fileMark, versionRule, configurationHead, configurationLate, readHeader, readConfiguration, readParts}
+use Rattle.note.specs.Events.{Container, containerSize, eventWordRule, eventLate, readEvent, readEvents}
+use Rattle.note.specs.Files.{Parts, fileMark, versionRule, configurationRule, configurationLate, readHeader, readConfiguration, readParts}
 use Rattle.demands.specs.Valid.{ValidRecord, ValidRecords, ValidEvent, ValidEvents}
 
 -- A record's body, by the rule of the kind that its first word names.
@@ -22,26 +25,26 @@ abbrev pub recordBody : Order → Whole (Context × ℕ) (List ℕ)
 recordBody o = ruled (λ s. recordRule o (s .1))
 
 abbrev pub recordItem : Order → Item Context Record
-recordItem o = structure o recordHead recordLate (recordBody o) recordStep
+recordItem o = structure o tooShort short-some recordHead recordLate (recordBody o) nextContext
 
 abbrev pub records : Order → Whole Context (List Record)
 records o = seqW (recordItem o)
 
 -- A container of records with any tests of its own, its records read in the context c.
-abbrev pub box : Order → (Unit {0} → ℕ → ℕ) → (Unit {0} → ℕ → ℕ → ℕ) → Context → Item (Unit {0}) Container
-box o head late c = structure o head late (inside (λ s. c) (records o)) (λ s x. tt)
+abbrev pub box : Order → (ℕ → ℕ) → (ℕ → ℕ → ℕ) → Context → Item (Unit {0}) Container
+box o head late c = structure o tooShort short-some (stateless head) (stateless late) (inside (λ s. c) (records o)) (λ s x. s)
 
 abbrev pub configurationItem : Order → Item (Unit {0}) Container
-configurationItem o = box o configurationHead configurationLate entry
+configurationItem o = box o configurationRule configurationLate entry
 
 abbrev pub eventItem : Order → Item (Unit {0}) Container
-eventItem o = box o eventHead eventLate (event none)
+eventItem o = box o eventWordRule eventLate (event unseen)
 
 abbrev pub events : Order → Whole (Unit {0}) (List Container)
 events o = seqW (eventItem o)
 
 abbrev pub headerItem : Order → Item (Unit {0}) ℕ
-headerItem o = twoWords o fileMark 3 versionRule (omega arith) (omega arith)
+headerItem o = twoWords o tooShort fileMark notAFile versionRule short-some (omega arith) (omega arith)
 
 abbrev pub parts : Order → Whole (Unit {0}) Parts
 parts o = pair (headerItem o) (pair (configurationItem o) (events o))
@@ -56,17 +59,43 @@ pub same-records : (o : Order) (c : Context) (at : ℕ) (bs : List ℕ) → read
 unfolding readRecords readRecord
 same-records o c at bs = refl
 
-pub same-event : (o : Order) (s : Unit {0}) (at : ℕ) (bs : List ℕ) → readEvent o s at bs ≡ eventItem o .read s at bs
+pub same-event : (o : Order) (s : Unit {0}) (at : ℕ) (bs : List ℕ) → readEvent o at bs ≡ eventItem o .read s at bs
 unfolding readEvent readRecords readRecord
 same-event o s at bs = refl
 
-pub same-events : (o : Order) (s : Unit {0}) (at : ℕ) (bs : List ℕ) → readEvents o s at bs ≡ events o .read s at bs
+pub same-events : (o : Order) (s : Unit {0}) (at : ℕ) (bs : List ℕ) → readEvents o at bs ≡ events o .read s at bs
 unfolding readEvents readEvent readRecords readRecord
 same-events o s at bs = refl
 
+-- Header, configuration and events one after the other: an item, and behind it an item and what fills the rest.
 pub same-parts : (o : Order) (bs : List ℕ) → readParts o bs ≡ parts o .read tt 0 bs
 unfolding readParts readHeader readConfiguration readEvents readEvent readRecords readRecord
-same-parts o bs = refl
+same-parts o bs = bind-ext (headerItem o .read tt 0 bs) _ _ (λ v e. behind-header v)
+  where
+    pairs : Container → Res (Container × List Container)
+    pairs c = bind (events o .read tt (8 + containerSize o c) (drop (containerSize o c) (drop 8 bs))) (λ es. ok (c, es))
+
+    three : ℕ → Container → List Container → Res Parts
+    three v c es = ok (v, (c, es))
+
+    with-version : ℕ → Container × List Container → Res Parts
+    with-version v x = ok (v, x)
+
+    behind-configuration : (v : ℕ) (c : Container)
+        → bind (events o .read tt (8 + containerSize o c) (drop (8 + containerSize o c) bs)) (three v c)
+        ≡ bind (pairs c) (with-version v)
+    behind-configuration v c =
+        ap (λ (rest : List ℕ). bind (events o .read tt (8 + containerSize o c) rest) (three v c))
+        (sym (drop-drop (containerSize o c) 8 bs))
+        ∙ sym (bind-bind (events o .read tt (8 + containerSize o c) (drop (containerSize o c) (drop 8 bs))) (λ es. ok (c, es)) (with-version v))
+
+    behind-header : (v : ℕ)
+        → bind (configurationItem o .read tt 8 (drop 8 bs)) (λ c.
+        bind (events o .read tt (8 + containerSize o c) (drop (8 + containerSize o c) bs)) (three v c))
+        ≡ bind (bind (configurationItem o .read tt 8 (drop 8 bs)) pairs) (with-version v)
+    behind-header v =
+        bind-ext (configurationItem o .read tt 8 (drop 8 bs)) _ _ (λ c e. behind-configuration v c)
+        ∙ sym (bind-bind (configurationItem o .read tt 8 (drop 8 bs)) pairs (with-version v))
 
 -- ---- valid is what the items ask
 
@@ -76,8 +105,8 @@ from-test t c e = unless-zero t (suc c) (omega arith) e
 
 pub record-valid : (o : Order) (c : Context) (r : Record) → recordItem o .Ok c r → ValidRecord o c r
 record-valid o c r v = record {
-  kind-allowed = from-test (isKind c (r .kind)) 4 (v .head-ok);
-  place-allowed = from-test (isAllowed c (r .kind)) 8 (v .late-ok);
+  kind-allowed = from-test (isKind c (r .word)) 4 (v .head-ok);
+  place-allowed = from-test (isAllowed c (r .word)) 8 (v .late-ok);
   kind-fits = v .kind-word;
   length-fits = v .length-word;
   body-bytes = v .body-ok .0;
@@ -86,8 +115,8 @@ record-valid o c r v = record {
 
 pub record-ok : (o : Order) (c : Context) (r : Record) → ValidRecord o c r → recordItem o .Ok c r
 record-ok o c r v = record {
-  head-ok = unless-holds (isKind c (r .kind)) 5 (v .kind-allowed);
-  late-ok = unless-holds (isAllowed c (r .kind)) 9 (v .place-allowed);
+  head-ok = unless-holds (isKind c (r .word)) 5 (v .kind-allowed);
+  late-ok = unless-holds (isAllowed c (r .word)) 9 (v .place-allowed);
   kind-word = v .kind-fits;
   length-word = v .length-fits;
   body-ok = (v .body-bytes, v .body-rule);
@@ -95,11 +124,11 @@ record-ok o c r v = record {
 
 pub records-valid : (o : Order) (c : Context) (rs : List Record) → Oks (recordItem o) c rs → ValidRecords o c rs
 records-valid o c [] v = tt
-records-valid o c (r ∷ rs) v = (record-valid o c r (v .0), records-valid o (recordStep c r) rs (v .1))
+records-valid o c (r ∷ rs) v = (record-valid o c r (v .0), records-valid o (nextContext c r) rs (v .1))
 
 pub records-ok : (o : Order) (c : Context) (rs : List Record) → ValidRecords o c rs → Oks (recordItem o) c rs
 records-ok o c [] v = tt
-records-ok o c (r ∷ rs) v = (record-ok o c r (v .0), records-ok o (recordStep c r) rs (v .1))
+records-ok o c (r ∷ rs) v = (record-ok o c r (v .0), records-ok o (nextContext c r) rs (v .1))
 
 pub event-valid : (o : Order) (e : Container) → eventItem o .Ok tt e → ValidEvent o e
 event-valid o e v = record {
@@ -107,7 +136,7 @@ event-valid o e v = record {
   word-fits = v .kind-word;
   not-empty = most-passed 1 (length (records o .enc (e .body))) 8 (v .late-ok);
   length-fits = v .length-word;
-  records-valid = records-valid o (event none) (e .body) (v .body-ok);
+  records-valid = records-valid o (event unseen) (e .body) (v .body-ok);
 }
 
 event-ok : (o : Order) (e : Container) → ValidEvent o e → eventItem o .Ok tt e
@@ -116,7 +145,7 @@ event-ok o e v = record {
   late-ok = most-passes 9 (v .not-empty);
   kind-word = v .word-fits;
   length-word = v .length-fits;
-  body-ok = records-ok o (event none) (e .body) (v .records-valid);
+  body-ok = records-ok o (event unseen) (e .body) (v .records-valid);
 }
 
 pub events-valid : (o : Order) (es : List Container) → Oks (eventItem o) tt es → ValidEvents o es

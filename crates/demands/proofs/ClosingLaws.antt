@@ -15,25 +15,26 @@ use Rattle.theory.specs.Structures.{readStructure}
 use Rattle.theory.proofs.WordLaws.{Bytes-part, length-puts}
 use Rattle.theory.proofs.TestLaws.{need-ok, bind-ok, ok-inj, most-passed, most-passes}
 use Rattle.note.specs.Limits.{fileLimit}
-use Rattle.note.specs.Records.{Record, Context, entry, event, none, recordsBytes, readRecord, readRecords}
-use Rattle.note.specs.Events.{Container, containerBytes, eventWord, eventFault, eventHead, eventLate, readEvent}
-use Rattle.note.specs.Files.{configurationWord, configurationHead, configurationLate, readConfiguration}
-use Rattle.note.specs.Writers.{written, contentsOf, ended, within, closingBytes}
+use Rattle.note.specs.Records.{Record, Context, entry, event, unseen, recordsBytes, readRecord, readRecords}
+use Rattle.note.specs.Events.{Container, containerBytes, eventWord, eventFault, eventWordRule, eventLate, readEvent}
+use Rattle.note.specs.Files.{configurationWord, configurationRule, configurationLate, readConfiguration}
+use Rattle.note.specs.Writers.{outputAfter, contentsOf, endGiven, within, closingBytes}
 use Rattle.note.specs.Writers.{configurationClosed, configurationOutput, eventClosed, eventOutput}
 use Rattle.note.proofs.ContainerFieldLaws.{event-word-fits, event-word-admitted}
 use Rattle.demands.specs.Outputs.{Laid, HasRoom, Closed}
 use Rattle.demands.proofs.Bundles.{records, box, same-records}
 use Rattle.demands.proofs.RowLaws.{container-size}
 use Rattle.demands.proofs.OutputLaws.{structure-apart, laid-from, put-laid, refusal-keeps}
+use Rattle.note.specs.Faults.{tooShort}
 
 -- ---- any container
 
-module _ (o : Order) (head : Unit {0} → ℕ → ℕ) (late : Unit {0} → ℕ → ℕ → ℕ) (c : Context) where
+module _ (o : Order) (head : ℕ → ℕ) (late : ℕ → ℕ → ℕ) (c : Context) where
   -- The container's reader, its tests of its own words being these and its records read in the context c.
-  abbrev pub reader : Unit {0} → ℕ → List ℕ → Res Container
-  reader = readStructure o head late (λ s at bs. readRecords o c (at + 8) bs)
+  abbrev pub reader : ℕ → List ℕ → Res Container
+  reader = readStructure o tooShort head late (λ w at bs. readRecords o c (at + 8) bs)
 
-  same-box : (s : Unit {0}) (at : ℕ) (bs : List ℕ) → reader s at bs ≡ box o head late c .read s at bs
+  same-box : (s : Unit {0}) (at : ℕ) (bs : List ℕ) → reader at bs ≡ box o head late c .read s at bs
   unfolding readRecords readRecord
   same-box s at bs = refl
 
@@ -41,8 +42,8 @@ module _ (o : Order) (head : Unit {0} → ℕ → ℕ) (late : Unit {0} → ℕ 
   pub record Checked (out : List ℕ) (place end next word : ℕ) : Type 0 where
     pub room : HasRoom (length out) place end
     pub fits : Fits 4 word
-    pub head-ok : head tt word ≡ 0
-    pub late-ok : late tt word (end - (place + 8)) ≡ 0
+    pub head-ok : head word ≡ 0
+    pub late-ok : late word (end - (place + 8)) ≡ 0
     pub read : List Record
     pub contents : readRecords o c (place + 8) (contentsOf out place end) ≡ ok read
     pub is : end ≡ next
@@ -62,10 +63,10 @@ module _ (o : Order) (head : Unit {0} → ℕ → ℕ) (late : Unit {0} → ℕ 
     size : length (recordsBytes o (k .read)) ≡ end - (place + 8)
     size = sym (ap length (inner .0)) ∙ inner-size
 
-    pub container-ok : box o head late c .Ok tt (record { kind = word; body = k .read })
+    pub container-ok : box o head late c .Ok tt (record { word = word; body = k .read })
     container-ok = record {
       head-ok = k .head-ok;
-      late-ok = ap (late tt word) size ∙ k .late-ok;
+      late-ok = ap (late word) size ∙ k .late-ok;
       kind-word = k .fits;
       length-word = omega (arith, size, k .room);
       body-ok = inner .1;
@@ -80,14 +81,14 @@ module _ (o : Order) (head : Unit {0} → ℕ → ℕ) (late : Unit {0} → ℕ 
     eight-size = length-puts o 4 (word ∷ (end - (place + 8)) ∷ [])
 
     new : List ℕ
-    new = written (ok next) out place eight
+    new = outputAfter (ok next) out place eight
 
     eight-laid : Laid out new place (place + length eight) eight
     unfolding new
     eight-laid = put-laid out eight place next (omega (arith, eight-size, k .room))
 
     whole : Container
-    whole = record { kind = word; body = k .read }
+    whole = record { word = word; body = k .read }
 
     new-from : drop place new ≡ containerBytes o whole ++ drop end out
     unfolding eight whole puts
@@ -112,8 +113,8 @@ module _ (o : Order) (head : Unit {0} → ℕ → ℕ) (late : Unit {0} → ℕ 
     unfolding whole
     whole-size = omega (arith, container-size o whole, size, k .room)
 
-    pub container-laid : Laid out (written (ok next) out place (closingBytes o word place end)) place end
-        (containerBytes o (record { kind = word; body = k .read }))
+    pub container-laid : Laid out (outputAfter (ok next) out place (closingBytes o word place end)) place end
+        (containerBytes o (record { word = word; body = k .read }))
     unfolding eight new whole
     container-laid =
         let rest : List ℕ = drop end out in
@@ -131,7 +132,7 @@ module _ (o : Order) (head : Unit {0} → ℕ → ℕ) (late : Unit {0} → ℕ 
         }
 
     -- So a closing that has checked all this leaves a closed container.
-    closes : Closed o reader c out (written (ok next) out place (closingBytes o word place end)) place end next word
+    closes : Closed o reader c out (outputAfter (ok next) out place (closingBytes o word place end)) place end next word
     unfolding eight new whole
     closes =
         let all : List ℕ = containerBytes o whole in
@@ -151,7 +152,7 @@ module _ (o : Order) (head : Unit {0} → ℕ → ℕ) (late : Unit {0} → ℕ 
 
 -- ---- the two kinds of container
 
--- 13 is "place or end past the output, an end below place plus 8": what is known where neither 1 nor 13 was given.
+-- What is known where neither 1 nor 13 was given: place and end lie in the output, and eight bytes between them (FORMAT 9.4).
 pub within-ok : (n place end : ℕ) (r : Res ℕ) (next : ℕ) → within n place end r ≡ ok next → HasRoom n place end × (r ≡ ok next)
 within-ok n place end r next e =
     let (l, e1) = need-ok (unless (leb n fileLimit) 1) 0 _ e in
@@ -166,7 +167,7 @@ within-grants n place end r (wide, inside, limit) =
     let low : place ≤ n = omega arith in
     rw (most-passes 1 limit, most-passes 13 low, most-passes 13 inside, most-passes 13 wide)
 
-ended-ok : (end next : ℕ) (r : Res (List Record)) → ended end r ≡ ok next → (rs : List Record) × (r ≡ ok rs) × (end ≡ next)
+ended-ok : (end next : ℕ) (r : Res (List Record)) → endGiven end r ≡ ok next → (rs : List Record) × (r ≡ ok rs) × (end ≡ next)
 ended-ok end next r e = let (rs, is, q) = bind-ok r (λ rs. ok end) e in (rs, is, ok-inj q)
 
 -- The contents of an output of bytes are bytes.
@@ -176,7 +177,7 @@ contents-bytes out place end h = Bytes-part (end - (place + 8)) (place + 8) out 
 -- A configuration.
 module _ (o : Order) (out : List ℕ) (place end : ℕ) where
   pub configuration-checked : (next : ℕ) → configurationClosed o out place end ≡ ok next
-      → Checked o configurationHead configurationLate entry out place end next configurationWord
+      → Checked o configurationRule configurationLate entry out place end next configurationWord
   unfolding configurationClosed
   configuration-checked next e =
       let (room, q) = within-ok (length out) place end _ next e in
@@ -184,16 +185,16 @@ module _ (o : Order) (out : List ℕ) (place end : ℕ) where
       record { room = room; fits = omega arith; head-ok = refl; late-ok = refl; read = rs; contents = read; is = is }
 
   -- And what a closing asks is no more.
-  pub configuration-grants : Checked o configurationHead configurationLate entry out place end end configurationWord
+  pub configuration-grants : Checked o configurationRule configurationLate entry out place end end configurationWord
       → configurationClosed o out place end ≡ ok end
   unfolding configurationClosed
-  configuration-grants k = within-grants (length out) place end _ (k .room) ∙ ap (ended end) (k .contents)
+  configuration-grants k = within-grants (length out) place end _ (k .room) ∙ ap (endGiven end) (k .contents)
 
   pub configuration-closes : (next : ℕ) → Bytes out → configurationClosed o out place end ≡ ok next
       → Closed o (readConfiguration o) entry out (configurationOutput o out place end) place end next configurationWord
   unfolding readConfiguration configurationOutput
   configuration-closes next h e =
-      rw e (closes o configurationHead configurationLate entry out place end next configurationWord
+      rw e (closes o configurationRule configurationLate entry out place end next configurationWord
       (configuration-checked next e) (contents-bytes out place end h))
 
   -- A refusal leaves the output as it was.
@@ -210,19 +211,18 @@ module _ (o : Order) (out : List ℕ) (place end class category type : ℕ) wher
   abbrev firstWord : ℕ
   firstWord = eventWord class category type
 
-  pub event-checked : (next : ℕ) → closedEvent ≡ ok next → Checked o eventHead eventLate (event none) out place end next firstWord
+  pub event-checked : (next : ℕ) → closedEvent ≡ ok next → Checked o eventWordRule eventLate (event unseen) out place end next firstWord
   unfolding eventClosed
   event-checked next e =
       let (room, q) = within-ok (length out) place end _ next e in
       let (fault, q1) = need-ok (eventFault class category type) place _ q in
-      let (some, q2) = need-ok (unless (leb (place + 9) end) 9) place _ q1 in
+      let (some, q2) = need-ok (eventLate firstWord (end - (place + 8))) place _ q1 in
       let (rs, read, is) = ended-ok end next _ q2 in
-      let least : 1 ≤ end - (place + 8) = omega (arith, most-passed (place + 9) end 8 some) in
       record {
         room = room;
         fits = event-word-fits class category type fault;
         head-ok = event-word-admitted class category type fault;
-        late-ok = most-passes 9 least;
+        late-ok = some;
         read = rs;
         contents = read;
         is = is;
@@ -233,18 +233,17 @@ module _ (o : Order) (out : List ℕ) (place end class category type : ℕ) wher
   event-faultless next e = need-ok (eventFault class category type) place _ (within-ok (length out) place end _ next e .1) .0
 
   -- And what a closing asks is no more than that and a class, category and type without fault.
-  pub event-grants : eventFault class category type ≡ 0 → Checked o eventHead eventLate (event none) out place end end firstWord
+  pub event-grants : eventFault class category type ≡ 0 → Checked o eventWordRule eventLate (event unseen) out place end end firstWord
       → closedEvent ≡ ok end
   unfolding eventClosed
   event-grants fault k =
-      let some : place + 9 ≤ end = omega (arith, most-passed 1 (end - (place + 8)) 8 (k .late-ok)) in
-      within-grants (length out) place end _ (k .room) ∙ rw (fault, most-passes 9 some) (ap (ended end) (k .contents))
+      within-grants (length out) place end _ (k .room) ∙ rw (fault, k .late-ok) (ap (endGiven end) (k .contents))
 
   pub event-closes : (next : ℕ) → Bytes out → eventClosed o out place end class category type ≡ ok next
-      → Closed o (readEvent o) (event none) out (eventOutput o out place end class category type) place end next (eventWord class category type)
+      → Closed o (readEvent o) (event unseen) out (eventOutput o out place end class category type) place end next (eventWord class category type)
   unfolding readEvent eventOutput
   event-closes next h e =
-      rw e (closes o eventHead eventLate (event none) out place end next firstWord (event-checked next e) (contents-bytes out place end h))
+      rw e (closes o eventWordRule eventLate (event unseen) out place end next firstWord (event-checked next e) (contents-bytes out place end h))
 
   -- A refusal leaves the output as it was.
   pub event-refused : (c p : ℕ) → eventClosed o out place end class category type ≡ bad c p

@@ -19,7 +19,7 @@ use Rattle.theory.proofs.StructureLaws.{second-word}
 use Rattle.theory.proofs.LayoutLaws.{length-childRows, rowCount-append, box-counted}
 use Rattle.note.specs.Limits.{fileLimit}
 use Rattle.note.specs.Words.{word}
-use Rattle.note.specs.Records.{Record, Context, entry, event, none as nothing, alone, isKind, behind, kindOf, recordBytes, recordSize, recordsBytes}
+use Rattle.note.specs.Records.{Record, Context, entry, event, unseen, alone, isKind, behind, kindOf, recordBytes, recordSize, recordsBytes}
 use Rattle.note.specs.Events.{Container, containerBytes, eventsBytes}
 use Rattle.note.specs.Files.{File, orderIn, versionOf, configurationOf, eventsOf, fileMark, headerBytes, readFile}
 use Rattle.note.specs.Rows.{childOf, childrenOf, eventNode, nodesOf, rowsOf, isBox}
@@ -41,17 +41,17 @@ use Rattle.demands.proofs.PieceLaws.{shown}
 
 -- The two words of a structure that stands behind `before`.
 structure-words : (o : Order) {B : Type 0} (bodyBytes : B → List ℕ) (bs before rest : List ℕ) (c : Structure B)
-    → Fits 4 (c .kind) → Fits 4 (length (bodyBytes (c .body))) → bs ≡ before ++ (structureBytes o bodyBytes c ++ rest)
-    → (word o (length before) bs ≡ c .kind) × (word o (length before + 4) bs ≡ length (bodyBytes (c .body)))
+    → Fits 4 (c .word) → Fits 4 (length (bodyBytes (c .body))) → bs ≡ before ++ (structureBytes o bodyBytes c ++ rest)
+    → (word o (length before) bs ≡ c .word) × (word o (length before + 4) bs ≡ length (bodyBytes (c .body)))
 structure-words o bodyBytes bs before rest c kind-fits length-fits e =
     let later : List ℕ = bodyBytes (c .body) ++ rest in
     let n : List ℕ = put o 4 (length (bodyBytes (c .body))) in
-    let apart : bs ≡ before ++ (put o 4 (c .kind) ++ (n ++ later)) = e ∙ ap (λ (x : List ℕ). before ++ x) (structure-apart o bodyBytes c rest) in
+    let apart : bs ≡ before ++ (put o 4 (c .word) ++ (n ++ later)) = e ∙ ap (λ (x : List ℕ). before ++ x) (structure-apart o bodyBytes c rest) in
     let start : length before ≡ length before + 0 = omega arith in (
       ap (λ (p : ℕ). word o p bs) start ∙ ap (word o (length before + 0)) apart
-          ∙ word-past o 4 0 before (put o 4 (c .kind) ++ (n ++ later)) ∙ word-after-put o 4 (c .kind) (n ++ later) kind-fits,
+          ∙ word-past o 4 0 before (put o 4 (c .word) ++ (n ++ later)) ∙ word-after-put o 4 (c .word) (n ++ later) kind-fits,
       ap (word o (length before + 4)) apart
-          ∙ word-past o 4 4 before (put o 4 (c .kind) ++ (n ++ later)) ∙ second-word o (c .kind) _ later length-fits,
+          ∙ word-past o 4 4 before (put o 4 (c .word) ++ (n ++ later)) ∙ second-word o (c .word) _ later length-fits,
     )
 
 -- The row of a valid record that Record finds at the place `at`.
@@ -59,7 +59,7 @@ record-row : (o : Order) (c : Context) (bs : List ℕ) (p at : ℕ) (r : Record)
     → word o (at + 4) bs ≡ length (r .body) → PieceRow o bs (childRow p at (childOf o r))
 unfolding childOf recordAt
 record-row o c bs p at r v e long =
-    let s = shown o at (r .body) (v .body-bytes) (r .kind) (v .body-rule) in
+    let s = shown o at (r .body) (v .body-bytes) (r .word) (v .body-rule) in
     record {
       fields = s .fields;
       found = e ∙ ap (λ (x : Record). ok x) (sym (s .made));
@@ -121,21 +121,21 @@ module _ (o : Order) (bs : List ℕ) (limit : length bs ≤ fileLimit) (all : Li
         record {
           header = λ z. absurd (omega arith);
           configuration = λ z. absurd (omega arith);
-          event = λ z k. absurd (false≢true (sym (child-kind (r .kind)) ∙ ap isBox k));
+          event = λ z k. absurd (false≢true (sym (child-kind (r .word)) ∙ ap isBox k));
           piece = λ z d. record-row o c bs p at r (v .0) found long;
         },
-        reads-children (behind c (r .kind)) (suc n) p (at + recordSize r) rs (before ++ recordBytes o r) rest (omega arith) (v .1)
+        reads-children (behind c (r .word)) (suc n) p (at + recordSize r) rs (before ++ recordBytes o r) rest (omega arith) (v .1)
             (shape ∙ sym (append-assoc before (recordBytes o r) later)) size,
       )
 
   -- a container's own row and its children's
   reads-box : (c : Context) (n i at : ℕ) (e : Container) (before rest : List ℕ) (own : Row) → 1 ≤ n → own .start ≡ at → RowRead o bs all n own
-      → Fits 4 (e .kind) → isKind alone (e .kind) ≡ false → ValidRecords o c (e .body)
+      → Fits 4 (e .word) → isKind alone (e .word) ≡ false → ValidRecords o c (e .body)
       → bs ≡ before ++ (containerBytes o e ++ rest) → at ≡ length before
       → Reads o bs all n (own ∷ recordRows o i (at + 8) (e .body)) (containerRecords e)
   reads-box c n i at e before rest own l os says f k v eq ea =
-      let two : List ℕ = front o (e .kind) (length (recordsBytes o (e .body))) in
-      let eight : length two ≡ 8 = length-front o (e .kind) (length (recordsBytes o (e .body))) in
+      let two : List ℕ = front o (e .word) (length (recordsBytes o (e .body))) in
+      let eight : length two ≡ 8 = length-front o (e .word) (length (recordsBytes o (e .body))) in
       let inner : bs ≡ (before ++ two) ++ (recordsBytes o (e .body) ++ rest) = eq ∙ simp append-assoc in (
         subst (λ (m : ℕ). recordFound o bs m ≡ bad 5 m) (sym (os ∙ ea))
             (found-from o bs before (containerBytes o e ++ rest) (bad 5 (length before)) limit eq (reads-container o (length before) e rest f k)),
@@ -153,10 +153,10 @@ module _ (o : Order) (bs : List ℕ) (limit : length bs ≤ fileLimit) (all : Li
       let own : Row = eventRow o at x in
       let node : Node = eventNode o x in
       let kids : List Row = recordRows o i (at + 8) (x .body) in
-      let mark = event-mark (x .kind) (v .0 .word-rule) in
+      let mark = event-mark (x .word) (v .0 .word-rule) in
       let size : 8 + total (childrenOf o (x .body)) ≡ length (containerBytes o x) = omega (arith, children-total o (x .body), container-size o x) in
       let (first, second) = structure-words o (recordsBytes o) bs before (eventsBytes o es) x (v .0 .word-fits) (v .0 .length-fits) e in
-      let first-at : word o at bs ≡ x .kind = ap (λ (p : ℕ). word o p bs) ea ∙ first in
+      let first-at : word o at bs ≡ x .word = ap (λ (p : ℕ). word o p bs) ea ∙ first in
       let second-at : word o (at + 4) bs ≡ length (recordsBytes o (x .body)) = ap (λ (p : ℕ). word o (p + 4) bs) ea ∙ second in
       let counted : childCount (suc n) all ≡ length (x .body) =
       ap (λ (m : ℕ). childCount (suc m) all) en
@@ -176,7 +176,7 @@ module _ (o : Order) (bs : List ℕ) (limit : length bs ≤ fileLimit) (all : Li
       } in
       reads-append o bs all n (n + suc (length kids)) (own ∷ kids) (eventRows o (nextRow o i x) (nextPlace o at x) es)
       (containerRecords x) (eventsRecords es) refl
-      (reads-box (event nothing) n i at x before (eventsBytes o es) own (omega arith) refl says (v .0 .word-fits) (no-kind (x .kind) mark)
+      (reads-box (event unseen) n i at x before (eventsBytes o es) own (omega arith) refl says (v .0 .word-fits) (no-kind (x .word) mark)
       (v .0 .records-valid) e ea)
       (reads-events (passed ++ node ∷ []) (n + suc (length kids)) (nextRow o i x) (nextPlace o at x) es (before ++ containerBytes o x)
       (omega arith) (omega (arith, rowCount-append passed (node ∷ []), length-childRows i (at + 8) (childrenOf o (x .body))))
@@ -202,8 +202,8 @@ module _ (bs : List ℕ) (f : File) (h : Bytes bs) (e : readFile bs ≡ ok f) wh
       let version : List ℕ = put o 4 (versionOf f) in
       let later : List ℕ = containerBytes o c ++ eventsBytes o es in
       let header : 8 ≡ length top = headerItem o .sizes (versionOf f) in
-      let fitting : Fits 4 (c .kind) = rw (v .configuration-word) (omega arith) in
-      let none-such : isKind alone (c .kind) ≡ false = rw (v .configuration-word) no-configuration in
+      let fitting : Fits 4 (c .word) = rw (v .configuration-word) (omega arith) in
+      let none-such : isKind alone (c .word) ≡ false = rw (v .configuration-word) no-configuration in
       let size : nextPlace o 8 c ≡ length (top ++ containerBytes o c) =
       omega (arith, length-append top (containerBytes o c), children-total o (c .body), container-size o c) in
       let apart : bs ≡ put o 4 fileMark ++ (version ++ later) = eb ∙ append-assoc (put o 4 fileMark) version later in
@@ -258,8 +258,8 @@ module _ (bs : List ℕ) (f : File) (h : Bytes bs) (e : readFile bs ≡ ok f) wh
       let (found, says) = reads-at o bs (rowsOf f) 0 (rowsOf f) (rowRecords f) reads-rows j l in
       (found, subst (λ (m : ℕ). RowRead o bs (rowsOf f) m (row (rowsOf f) j)) e says)
 
-  -- Demand 2, of rows and fields: kind, start, whole length and both values of row j are those of what stands there.
-  pub rows-read : (j : ℕ) → j < length (rowsOf f) → RowRead o bs (rowsOf f) j (row (rowsOf f) j)
+  -- Rows and fields (FORMAT 7.2): kind, start, whole length and both values of row j are those of what stands there.
+  pub rows-read : (j : ℕ) → j < length (rowsOf f) → RowRead (orderIn f) bs (rowsOf f) j (row (rowsOf f) j)
   rows-read j l = row-reads j l .1
 
   -- The record that Record finds at the start of row j, or 5.

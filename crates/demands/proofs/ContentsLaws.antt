@@ -11,9 +11,9 @@ use Rattle.theory.specs.declared.Order.{Order}
 use Rattle.theory.specs.Words.{Bytes}
 use Rattle.theory.specs.Tests.{ok, bad}
 use Rattle.theory.proofs.Items.{steps, seq-refused, seq-refuses}
-use Rattle.note.specs.Records.{Record, Context, entry, event, none, recordsBytes, readRecord, readRecords}
-use Rattle.note.specs.Events.{eventHead, eventLate, readEvent}
-use Rattle.note.specs.Files.{configurationHead, configurationLate, readConfiguration}
+use Rattle.note.specs.Records.{Record, Context, entry, event, unseen, recordsBytes, readRecord, readRecords}
+use Rattle.note.specs.Events.{eventWordRule, eventLate, readEvent}
+use Rattle.note.specs.Files.{configurationRule, configurationLate, readConfiguration}
 use Rattle.demands.specs.Valid.{ValidRecords}
 use Rattle.demands.specs.FirstFault.{past, Itself}
 use Rattle.demands.specs.Contents.{ContentsFault}
@@ -67,11 +67,11 @@ module _ (o : Order) (c : Context) (at : ℕ) (bs : List ℕ) (h : Bytes bs) whe
           (records-ok o c xs (f .valid)) (f .left) there)
 
 -- A container at fault itself is refused so by its reader.
-pub event-itself : (o : Order) (part : List ℕ) (c p : ℕ) → Itself o eventHead eventLate part c p → readEvent o tt p part ≡ bad c p
+pub event-itself : (o : Order) (part : List ℕ) (c p : ℕ) → Itself o eventWordRule eventLate part c p → readEvent o p part ≡ bad c p
 unfolding readEvent
-event-itself o part c p own = own (λ s at bs. readRecords o (event none) (at + 8) bs)
+event-itself o part c p own = own (λ s at bs. readRecords o (event unseen) (at + 8) bs)
 
-pub configuration-itself : (o : Order) (part : List ℕ) (c p : ℕ) → Itself o configurationHead configurationLate part c p
-    → readConfiguration o tt p part ≡ bad c p
+pub configuration-itself : (o : Order) (part : List ℕ) (c p : ℕ) → Itself o configurationRule configurationLate part c p
+    → readConfiguration o p part ≡ bad c p
 unfolding readConfiguration
 configuration-itself o part c p own = own (λ s at bs. readRecords o entry (at + 8) bs)

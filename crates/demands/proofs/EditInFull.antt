@@ -1,4 +1,4 @@
--- Demand 3 as it is worded: an accepted file, a trace's row, a byte inside its samples.
+-- The edit, said of what a reader has: an accepted file, a trace's row, a byte inside its samples.
 -- The idea: the row gives the trace's spot (SpotLaws), the spot gives the edit (EditLaws), and the places agree.
 use mathlib.Core.Path.{_≡_, refl, sym, ap, _∙_, subst}
 use mathlib.Core.Logic.{_≢_}
@@ -52,10 +52,10 @@ module _ {o : Order} {bs : List ℕ} {v : ℕ} {c : Container} {p : Spot} {t : R
       let two : ℕ → ℕ = λ z. pair o bs (start + 56) (byteAt o z / 2 + 1) in
       let place : start + 56 + (m - 48) ≡ i d = omega (arith, d .start, d .from) in
       record {
-        before =
+        was =
             subst (λ (z : ℕ). sampleAt o bs start (byteAt o z / 2 + 1) ≡ accepted (counts (two z ∷ []))) (sym same-offset)
             (held-before d j (d .below) refl);
-        after =
+        becomes =
             subst (λ (z : ℕ). sampleAt o bs′ start (byteAt o z / 2 + 1) ≡ accepted (counts (replaced (byteAt o z) x (two z) ∷ []))) (sym same-offset)
             (held-after d j (d .below) refl);
         differs = λ differs.
@@ -106,7 +106,7 @@ module _ {o : Order} {bs : List ℕ} {v : ℕ} {c : Container} {p : Spot} {t : R
     other-bytes-stay = λ q other. getD-set-other bs (i d) q x 0 other;
   }
 
--- Demand 3: in an accepted file, a byte from the 57th of a trace's row to its last, changed to any byte.
+-- In an accepted file, a byte from the 57th of a trace's row to its last, changed to any byte.
 pub edit-in-full : (bs : List ℕ) (f : File) → Bytes bs → readFile bs ≡ ok f
     → (j : ℕ) → j < length (rowsOf f) → row (rowsOf f) j .kind ≡ 7
     → (i x : ℕ) → startOf f j + 56 ≤ i → i < startOf f j + row (rowsOf f) j .whole → x < 256 → Edited (orderIn f) bs f j i x

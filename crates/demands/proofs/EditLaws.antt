@@ -1,4 +1,4 @@
--- Demand 3's last part: one byte changed inside a trace's samples, in full.
+-- One byte changed inside a trace's samples: what the file is then, row by row and call by call.
 -- The idea: the theory's law of a free byte gives the new file; the rows and the records beside them differ in one record alone, whose
 -- rule, row and fields are blind to the byte; so what each call reads at a row can differ at that record's one sample only.
 use mathlib.Core.Path.{_≡_, refl, sym, ap, ap₂, _∙_, subst}
@@ -23,8 +23,8 @@ use Rattle.note.specs.Limits.{fileLimit}
 use Rattle.note.specs.Words.{word, byteAt}
 use Rattle.note.specs.Answers.{Given, accepted, refused, counts}
 use Rattle.note.specs.Trace.{traceKind, traceOf, traceRule, sampleIn}
-use Rattle.note.specs.Records.{Record, event, none as nothing, recordHead, recordLate, recordRule, recordStep, recordSize, recordsBytes, kindOf}
-use Rattle.note.specs.Events.{Container, containerBytes, containerSize, eventHead, eventLate, eventStep, eventsBytes}
+use Rattle.note.specs.Records.{Record, event, unseen, recordHead, recordLate, recordRule, nextContext, recordSize, recordsBytes, kindOf}
+use Rattle.note.specs.Events.{Container, containerBytes, containerSize, eventWordRule, eventLate, eventsBytes}
 use Rattle.note.specs.Files.{File, orderIn, configurationOf, headerBytes, fileBytes, readFile}
 use Rattle.note.specs.Rows.{childOf, childrenOf, eventNode, nodesOf, rowsOf}
 use Rattle.note.specs.Calls.{recordFound, recordAt, settingAt, samplesPart, samplesAt, sampleAt}
@@ -39,6 +39,9 @@ use Rattle.demands.proofs.RowLaws.{container-size}
 use Rattle.demands.proofs.ContentLaws.{record-at-row}
 use Rattle.demands.proofs.PartLaws.{byte-found, samples-given}
 use Rattle.demands.proofs.SpotLaws.{recordsBefore, recordsAfter, placeOf, records-split}
+use Rattle.note.specs.Faults.{tooShort}
+use Rattle.note.proofs.FaultLaws.{short-some}
+use Rattle.theory.proofs.StructureLaws.{stateless}
 
 -- ---- one record among the rows' records
 
@@ -126,7 +129,7 @@ pub record Edit (bs : List ℕ) (f : File) (p : Spot) (t : Record) (j m x : ℕ)
   pub here : j ≡ length (recordsBefore (configurationOf f) p)
   pub start : startOf f j ≡ placeOf (orderIn f) (configurationOf f) p
   pub whole : row (rowsOf f) j .whole ≡ recordSize t
-  pub kind : t .kind ≡ traceKind .word
+  pub kind : t .word ≡ traceKind .word
   pub from : 48 ≤ m
   pub inside : m < length (t .body)
   pub byte : x < 256
@@ -151,17 +154,19 @@ module _ {o : Order} {bs : List ℕ} {v : ℕ} {c : Container} {p : Spot} {t : R
   bs′ = set bs i x
 
   -- The trace's rule doesn't look at the byte, so that the byte is free.
-  rule-blind : recordRule o (t .kind) (set (t .body) m x) ≡ recordRule o (t .kind) (t .body)
+  rule-blind : recordRule o (t .word) (set (t .body) m x) ≡ recordRule o (t .word) (t .body)
   unfolding kindOf
   rule-blind = rw (d .kind) (trace-blind o (t .body) m x (d .from))
 
-  free : Free o recordHead recordLate (λ s. recordRule o (s .1)) recordStep eventHead eventLate (λ s. event nothing) eventStep tt p t m x
+  free : Free o tooShort short-some recordHead recordLate (λ s. recordRule o (s .1)) nextContext
+      (stateless eventWordRule) (stateless eventLate) (λ s. event unseen) (λ s e. s) tt p t m x
   free = record { inside-body = d .inside; byte = d .byte; rule-blind = rule-blind; step-blind = refl; box-blind = refl }
 
   -- The events are valid again.
   events-ok′ : Oks (eventItem o) tt (plug p t′)
   events-ok′ =
-      free-valid o recordHead recordLate (λ s. recordRule o (s .1)) recordStep eventHead eventLate (λ s. event nothing) eventStep
+      free-valid o tooShort short-some recordHead recordLate (λ s. recordRule o (s .1)) nextContext
+      (stateless eventWordRule) (stateless eventLate) (λ s. event unseen) (λ s e. s)
       tt p t m x free (parts-ok old (d .valid) .1 .1)
 
   -- the bytes
@@ -175,7 +180,8 @@ module _ {o : Order} {bs : List ℕ} {v : ℕ} {c : Container} {p : Spot} {t : R
       ap₂ (λ (s : List ℕ) (z : ℕ). set s z x) (sym (append-assoc (headerBytes o v) (containerBytes o c) (eventsBytes o (plug p t)))) at
       ∙ set-append-add front (eventsBytes o (plug p t)) q x
       ∙ ap (λ (s : List ℕ). front ++ s)
-      (free-bytes o recordHead recordLate (λ s. recordRule o (s .1)) recordStep eventHead eventLate (λ s. event nothing) eventStep
+      (free-bytes o tooShort short-some recordHead recordLate (λ s. recordRule o (s .1)) nextContext
+      (stateless eventWordRule) (stateless eventLate) (λ s. event unseen) (λ s e. s)
       tt p t m x free)
       ∙ append-assoc (headerBytes o v) (containerBytes o c) (eventsBytes o (plug p t′))
 
@@ -275,12 +281,12 @@ module _ {o : Order} {bs : List ℕ} {v : ℕ} {c : Container} {p : Spot} {t : R
       n = word o 44 (t .body)
 
       -- The trace is valid where it stands, so its rule gives the size of its samples.
-      is-valid : ValidRecord o (steps (recordItem o) (event nothing) (p .left)) t
+      is-valid : ValidRecord o (steps (recordItem o) (event unseen) (p .left)) t
       is-valid =
           let oks : Oks (eventItem o) tt (plug p t) = parts-ok old (d .valid) .1 .1 in
           let (before, (box-ok, after)) = Oks-append (eventItem o) tt (p .before) (boxAt p t ∷ p .after) .0 oks in
-          record-valid o (steps (recordItem o) (event nothing) (p .left)) t
-          (Oks-append (recordItem o) (event nothing) (p .left) (t ∷ p .right) .0 (box-ok .body-ok) .1 .0)
+          record-valid o (steps (recordItem o) (event unseen) (p .left)) t
+          (Oks-append (recordItem o) (event unseen) (p .left) (t ∷ p .right) .0 (box-ok .body-ok) .1 .0)
 
       rule-passes : traceRule o (t .body) ≡ 0
       unfolding kindOf
@@ -299,6 +305,7 @@ module _ {o : Order} {bs : List ℕ} {v : ℕ} {c : Container} {p : Spot} {t : R
       sample-old q = rw (trace-old, d .kind)
 
       same-count : word o 44 (set (t .body) m x) ≡ word o 44 (t .body)
+      unfolding traceOf
       same-count = trace-row-blind o (t .body) m x (d .from) .1
 
       sample-new : (q : ℕ) → sampleAt o bs′ (at k) q ≡ given (leb 1 q) (leb q n) part′ q

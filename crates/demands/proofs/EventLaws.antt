@@ -6,13 +6,13 @@ use lib.Dec.{eqb}
 use borrow.Author.Tests.{eqb-true}
 use Rattle.theory.specs.declared.Order.{Order}
 use Rattle.note.specs.Administrative.{administrativeKind}
-use Rattle.note.specs.Records.{Record, event, none, isPlaced, isAllowed}
+use Rattle.note.specs.Records.{Record, event, unseen, isPlaced, isAllowed}
 use Rattle.demands.specs.Valid.{ValidRecord}
 
-pub first-administrative : (o : Order) (r : Record) → ValidRecord o (event none) r → r .kind ≡ administrativeKind .word
+pub first-administrative : (o : Order) (r : Record) → ValidRecord o (event unseen) r → r .word ≡ administrativeKind .word
 unfolding isAllowed isPlaced
-first-administrative o r v = go (eqb (r .kind) (administrativeKind .word)) refl (v .place-allowed)
+first-administrative o r v = go (eqb (r .word) (administrativeKind .word)) refl (v .place-allowed)
   where
-    go : (b : Bool) → eqb (r .kind) (administrativeKind .word) ≡ b → cond b true false ≡ true → r .kind ≡ administrativeKind .word
-    go true e q = eqb-true (r .kind) (administrativeKind .word) e
+    go : (b : Bool) → eqb (r .word) (administrativeKind .word) ≡ b → cond b true false ≡ true → r .word ≡ administrativeKind .word
+    go true e q = eqb-true (r .word) (administrativeKind .word) e
     go false e q = absurd (mathlib.Core.Bool.false≢true q)

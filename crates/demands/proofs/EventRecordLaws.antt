@@ -10,18 +10,19 @@ use lib.Dec.{eqb}
 use borrow.Author.Tests.{eqb-true, eqb-false, eq-eqb}
 use Rattle.theory.specs.declared.Order.{Order}
 use Rattle.note.specs.EventKinds.{IsEntryKind, IsRecordKind, occurs, MayFollow, StartsWith, EventKinds}
-use Rattle.note.specs.Records.{Record, Context, entry, event, alone, none, isKind, isAllowed, behind}
-use Rattle.note.proofs.PlaceLaws.{seenOf, one-more-seen, entry-kinds-exact, record-kinds-exact, all-kinds-exact, place-exact}
+use Rattle.note.specs.Records.{Record, Context, entry, event, alone, unseen, isKind, isAllowed, behind}
+use Rattle.note.specs.Readings.{seenAfter}
+use Rattle.note.proofs.PlaceLaws.{one-more-seen, entry-kinds-exact, record-kinds-exact, all-kinds-exact, place-exact}
 use Rattle.demands.specs.Valid.{ValidRecord, ValidRecords}
 use Rattle.demands.specs.EventRecords.{kindsOf, EachValid, EventRecords, ConfigurationEntries}
 
 -- ---- one record
 
 -- A record that is valid in a context is valid alone; and alone it needs only the context's two tests.
-by-itself : (o : Order) (c : Context) (r : Record) → IsEntryKind (r .kind) ⊎ IsRecordKind (r .kind) → ValidRecord o c r → ValidRecord o alone r
+by-itself : (o : Order) (c : Context) (r : Record) → IsEntryKind (r .word) ⊎ IsRecordKind (r .word) → ValidRecord o c r → ValidRecord o alone r
 unfolding isAllowed
 by-itself o c r k v = record {
-  kind-allowed = all-kinds-exact (r .kind) .1 k;
+  kind-allowed = all-kinds-exact (r .word) .1 k;
   place-allowed = refl;
   kind-fits = v .kind-fits;
   length-fits = v .length-fits;
@@ -29,7 +30,7 @@ by-itself o c r k v = record {
   body-rule = v .body-rule;
 }
 
-in-context : (o : Order) (c : Context) (r : Record) → isKind c (r .kind) ≡ true → isAllowed c (r .kind) ≡ true → ValidRecord o alone r
+in-context : (o : Order) (c : Context) (r : Record) → isKind c (r .word) ≡ true → isAllowed c (r .word) ≡ true → ValidRecord o alone r
     → ValidRecord o c r
 in-context o c r k p v = record {
   kind-allowed = k;
@@ -47,8 +48,8 @@ unfolding isAllowed behind
 configuration-entries-exact o [] = (λ v. tt, λ v. tt)
 configuration-entries-exact o (r ∷ rs) =
     let rest = configuration-entries-exact o rs in (
-      λ v. let k = entry-kinds-exact (r .kind) .0 (v .0 .kind-allowed) in ((k, by-itself o entry r (inl k) (v .0)), rest .0 (v .1)),
-      λ v. (in-context o entry r (entry-kinds-exact (r .kind) .1 (v .0 .0)) refl (v .0 .1), rest .1 (v .1)),
+      λ v. let k = entry-kinds-exact (r .word) .0 (v .0 .kind-allowed) in ((k, by-itself o entry r (inl k) (v .0)), rest .0 (v .1)),
+      λ v. (in-context o entry r (entry-kinds-exact (r .word) .1 (v .0 .0)) refl (v .0 .1), rest .1 (v .1)),
     )
 
 -- ---- records
@@ -59,20 +60,20 @@ Follow before [] = Unit {0}
 Follow before (k ∷ ks) = MayFollow before k × Follow (k ∷ before) ks
 
 follow-valid : (o : Order) (before : List ℕ) (rs : List Record)
-    → ValidRecords o (event (seenOf before)) rs ↔ (Follow before (kindsOf rs) × EachValid o IsRecordKind rs)
+    → ValidRecords o (event (seenAfter before)) rs ↔ (Follow before (kindsOf rs) × EachValid o IsRecordKind rs)
 unfolding behind
 follow-valid o before [] = (λ v. (tt, tt), λ v. tt)
 follow-valid o before (r ∷ rs) =
-    let c : Context = event (seenOf before) in
-    let rest : ValidRecords o (behind c (r .kind)) rs ↔ (Follow (r .kind ∷ before) (kindsOf rs) × EachValid o IsRecordKind rs) =
-    rw (one-more-seen before (r .kind)) (follow-valid o (r .kind ∷ before) rs) in (
+    let c : Context = event (seenAfter before) in
+    let rest : ValidRecords o (behind c (r .word)) rs ↔ (Follow (r .word ∷ before) (kindsOf rs) × EachValid o IsRecordKind rs) =
+    rw (one-more-seen before (r .word)) (follow-valid o (r .word ∷ before) rs) in (
       λ v.
-          let k = record-kinds-exact (seenOf before) (r .kind) .0 (v .0 .kind-allowed) in
+          let k = record-kinds-exact (seenAfter before) (r .word) .0 (v .0 .kind-allowed) in
           let (f, e) = rest .0 (v .1) in
-          ((place-exact before (r .kind) k .0 (v .0 .place-allowed), f), ((k, by-itself o c r (inr k) (v .0)), e)),
+          ((place-exact before (r .word) k .0 (v .0 .place-allowed), f), ((k, by-itself o c r (inr k) (v .0)), e)),
       λ h.
           let ((m, f), ((k, v), e)) = h in
-          (in-context o c r (record-kinds-exact (seenOf before) (r .kind) .1 k) (place-exact before (r .kind) k .1 m) v, rest .1 (f, e)),
+          (in-context o c r (record-kinds-exact (seenAfter before) (r .word) .1 k) (place-exact before (r .word) k .1 m) v, rest .1 (f, e)),
     )
 
 -- How often k occurs with one number more.
@@ -137,8 +138,8 @@ follow-exact ks = (
   λ e. counted-follow [] ks (λ z. e .first) (λ k d. let s = e .once k d in omega arith),
 )
 
--- "The first record is administrative (house). Every kind but trace occurs at most once in an event (house)": no more, and no less.
-pub event-records-exact : (o : Order) (rs : List Record) → ValidRecords o (event none) rs ↔ EventRecords o rs
+-- What an event asks of its records' kinds is what counting them says (FORMAT 6.2): no more, and no less.
+pub event-records-exact : (o : Order) (rs : List Record) → ValidRecords o (event unseen) rs ↔ EventRecords o rs
 event-records-exact o rs =
     let v = follow-valid o [] rs in
     let k = follow-exact (kindsOf rs) in (

@@ -17,24 +17,26 @@ use Rattle.theory.specs.Tests.{Res, ok, bad, need, bind, unless}
 use Rattle.theory.proofs.WordLaws.{Bytes-part, Bytes-right, length-put, word-fits}
 use Rattle.theory.proofs.TestLaws.{ok-bad, bad-inj, need-pass, equal-passed, most-passes, first-at}
 use Rattle.theory.proofs.Items.{steps, seq-refused, seq-refuses}
-use Rattle.theory.proofs.StructureLaws.{BodyFault, refused, structure-past, restore-two, inside, pair, pair-refused, pair-refuses, words-refused}
+use Rattle.theory.proofs.StructureLaws.{stateless, BodyFault, refused, structure-past, restore-two, inside, pair, pair-refused, pair-refuses, words-refused}
 use Rattle.note.specs.Limits.{fileLimit}
 use Rattle.note.specs.Words.{words}
-use Rattle.note.specs.Records.{Record, Context, entry, event, none, recordHead, recordLate, recordRule, recordStep, recordsBytes, readRecord}
-use Rattle.note.specs.Events.{Container, containerBytes, eventsBytes, eventMark, eventWordRule, eventHead, eventLate}
-use Rattle.note.specs.Files.{Parts, File, orderOf, orderIn, configurationWord, configurationHead, configurationLate, headerBytes, fileMark, versionRule}
+use Rattle.note.specs.Records.{Record, Context, entry, event, unseen, recordHead, recordLate, recordRule, nextContext, recordsBytes, readRecord}
+use Rattle.note.specs.Events.{Container, containerBytes, eventsBytes, eventMark, eventWordRule, eventLate}
+use Rattle.note.specs.Files.{Parts, File, orderOf, orderIn, configurationWord, configurationRule, configurationLate, headerBytes, fileMark, versionRule}
 use Rattle.note.specs.Files.{versionOf, configurationOf, eventsOf, fileBytes, readHeader, readParts, readFile}
 use Rattle.demands.specs.Valid.{ValidRecords, Valid}
 use Rattle.demands.specs.FirstFault.{Cut, ValidHeader, front, past, Itself}
-use Rattle.demands.specs.Refusals.{Refusal, too-long, within-limit}
+use Rattle.demands.specs.Refusals.{Refusal, too-large, within-limit}
 use Rattle.demands.specs.FirstFault.{FirstFault, at-header, at-configuration, at-entry, at-event, at-record}
 use Rattle.demands.proofs.Bundles.{recordBody, recordItem, records, box, configurationItem, eventItem, events, headerItem, parts}
 use Rattle.demands.proofs.Bundles.{same-record, same-parts, records-valid, records-ok}
 use Rattle.demands.proofs.Follows.{parts-valid, parts-ok, order-admitted, order-shown, accepted-means, read-within}
+use Rattle.note.specs.Faults.{tooShort, notAFile}
+use Rattle.note.proofs.FaultLaws.{short-some}
 
 -- A record's refusal is at its first byte.
 pub record-fault-here : (o : Order) (c : Context) (at : ℕ) (bs : List ℕ) (k p : ℕ) → recordItem o .read c at bs ≡ bad k p → p ≡ at
-record-fault-here o c at bs k p e = elim (refused o recordHead recordLate (recordBody o .read) c at bs k p e) [
+record-fault-here o c at bs k p e = elim (refused o tooShort short-some recordHead recordLate (recordBody o .read) c at bs k p e) [
   | inl own ↦ own .place
   | inr b ↦
       let body : List ℕ = take (wordAt o 4 4 bs) (drop 8 bs) in
@@ -48,7 +50,7 @@ record-fault-here o c at bs k p e = elim (refused o recordHead recordLate (recor
 -- The context behind records that were read is the definition's.
 pub steps-past : (o : Order) (c : Context) (rs : List Record) → steps (recordItem o) c rs ≡ past c rs
 steps-past o c [] = refl
-steps-past o c (r ∷ rs) = steps-past o (recordStep c r) rs
+steps-past o c (r ∷ rs) = steps-past o (nextContext c r) rs
 
 -- The two words in front of a container's contents are eight bytes.
 pub length-front : (o : Order) (w n : ℕ) → length (front o w n) ≡ 8
@@ -59,7 +61,7 @@ unfolding puts
 front-bytes o w n = ap (λ (r : List ℕ). put o 4 w ++ r) (sym (append-nil (put o 4 n)))
 
 -- A container of records that is refused: itself, or at one of its records, those before it being valid.
-module _ (o : Order) (head : Unit {0} → ℕ → ℕ) (late : Unit {0} → ℕ → ℕ → ℕ) (start : Context) where
+module _ (o : Order) (head : ℕ → ℕ) (late : ℕ → ℕ → ℕ) (start : Context) where
   pub record Within (at : ℕ) (bs : List ℕ) (c p : ℕ) : Type 0 where
     pub word : ℕ
     pub before : List Record
@@ -67,8 +69,8 @@ module _ (o : Order) (head : Unit {0} → ℕ → ℕ) (late : Unit {0} → ℕ 
     pub beyond : List ℕ
     pub word-fits : Fits 4 word
     pub length-fits : Fits 4 (length (recordsBytes o before ++ part))
-    pub head-ok : head tt word ≡ 0
-    pub late-ok : late tt word (length (recordsBytes o before ++ part)) ≡ 0
+    pub head-ok : head word ≡ 0
+    pub late-ok : late word (length (recordsBytes o before ++ part)) ≡ 0
     pub valid : ValidRecords o start before
     pub left : 1 ≤ length part
     pub splits : bs ≡ (front o word (length (recordsBytes o before ++ part)) ++ recordsBytes o before) ++ (part ++ beyond)
@@ -81,7 +83,8 @@ module _ (o : Order) (head : Unit {0} → ℕ → ℕ) (late : Unit {0} → ℕ 
 
   module _ (at : ℕ) (bs : List ℕ) (c p : ℕ) (h : Bytes bs) where
     -- A fault in the contents is at a record.
-    within : BodyFault o head late (inside (λ s. start) (records o) .read) tt at bs c p → Within at bs c p
+    within : BodyFault o tooShort short-some (stateless head) (stateless late) (inside (λ s. start) (records o) .read) tt at bs c p
+        → Within at bs c p
     within b =
         let k : ℕ = wordAt o 4 0 bs in
         let n : ℕ = wordAt o 4 4 bs in
@@ -104,7 +107,7 @@ module _ (o : Order) (head : Unit {0} → ℕ → ℕ) (late : Unit {0} → ℕ 
           word-fits = word-fits o 4 0 bs h (omega arith);
           length-fits = subst (Fits 4) filled (word-fits o 4 4 bs h (omega arith));
           head-ok = b .head-ok;
-          late-ok = subst (λ (m : ℕ). late tt k m ≡ 0) filled (b .late-ok);
+          late-ok = subst (λ (m : ℕ). late k m ≡ 0) filled (b .late-ok);
           valid = records-valid o start xs os;
           left = left;
           splits = sym (restore-two o bs h (omega arith))
@@ -119,14 +122,16 @@ module _ (o : Order) (head : Unit {0} → ℕ → ℕ) (late : Unit {0} → ℕ 
 
     -- A container that is refused has its fault in one of the two ways.
     pub container-refused : box o head late start .read tt at bs ≡ bad c p → ContainerFault at bs c p
-    container-refused e = elim (refused o head late (inside (λ s. start) (records o) .read) tt at bs c p e) [
-      | inl own ↦ inl (own .place, λ contents. own .whatever contents ∙ ap (λ (m : ℕ). bad c m) (own .place))
-      | inr b ↦ inr (within b)
-    ]
+    container-refused e =
+        elim (refused o tooShort short-some (stateless head) (stateless late) (inside (λ s. start) (records o) .read) tt at bs c p e) [
+          | inl own ↦ inl (own .place, λ contents. own .whatever (λ x. contents (x .1)) ∙ ap (λ (m : ℕ). bad c m) (own .place))
+          | inr b ↦ inr (within b)
+        ]
 
   -- And each of the two refuses the container.
   pub container-refuses : (at : ℕ) (bs : List ℕ) (c p : ℕ) → ContainerFault at bs c p → box o head late start .read tt at bs ≡ bad c p
-  container-refuses at bs c p (inl (here, own)) = own (inside (λ s. start) (records o) .read) ∙ ap (λ (m : ℕ). bad c m) (sym here)
+  container-refuses at bs c p (inl (here, own)) =
+      own (λ w. inside (λ (s : Unit {0} × ℕ). start) (records o) .read (tt, w)) ∙ ap (λ (m : ℕ). bad c m) (sym here)
   container-refuses at bs c p (inr w) =
       let xs : List Record = w .before in
       let content : List ℕ = recordsBytes o xs ++ w .part in
@@ -139,9 +144,9 @@ module _ (o : Order) (head : Unit {0} → ℕ → ℕ) (late : Unit {0} → ℕ 
       let body : records o .read start (at + 8) content ≡ bad c p =
       seq-refuses (recordItem o) (length content) start (at + 8) xs (w .part) c p (omega arith) (records-ok o start xs (w .valid)) (w .left) fault in
       ap (box o head late start .read tt at) shape
-      ∙ structure-past o head late (inside (λ s. start) (records o) .read) tt at (w .word) content (w .beyond)
+      ∙ structure-past o tooShort (stateless head) (stateless late) (inside (λ s. start) (records o) .read) tt at (w .word) content (w .beyond)
       (w .word-fits) (w .length-fits) (w .head-ok) (w .late-ok)
-      ∙ ap (λ (r : Res (List Record)). bind r (λ b. ok (record { kind = w .word; body = b }))) body
+      ∙ ap (λ (r : Res (List Record)). bind r (λ b. ok (record { word = w .word; body = b }))) body
 
   -- The same in a file, the container standing behind the bytes X: the cut at the record at fault.
   module _ (bs X : List ℕ) (c p : ℕ) where
@@ -169,7 +174,7 @@ module _ (o : Order) (head : Unit {0} → ℕ → ℕ) (late : Unit {0} → ℕ 
     }
 
     cut-within : (w : ℕ) (rs : List Record) (part beyond : List ℕ) → length bs ≤ fileLimit → Fits 4 w
-        → head tt w ≡ 0 → late tt w (length (recordsBytes o rs ++ part)) ≡ 0 → ValidRecords o start rs → 1 ≤ length part
+        → head w ≡ 0 → late w (length (recordsBytes o rs ++ part)) ≡ 0 → ValidRecords o start rs → 1 ≤ length part
         → Cut bs (X ++ opening w rs part) part beyond p → readRecord o (past start rs) p part ≡ bad c p
         → Within (length X) (opening w rs part ++ (part ++ beyond)) c p
     cut-within w rs part beyond l hw hh hl v left cut e =
@@ -217,10 +222,10 @@ event-word-fits w e = let is : w / 65536 ≡ eventMark = equal-passed (w / 65536
 
 -- Faults of the configuration behind a header, and of an event behind what would be a file.
 abbrev InConfiguration : Order → ℕ → List ℕ → ℕ → ℕ → Type 0
-InConfiguration o v rest c p = ContainerFault o configurationHead configurationLate entry (length (headerBytes o v)) rest c p
+InConfiguration o v rest c p = ContainerFault o configurationRule configurationLate entry (length (headerBytes o v)) rest c p
 
 abbrev InEvent : Order → File → List ℕ → ℕ → ℕ → Type 0
-InEvent o f rest c p = ContainerFault o eventHead eventLate (event none) (length (fileBytes f)) rest c p
+InEvent o f rest c p = ContainerFault o eventWordRule eventLate (event unseen) (length (fileBytes f)) rest c p
 
 module _ (bs : List ℕ) (c p : ℕ) where
   -- Each is a first fault of the file.
@@ -229,24 +234,24 @@ module _ (bs : List ℕ) (c p : ℕ) where
   configuration-fault v rest hv is (inl (here, own)) =
       at-configuration v rest hv
       (record { splits = is ∙ ap (λ (r : List ℕ). headerBytes (orderOf bs) v ++ r) (sym (append-nil rest)); place = here })
-      (subst (λ (m : ℕ). Itself (orderOf bs) configurationHead configurationLate rest c m) (sym here) own)
+      (subst (λ (m : ℕ). Itself (orderOf bs) configurationRule configurationLate rest c m) (sym here) own)
   configuration-fault v rest hv is (inr w) =
       let rs : List Record = w .before in
       let n : ℕ = length (recordsBytes (orderOf bs) rs ++ w .part) in
       at-entry v rs (w .part) (w .beyond) hv (w .valid) (omega (arith, w .left))
       (subst (λ (x : ℕ). Cut bs (headerBytes (orderOf bs) v ++ (front (orderOf bs) x n ++ recordsBytes (orderOf bs) rs)) (w .part) (w .beyond) p)
       (equal-passed (w .word) configurationWord 4 (w .head-ok))
-      (within-cut (orderOf bs) configurationHead configurationLate entry bs (headerBytes (orderOf bs) v) c p rest is w))
+      (within-cut (orderOf bs) configurationRule configurationLate entry bs (headerBytes (orderOf bs) v) c p rest is w))
       (w .fault)
 
   event-fault : (f : File) (rest : List ℕ) → Valid f → 1 ≤ length rest → bs ≡ fileBytes f ++ rest → InEvent (orderIn f) f rest c p → FirstFault bs c p
   event-fault f rest v left is (inl (here, own)) =
       at-event f rest v (omega arith)
       (record { splits = is ∙ ap (λ (r : List ℕ). fileBytes f ++ r) (sym (append-nil rest)); place = here })
-      (subst (λ (m : ℕ). Itself (orderIn f) eventHead eventLate rest c m) (sym here) own)
+      (subst (λ (m : ℕ). Itself (orderIn f) eventWordRule eventLate rest c m) (sym here) own)
   event-fault f rest v left is (inr w) =
       at-record f (w .word) (w .before) (w .part) (w .beyond) v (w .head-ok) (w .valid) (omega (arith, w .left))
-      (within-cut (orderIn f) eventHead eventLate (event none) bs (fileBytes f) c p rest is w)
+      (within-cut (orderIn f) eventWordRule eventLate (event unseen) bs (fileBytes f) c p rest is w)
       (w .fault)
 
   -- Each refuses the file.
@@ -255,7 +260,7 @@ module _ (bs : List ℕ) (c p : ℕ) where
   configuration-refuses v rest hv is e =
       let refuses : configurationItem (orderOf bs) .read tt 8 rest ≡ bad c p =
       ap (λ (m : ℕ). configurationItem (orderOf bs) .read tt m rest) (sym (length-header (orderOf bs) v))
-      ∙ container-refuses (orderOf bs) configurationHead configurationLate entry (length (headerBytes (orderOf bs) v)) rest c p e in
+      ∙ container-refuses (orderOf bs) configurationRule configurationLate entry (length (headerBytes (orderOf bs) v)) rest c p e in
       pair-refuses (headerItem (orderOf bs)) (pair (configurationItem (orderOf bs)) (events (orderOf bs))) tt 0 bs c p
       (inr (v, rest, is, (hv .rule, hv .fits), pair-refuses (configurationItem (orderOf bs)) (events (orderOf bs)) tt 8 rest c p (inl refuses)))
 
@@ -269,7 +274,7 @@ module _ (bs : List ℕ) (c p : ℕ) where
       let valid : parts o .Ok tt (f .1) = parts-ok f v in
       let refuses : eventItem o .read tt (at + length E) rest ≡ bad c p =
       ap (λ (m : ℕ). eventItem o .read tt m rest) (file-end f)
-      ∙ container-refuses o eventHead eventLate (event none) (length (fileBytes f)) rest c p e in
+      ∙ container-refuses o eventWordRule eventLate (event unseen) (length (fileBytes f)) rest c p e in
       let behind : events o .read tt at (E ++ rest) ≡ bad c p =
       seq-refuses (eventItem o) (length (E ++ rest)) tt at (eventsOf f) rest c p (omega arith) (valid .1 .1) left refuses in
       let both : pair (configurationItem o) (events o) .read tt 8 (C ++ (E ++ rest)) ≡ bad c p =
@@ -286,7 +291,7 @@ first-fault bs c p h l e =
     (sym (need-pass (unless (leb (length bs) fileLimit) 1) 0 _ (most-passes 1 l)) ∙ e) in
     elim (pair-refused (headerItem o) (pair (configurationItem o) (events o)) tt 0 bs c p h (sym (same-parts o bs) ∙ inside-limit)) [
       | inl q ↦
-          let here : p ≡ 0 = words-refused o fileMark 3 versionRule tt 0 bs c p q in
+          let here : p ≡ 0 = words-refused o tooShort fileMark notAFile versionRule tt 0 bs c p q in
           at-header (record { splits = sym (append-nil bs); place = here }) (ap (λ (m : ℕ). headerItem o .read tt m bs) here ∙ q)
       | inr (v, rest, is, ok′, q) ↦ behind-header v rest is ok′ (Bytes-right (headerBytes o v) rest (subst Bytes is h)) q
     ]
@@ -311,7 +316,7 @@ first-fault bs c p h l e =
         is ∙ ap (λ (b : List ℕ). headerBytes o v ++ (containerBytes o conf ++ b)) er ∙ simp append-assoc in
         let small : length (fileBytes f) ≤ fileLimit = omega (arith, ap length whole, length-append (fileBytes f) part) in
         event-fault bs c p f part (parts-valid f (order-admitted bs) (okv, (okc, os)) small) left whole
-        (container-refused o eventHead eventLate (event none) (length (fileBytes f)) part c p
+        (container-refused o eventWordRule eventLate (event unseen) (length (fileBytes f)) part c p
         (Bytes-right (eventsBytes o xs) part (subst Bytes er h)) (ap (λ (m : ℕ). eventItem o .read tt m part) (sym (file-end f)) ∙ r))
 
     -- Behind a valid header, the configuration or the events.
@@ -320,7 +325,7 @@ first-fault bs c p h l e =
     behind-header v rest is ok′ h q = elim (pair-refused (configurationItem o) (events o) tt 8 rest c p h q) [
       | inl r ↦
           configuration-fault bs c p v rest (record { rule = ok′ .0; fits = ok′ .1 }) is
-          (container-refused o configurationHead configurationLate entry (length (headerBytes o v)) rest c p h
+          (container-refused o configurationRule configurationLate entry (length (headerBytes o v)) rest c p h
           (ap (λ (m : ℕ). configurationItem o .read tt m rest) (length-header o v) ∙ r))
       | inr (conf, later, er, okc, r) ↦ behind-configuration v conf later (is ∙ ap (λ (b : List ℕ). headerBytes o v ++ b) er) (ok′, okc)
           (Bytes-right (containerBytes o conf) later (subst Bytes er h)) r
@@ -338,16 +343,16 @@ parts-refused bs c p l (at-header cut e) =
     (inl (ap (λ (m : ℕ). headerItem (orderOf bs) .read tt m bs) (sym (cut .place)) ∙ e))
 parts-refused bs c p l (at-configuration v part hv cut own) =
     configuration-refuses bs c p v part hv (cut .splits ∙ ap (λ (r : List ℕ). headerBytes (orderOf bs) v ++ r) (append-nil part))
-    (inl (cut .place, subst (λ (m : ℕ). Itself (orderOf bs) configurationHead configurationLate part c m) (cut .place) own))
+    (inl (cut .place, subst (λ (m : ℕ). Itself (orderOf bs) configurationRule configurationLate part c m) (cut .place) own))
 parts-refused bs c p l (at-entry v rs part beyond hv valid left cut e) =
     let X : List ℕ = headerBytes (orderOf bs) v in
     configuration-refuses bs c p v _ hv (cut .splits ∙ append-assoc X _ (part ++ beyond))
-    (inr (cut-within (orderOf bs) configurationHead configurationLate entry bs X c p configurationWord rs part beyond l
+    (inr (cut-within (orderOf bs) configurationRule configurationLate entry bs X c p configurationWord rs part beyond l
     (omega arith) refl refl valid (omega arith) cut e))
 parts-refused bs c p l (at-event f part v left cut own) =
     rw (shown-order bs f (part ++ []) v (cut .splits))
     (event-refuses bs c p f part v (omega arith) (cut .splits ∙ ap (λ (r : List ℕ). fileBytes f ++ r) (append-nil part))
-    (inl (cut .place, subst (λ (m : ℕ). Itself (orderIn f) eventHead eventLate part c m) (cut .place) own)))
+    (inl (cut .place, subst (λ (m : ℕ). Itself (orderIn f) eventWordRule eventLate part c m) (cut .place) own)))
 parts-refused bs c p l (at-record f w rs part beyond v admitted valid left cut e) =
     let X : List ℕ = fileBytes f in
     let o : Order = orderIn f in
@@ -357,7 +362,7 @@ parts-refused bs c p l (at-record f w rs part beyond v admitted valid left cut e
     let is : bs ≡ X ++ (first ++ (part ++ beyond)) = cut .splits ∙ append-assoc X first (part ++ beyond) in
     rw (shown-order bs f (first ++ (part ++ beyond)) v is)
     (event-refuses bs c p f (first ++ (part ++ beyond)) v left-there is
-    (inr (cut-within o eventHead eventLate (event none) bs X c p w rs part beyond l
+    (inr (cut-within o eventWordRule eventLate (event unseen) bs X c p w rs part beyond l
     (event-word-fits w admitted) admitted (most-passes 9 some) valid left cut e)))
 
 -- A file within the limit that has a first fault is refused so.
@@ -390,10 +395,10 @@ refused-exactly bs c p h = (there (leb (length bs) fileLimit) refl, back)
     there false t e =
         let l : fileLimit < length bs = leb-false (length bs) fileLimit t in
         let (number, place) = bad-inj (sym e ∙ over-limit bs l) in
-        too-long l number place
+        too-large l number place
 
     back : Refusal (length bs) (FirstFault bs) c p → readFile bs ≡ bad c p
-    back (too-long l ec ep) = over-limit bs l ∙ ap₂ bad (sym ec) (sym ep)
+    back (too-large l ec ep) = over-limit bs l ∙ ap₂ bad (sym ec) (sym ep)
     back (within-limit l e) = fault-exactly bs c p h l .1 e
 
 -- The place of a refusal lies in the file, or at its end.
@@ -411,5 +416,5 @@ fault-in-file bs c p h e = within-file (refused-exactly bs c p h .0 e)
     in-fault (at-record f w rs part beyond v hw valid left cut e) = cut-place _ _ _ cut
 
     within-file : Refusal (length bs) (FirstFault bs) c p → p ≤ length bs
-    within-file (too-long l ec ep) = omega arith
+    within-file (too-large l ec ep) = omega arith
     within-file (within-limit l e) = in-fault e

@@ -18,35 +18,16 @@ use Rattle.note.specs.Rows.{rowsOf}
 use Rattle.note.specs.Calls.{TraceAt, keptIf, isTrace, tracesIn, eventNumber, tracesFrom, tracesOf, matches, firstMatch, findAt}
 use Rattle.note.proofs.BoolLaws.{Tells, both-tell, eq-tells}
 use Rattle.note.proofs.AnswerLaws.{counts-determined}
-use Rattle.demands.specs.RowTraces.{rowTraces}
+use Rattle.demands.specs.RowTraces.{rowTraces, TraceMatches, NoneMatches, FirstMatch}
 use Rattle.demands.proofs.Follows.{file-sound}
 use Rattle.demands.proofs.TraceRows.{traces-are-rows}
 
--- A trace is the one asked for: its event carries that number, and its code is that code.
-abbrev pub IsAsked : ℕ → ℕ → TraceAt → Type 0
-IsAsked number code t = (t .number ≡ number) × (t .code ≡ code)
-
--- No trace of the list is.
-abbrev pub NoneMatches : ℕ → ℕ → List TraceAt → Type 0
-NoneMatches number code [] = Unit {0}
-NoneMatches number code (t ∷ ts) = (IsAsked number code t → ⊥) × NoneMatches number code ts
-
--- The place is that of the first trace that is.
-pub record FirstMatch (number code : ℕ) (ts : List TraceAt) (place : ℕ) : Type 0 where
-  pub before : List TraceAt
-  pub trace : TraceAt
-  pub later : List TraceAt
-  pub splits : ts ≡ before ++ trace ∷ later
-  pub here : trace .place ≡ place
-  pub fits : IsAsked number code trace
-  pub none-before : NoneMatches number code before
-
 module _ (number code : ℕ) where
   -- The search's test tells this.
-  matches-tell : (t : TraceAt) → Tells (matches number code t) (IsAsked number code t)
+  matches-tell : (t : TraceAt) → Tells (matches number code t) (TraceMatches number code t)
   matches-tell t = both-tell (eq-tells (t .number) number) (eq-tells (t .code) code)
 
-  no-match : (t : TraceAt) → matches number code t ≡ false → IsAsked number code t → ⊥
+  no-match : (t : TraceAt) → matches number code t ≡ false → TraceMatches number code t → ⊥
   no-match t e h = false≢true (sym e ∙ matches-tell t .1 h)
 
   -- What the search gave, by induction on the list.
@@ -141,7 +122,7 @@ module _ (o : Order) (low : ℕ) where
 
 -- ---- Find's answer
 
--- "A refused file gives its refusal."
+-- Of a file that is refused Find gives the refusal.
 pub find-refused : (bs : List ℕ) (c p number code : ℕ) → readFile bs ≡ bad c p → findAt bs number code ≡ refused c p
 unfolding findAt
 find-refused bs c p number code e = rw e
@@ -156,7 +137,7 @@ module _ (bs : List ℕ) (f : File) (e : readFile bs ≡ ok f) (number code : �
   search-gave : (ns : List ℕ) → findAt bs number code ≡ accepted (counts ns) → firstMatch number code (tracesOf f) ≡ ns
   search-gave ns q = counts-determined (firstMatch number code (tracesOf f)) ns (sym found-in ∙ q)
 
-  -- "The place of the first trace in file order whose event carries that number and whose code is that code; or nothing."
+  -- Find gives a place exactly where it is that of the first match (FORMAT 8.8), and nothing exactly where no trace matches.
   pub find-is-first : (place : ℕ) → (findAt bs number code ≡ accepted (counts (place ∷ []))) ↔ FirstMatch number code (tracesOf f) place
   find-is-first place = (
     λ q. found-is-first number code (tracesOf f) place (search-gave (place ∷ []) q),

@@ -1,4 +1,4 @@
--- Demand 2: a file is accepted exactly when it is the bytes of a valid tree, and bytes have one meaning.
+-- A file is accepted exactly when it is the bytes of a valid tree, and bytes have one meaning.
 -- The idea: each direction is the theory's, for the whole that the file is; the limit is one test in front.
 use mathlib.Core.Path.{_≡_, refl, sym, ap, _∙_, subst}
 use mathlib.Core.Logic.{_↔_}
@@ -34,7 +34,7 @@ parts-valid f b v l = record {
   byte-order = b;
   version-rule = v .0 .0;
   version-fits = v .0 .1;
-  configuration-word = equal-passed (configurationOf f .kind) configurationWord 4 (v .1 .0 .head-ok);
+  configuration-word = equal-passed (configurationOf f .word) configurationWord 4 (v .1 .0 .head-ok);
   configuration-fits = v .1 .0 .length-word;
   entries-valid = records-valid (orderIn f) entry (configurationOf f .body) (v .1 .0 .body-ok);
   events-valid = events-valid (orderIn f) (eventsOf f) (v .1 .1);
@@ -43,7 +43,7 @@ parts-valid f b v l = record {
 
 pub parts-ok : (f : File) → Valid f → parts (orderIn f) .Ok tt (f .1)
 parts-ok f v =
-    let e : configurationOf f .kind ≡ configurationWord = v .configuration-word in (
+    let e : configurationOf f .word ≡ configurationWord = v .configuration-word in (
       (v .version-rule, v .version-fits),
       (
         record {
@@ -102,7 +102,7 @@ file-complete f v =
     (ap (λ (o : Order). parts o .read tt 0 bs) same ∙ parts (orderIn f) .complete tt 0 (f .1) (parts-ok f v))
     ∙ ap (λ (o : Order). ok (o, f .1)) same
 
--- Demand 2: accepted exactly when it follows the note.
+-- Accepted exactly when it follows the note.
 pub accepted-iff-follows : (bs : List ℕ) (f : File) → Bytes bs → (readFile bs ≡ ok f) ↔ ((bs ≡ fileBytes f) × Valid f)
 accepted-iff-follows bs f h = (λ e. file-sound bs f h e, λ p. subst (λ (x : List ℕ). readFile x ≡ ok f) (sym (p .0)) (file-complete f (p .1)))
 

@@ -15,12 +15,12 @@ use Rattle.theory.proofs.WordLaws.{Bytes-append, Bytes-put}
 use Rattle.theory.proofs.TestLaws.{bind-ok}
 use Rattle.theory.proofs.Items.{Oks}
 use Rattle.note.specs.Limits.{fileLimit}
-use Rattle.note.specs.Records.{Record, Context, entry, event, none, behind, recordBytes, recordSize, recordsBytes, readRecords}
-use Rattle.note.specs.Events.{Container, containerBytes, eventWord, eventHead, eventLate}
-use Rattle.note.specs.Files.{versionWord, fileMark, headerBytes, configurationWord, configurationHead, configurationLate, fileBytes, readFile}
-use Rattle.note.specs.Writers.{Written, recordWrote, recordOutput, headerWrote, configurationClosed, configurationOutput}
+use Rattle.note.specs.Records.{Record, Context, entry, event, unseen, behind, recordBytes, recordSize, recordsBytes, readRecords}
+use Rattle.note.specs.Events.{Container, containerBytes, eventWord, eventWordRule, eventLate}
+use Rattle.note.specs.Files.{versionWord, fileMark, headerBytes, configurationWord, configurationRule, configurationLate, fileBytes, readFile}
+use Rattle.note.specs.Writers.{Draft, recordNext, recordOutput, headerNext, configurationClosed, configurationOutput}
 use Rattle.note.proofs.ContainerFieldLaws.{event-word-fits, event-word-admitted}
-use Rattle.demands.specs.Pieces.{Piece, writtenOf, recordOf}
+use Rattle.demands.specs.Pieces.{Piece, draftOf, recordOf}
 use Rattle.demands.specs.Valid.{ValidRecords, ValidEvents, Valid}
 use Rattle.demands.specs.Assembly.{EventPieces, FilePieces, AllFitting, EventsFitting, FileFits}
 use Rattle.demands.specs.Assembly.{AllFaultless, EventFaultless, EventsFaultless, FileFaultless, AllPlaced, EventsPlaced, FilePlaced}
@@ -61,7 +61,7 @@ pieces-valid o c (p ∷ ps) h f k l =
         body-bytes = w .body-bytes;
         body-rule = w .body-rule (f .0);
       },
-      pieces-valid o (behind c (recordOf o p .kind)) ps (h .1) (f .1) (k .2) (omega arith),
+      pieces-valid o (behind c (recordOf o p .word)) ps (h .1) (f .1) (k .2) (omega arith),
     )
 
 -- Some pieces have some bytes.
@@ -79,7 +79,7 @@ events-valid o (e ∷ es) h f k l =
         word-fits = event-word-fits (e .class) (e .category) (e .type) (f .0 .word);
         not-empty = some-bytes o (e .records) (k .0 .some);
         length-fits = omega arith;
-        records-valid = pieces-valid o (event none) (e .records) (h .0) (f .0 .records) (k .0 .records) (omega arith);
+        records-valid = pieces-valid o (event unseen) (e .records) (h .0) (f .0 .records) (k .0 .records) (omega arith);
       },
       events-valid o es (h .1) (f .1) (k .1) (omega arith),
     )
@@ -98,21 +98,21 @@ Answers r = (after : Built) × (r ≡ ok after)
 -- Records without fault are written where they have room.
 records-granted : (o : Order) (b : Built) (ps : List Piece) → AllFitting ps → AllFaultless o ps → Room b (piecesBytes o ps)
     → Answers (recordsAssembled o b ps)
-unfolding recordsAssembled recordWrote
+unfolding recordsAssembled recordNext
 records-granted o b [] h f r = (b, refl)
 records-granted o b (p ∷ ps) h f r =
-    let w : Written = writtenOf o p in
+    let w : Draft = draftOf o p in
     let n : ℕ = length (w .bytes) in
     let mid : Built = record { next = b .next + n; out = recordOutput (b .out) (b .next) w } in
     let own : n ≡ recordSize (recordOf o p) = ap length (piece-writes o p (h .0) .bytes-are) ∙ record-size o (recordOf o p) in
     let fits : b .next + n ≤ length (b .out) = omega (arith, r .room, first-piece o p ps) in
-    let one : recordWrote (b .out) (b .next) w ≡ ok (mid .next) = grants (length (b .out)) (b .next) (w .fault) n (r .limit) (f .0) fits in
+    let one : recordNext (b .out) (b .next) w ≡ ok (mid .next) = grants (length (b .out)) (b .next) (w .fault) n (r .limit) (f .0) fits in
     let same : length (mid .out) ≡ length (b .out) = record-laid (b .out) (b .next) (mid .next) w one .size in
     let (after, rest) = records-granted o mid ps (h .1) (f .1)
     (record { limit = omega (arith, r .limit); room = omega (arith, r .room, first-piece o p ps) }) in
     (after, ap (λ (r : Res ℕ). bind r (λ n. recordsAssembled o (record { next = n; out = mid .out }) ps)) one ∙ rest)
 
-module _ (o : Order) (head : Unit {0} → ℕ → ℕ) (late : Unit {0} → ℕ → ℕ → ℕ) (c : Context) (word : ℕ)
+module _ (o : Order) (head : ℕ → ℕ) (late : ℕ → ℕ → ℕ) (c : Context) (word : ℕ)
     (closed : List ℕ → ℕ → ℕ → Res ℕ) (output : List ℕ → ℕ → ℕ → List ℕ)
     (closing-grants : (out : List ℕ) (place end : ℕ) → Checked o head late c out place end end word → closed out place end ≡ ok end) where
   -- Then a valid container of them is closed.
@@ -132,7 +132,7 @@ module _ (o : Order) (head : Unit {0} → ℕ → ℕ) (late : Unit {0} → ℕ 
         room = (omega (arith, l .ends), omega (arith, l .size, l .ends, r .room), omega (arith, l .size, r .limit));
         fits = v .kind-word;
         head-ok = v .head-ok;
-        late-ok = ap (late tt word) n ∙ v .late-ok;
+        late-ok = ap (late word) n ∙ v .late-ok;
         read = rs;
         contents = ap (readRecords o c (place + 8)) contents
             ∙ same-records o c (place + 8) (recordsBytes o rs)
@@ -149,13 +149,13 @@ configuration-granted : (o : Order) (b : Built) (ps : List Piece) → AllFitting
     → configurationItem o .Ok tt (containerOf o configurationWord ps) → Room b (containerBytes o (containerOf o configurationWord ps))
     → Answers (configurationAssembled o b ps)
 configuration-granted o =
-    container-granted o configurationHead configurationLate entry configurationWord (configurationClosed o) (configurationOutput o)
+    container-granted o configurationRule configurationLate entry configurationWord (configurationClosed o) (configurationOutput o)
     (configuration-grants o)
 
 event-granted : (o : Order) (b : Built) (e : EventPieces) → AllFitting (e .records) → EventFaultless o e → eventItem o .Ok tt (eventOf o e)
     → Room b (containerBytes o (eventOf o e)) → Answers (eventAssembled o b e)
 event-granted o b e h f v r =
-    container-granted o eventHead eventLate (event none) (eventWord (e .class) (e .category) (e .type)) _ _
+    container-granted o eventWordRule eventLate (event unseen) (eventWord (e .class) (e .category) (e .type)) _ _
     (λ out place end. event-grants o out place end (e .class) (e .category) (e .type) (f .word)) b (e .records) h (f .records) v r
 
 events-granted : (o : Order) (b : Built) (es : List EventPieces) → EventsFitting es → EventsFaultless o es → Oks (eventItem o) tt (map (eventOf o) es)
@@ -177,9 +177,9 @@ records-faultless : (o : Order) (b : Built) (ps : List Piece) (after : Built) �
 unfolding recordsAssembled
 records-faultless o b [] after e = tt
 records-faultless o b (p ∷ ps) after e =
-    let w : Written = writtenOf o p in
+    let w : Draft = draftOf o p in
     let out : List ℕ = recordOutput (b .out) (b .next) w in
-    let (next, e1, e2) = bind-ok (recordWrote (b .out) (b .next) w) (λ next. recordsAssembled o (record { next = next; out = out }) ps) e in
+    let (next, e1, e2) = bind-ok (recordNext (b .out) (b .next) w) (λ next. recordsAssembled o (record { next = next; out = out }) ps) e in
     (record-granted (b .out) (b .next) next w e1 .fine, records-faultless o (record { next = next; out = out }) ps after e2)
 
 events-faultless : (o : Order) (b : Built) (es : List EventPieces) (after : Built) → eventsAssembled o b es ≡ ok after → EventsFaultless o es
@@ -198,7 +198,7 @@ events-faultless o b (e ∷ es) after q =
 -- In a valid tree each piece stands where it may.
 pieces-placed : (o : Order) (c : Context) (ps : List Piece) → ValidRecords o c (map (recordOf o) ps) → AllPlaced o c ps
 pieces-placed o c [] v = tt
-pieces-placed o c (p ∷ ps) v = (v .0 .kind-allowed, v .0 .place-allowed, pieces-placed o (behind c (recordOf o p .kind)) ps (v .1))
+pieces-placed o c (p ∷ ps) v = (v .0 .kind-allowed, v .0 .place-allowed, pieces-placed o (behind c (recordOf o p .word)) ps (v .1))
 
 some-pieces : (o : Order) (ps : List Piece) → 1 ≤ length (piecesBytes o ps) → 1 ≤ length ps
 some-pieces o [] l = l
@@ -208,7 +208,7 @@ events-placed : (o : Order) (es : List EventPieces) → ValidEvents o (map (even
 events-placed o [] v = tt
 events-placed o (e ∷ es) v =
     let own = v .0 in (
-      record { some = some-pieces o (e .records) (own .not-empty); records = pieces-placed o (event none) (e .records) (own .records-valid) },
+      record { some = some-pieces o (e .records) (own .not-empty); records = pieces-placed o (event unseen) (e .records) (own .records-valid) },
       events-placed o es (v .1),
     )
 
@@ -275,12 +275,12 @@ module _ (o : Order) (out : List ℕ) (f : FilePieces) (h : FileFits f) where
   -- And they are granted where the tree is valid and has room.
   file-granted : FileFaultless o f → Valid (fileOf o f) → length out ≤ fileLimit → length (fileBytes (fileOf o f)) ≤ length out
       → (b : Built) × (fileAssembled o out f ≡ ok b)
-  unfolding fileAssembled fileOf headerWrote
+  unfolding fileAssembled fileOf headerNext
   file-granted fine valid limit room =
       let (ok-header, (ok-configuration, ok-events)) = parts-ok (fileOf o f) valid in
       let size = file-size o f h in
       let top : Built = headed o out f 8 in
-      let header : headerWrote out ≡ ok 8 = grants (length out) 0 0 8 limit refl (omega arith) in
+      let header : headerNext out ≡ ok 8 = grants (length out) 0 0 8 limit refl (omega arith) in
       let l = header-laid o out (f .major) (f .minor) 8 header in
       let (mid, entries) = configuration-granted o top (f .entries) (h .entries) (fine .entries) ok-configuration
       (record { limit = omega (arith, l .size); room = omega (arith, l .size) }) in
@@ -298,7 +298,7 @@ module _ (o : Order) (out : List ℕ) (f : FilePieces) (h : FileFits f) where
   file-ends : (b : Built) → fileAssembled o out f ≡ ok b → b .next ≡ length (fileBytes (fileOf o f))
   file-ends b e = omega (arith, file-stands o out f h b e .0 .ends)
 
--- Of a file whose words are little-endian, as document 01 has them.
+-- Of a file whose words are little-endian (FORMAT 1.2).
 module _ (out : List ℕ) (f : FilePieces) (h : FileFits f) where
   -- Given room, pieces without fault, each where it may stand, are never refused.
   pub assembly-granted : FileFaultless Little f → FilePlaced Little f → length out ≤ fileLimit → length (fileBytes (fileOf Little f)) ≤ length out

@@ -13,14 +13,14 @@ use Rattle.note.specs.Limits.{fileLimit}
 use Rattle.note.specs.Words.{words}
 use Rattle.note.specs.Answers.{Given, refused}
 use Rattle.note.specs.Channels.{channelAnswer, codeAnswer}
-use Rattle.note.specs.Records.{entry, event, none, alone, readRecord}
+use Rattle.note.specs.Records.{entry, event, unseen, alone, readRecord}
 use Rattle.note.specs.Files.{readFile}
 use Rattle.note.specs.Rows.{tableAnswer}
 use Rattle.note.specs.Calls.{recordFound, recordAt, settingAt, sampleAt}
-use Rattle.note.specs.Writers.{wrote, recordWrote, headerWrote, configurationClosed, eventClosed, rewriteWrote}
-use Rattle.note.specs.Examples.{after, p14}
+use Rattle.note.specs.Writers.{writerNext, recordNext, headerNext, configurationClosed, eventClosed, rewriteNext}
+use Rattle.note.specs.Examples.{fileWith, p14}
 use Rattle.note.proofs.Computing.{computing}
-use Rattle.demands.specs.Pieces.{Piece, phonon, charge, administrative, trace, history, gps, trigger, tlb, writtenOf}
+use Rattle.demands.specs.Pieces.{Piece, phonon, charge, administrative, trace, history, gps, trigger, tlb, draftOf}
 use Rattle.demands.specs.Numbers.{recordNumbers, headerNumbers, configurationNumbers, restNumbers, writerNumbers}
 use Rattle.demands.specs.Numbers.{configurationClosingNumbers, eventClosingNumbers}
 
@@ -35,11 +35,11 @@ unfolding readFile recordFound
 long-file-refused bs h = (over (length bs) _ h, λ place. over (length bs) (readRecord Little alone place (drop place bs)) h)
 
 pub long-output-refused : (out : List ℕ) → fileLimit < length out
-    → ((place fault size : ℕ) → wrote (length out) place fault size ≡ bad 1 0)
+    → ((place fault size : ℕ) → writerNext (length out) place fault size ≡ bad 1 0)
     × ((place end : ℕ) → configurationClosed Little out place end ≡ bad 1 0)
     × ((place end class category type : ℕ) → eventClosed Little out place end class category type ≡ bad 1 0)
-    × ((bs : List ℕ) → rewriteWrote bs out ≡ bad 1 0)
-unfolding wrote configurationClosed eventClosed rewriteWrote
+    × ((bs : List ℕ) → rewriteNext bs out ≡ bad 1 0)
+unfolding writerNext configurationClosed eventClosed rewriteNext
 long-output-refused out h = (
   λ place fault size. over (length out) _ h,
   λ place end. over (length out) _ h,
@@ -76,8 +76,8 @@ pub file-numbers-given :
     × (map readFile (words Little (0x01020304 ∷ 0x01000200 ∷ []) ∷ words Little (0x01020304 ∷ 0x01000200 ∷ 0 ∷ 0 ∷ []) ∷ [])
     ≡ at 8 configurationNumbers)
     × (map (λ bs. number (readFile bs)) (
-    after (0 ∷ []) ∷ after (0 ∷ 0 ∷ []) ∷ configured 8 (0x00010001 ∷ 0 ∷ []) ∷ after (0xA9801000 ∷ 0 ∷ []) ∷ after (0xA9800007 ∷ 0 ∷ []) ∷
-    after (0xA9800000 ∷ 0 ∷ []) ∷ configured 40 unnamed ∷ after (0xA9800000 ∷ 88 ∷ (dated ++ unsampled)) ∷ []) ≡ restNumbers)
+    fileWith (0 ∷ []) ∷ fileWith (0 ∷ 0 ∷ []) ∷ configured 8 (0x00010001 ∷ 0 ∷ []) ∷ fileWith (0xA9801000 ∷ 0 ∷ []) ∷ fileWith (0xA9800007 ∷ 0 ∷ []) ∷
+    fileWith (0xA9800000 ∷ 0 ∷ []) ∷ configured 40 unnamed ∷ fileWith (0xA9800000 ∷ 88 ∷ (dated ++ unsampled)) ∷ []) ≡ restNumbers)
 unfolding computing
 file-numbers-given = (refl, refl, refl)
 
@@ -155,7 +155,7 @@ masks = trigger (record { mask1 = 0; mask2 = 0; mask3 = 0; mask4 = 0; mask5 = 0;
 
 -- Into an output without room, at byte 3: faults of fields first, then 13.
 abbrev given : List Piece → List (Res ℕ)
-given ps = map (λ (p : Piece). recordWrote [] 3 (writtenOf Little p)) ps
+given ps = map (λ (p : Piece). recordNext [] 3 (draftOf Little p)) ps
 
 pub writer-numbers-given :
     (given (phononOfCode 0 ∷ phononOfCode 10001003 ∷ []) ≡ at 3 (writerNumbers (phononOfCode 0)))
@@ -167,10 +167,10 @@ pub writer-numbers-given :
     × (given (gpsOfDay 366 ∷ gpsOfDay 365 ∷ []) ≡ at 3 (writerNumbers (gpsOfDay 365)))
     × (given (masks ∷ []) ≡ at 3 (writerNumbers masks))
     × (given (tlbOfTower 1 ∷ tlbOfTower 0 ∷ []) ≡ at 3 (writerNumbers (tlbOfTower 0)))
-unfolding computing writtenOf
+unfolding computing draftOf
 writer-numbers-given = (refl, refl, refl, refl, refl, refl, refl, refl)
 
-pub header-number-given : headerWrote [] ≡ bad 13 0
+pub header-number-given : headerNext [] ≡ bad 13 0
 unfolding computing
 header-number-given = refl
 
@@ -193,10 +193,10 @@ pub closing-numbers-given :
     ≡ at 0 eventClosingNumbers)
     × (map (λ ws. number (eventOver ws)) (
     (0 ∷ []) ∷ (0 ∷ 0 ∷ []) ∷ (0x02 ∷ 0 ∷ []) ∷ (0x11 ∷ 0 ∷ []) ∷ (0x02 ∷ 24 ∷ 0 ∷ 0 ∷ 0 ∷ 0 ∷ 0 ∷ 0 ∷ []) ∷ (dated ++ unsampled) ∷ [])
-    ≡ recordNumbers (event none))
+    ≡ recordNumbers (event unseen))
 unfolding computing
 closing-numbers-given = (refl, refl, refl, refl)
 
-pub rewrite-numbers-given : (rewriteWrote p14 [] ≡ bad 13 0) × (rewriteWrote [] [] ≡ bad 2 0)
+pub rewrite-numbers-given : (rewriteNext p14 [] ≡ bad 13 0) × (rewriteNext [] [] ≡ bad 2 0)
 unfolding computing
 rewrite-numbers-given = (refl, refl)

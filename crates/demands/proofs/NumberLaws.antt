@@ -1,10 +1,10 @@
--- Every refusal of every call is one of document 01's numbers, of those that the call can give, at the place that the paper says.
+-- Every refusal of every call is one of the numbers that this call can give, at its place (FORMAT 2.1, 2.2).
 -- The idea: a call's refusal is its reader's (RefusalLaws) or a test's of its own; one law over an answer of any form, then a line for each.
 use mathlib.Core.Path.{_≡_, refl, subst}
 use mathlib.Core.Bool.{Bool, true, false, cond, _&&_}
 use mathlib.Core.List.{List, [], _∷_}
 use mathlib.Core.Option as Listed
-use Prim.Native.Nat.{ℕ, _+_, _*_, _≤_}
+use Prim.Native.Nat.{ℕ, _+_, _-_, _*_, _≤_}
 use borrow.Author.Tests.{leb-false}
 use lib.Dec.{leb, ltb, eqb}
 use lib.ListN.{length, drop}
@@ -23,17 +23,18 @@ use Rattle.note.specs.Trace.{traceOf, traceFault}
 use Rattle.note.specs.History.{historyFault}
 use Rattle.note.specs.Gps.{gpsFault}
 use Rattle.note.specs.Tlb.{tlbFault}
-use Rattle.note.specs.Records.{Record, Context, entry, event, none, alone, readRecord, readRecords}
+use Rattle.note.specs.Records.{Record, Context, entry, event, unseen, alone, readRecord, readRecords}
 use Rattle.note.specs.Events.{eventFault}
 use Rattle.note.specs.Files.{File, readFile}
-use Rattle.note.specs.Rows.{rowsOf, fits, tableGiven, tableAnswer, yieldGiven, yieldAt, visitGiven, visitAnswer}
+use Rattle.note.specs.Rows.{rowsOf, fits, tableGiven, tableAnswer, yieldGiven, yieldAt}
+use Rattle.note.specs.Visitor.{visitGiven, visitAnswer}
 use Rattle.note.specs.Calls.{recordFound, recordGiven, recordAt, settingGiven, settingAt, isTrace, sampleGiven, sampleAt, findGiven, findAt}
-use Rattle.note.specs.Writers.{wrote, phononWritten, chargeWritten, administrativeWritten, traceWritten, historyWritten, gpsWritten}
-use Rattle.note.specs.Writers.{triggerWritten, tlbWritten, recordWrote, headerWrote, contentsOf, ended, within, configurationClosed, eventClosed}
-use Rattle.note.specs.Writers.{fileRewritten, rewriteWrote}
+use Rattle.note.specs.Writers.{writerNext, phononDraft, chargeDraft, administrativeDraft, traceDraft, historyDraft, gpsDraft}
+use Rattle.note.specs.Writers.{triggerDraft, tlbDraft, recordNext, headerNext, contentsOf, endGiven, within, configurationClosed, eventClosed}
+use Rattle.note.specs.Writers.{fileRewritten, rewriteNext}
 use Rattle.note.proofs.RuleNumbers.{phonon-fault-numbers, charge-fault-numbers, administrative-fault-numbers, trace-fault-numbers}
 use Rattle.note.proofs.RuleNumbers.{history-fault-numbers, gps-fault-numbers, tlb-fault-numbers, event-fault-numbers}
-use Rattle.demands.specs.Pieces.{Piece, phonon, charge, administrative, trace, history, gps, trigger, tlb, writtenOf}
+use Rattle.demands.specs.Pieces.{Piece, phonon, charge, administrative, trace, history, gps, trigger, tlb, draftOf}
 use Rattle.demands.specs.Refusals.{Refusal, within-limit}
 use Rattle.demands.specs.Numbers.{At, From, recordNumbers, ContainerNumbers, itself, inside}
 use Rattle.demands.specs.Numbers.{FileRefusal, RecordRefusal, TableRefusal, of-file, few-rows}
@@ -127,8 +128,8 @@ module _ (o : Order) (bs : List ℕ) (place : ℕ) where
       go : (r : Res Record) → recordFound o bs place ≡ r → Gives Mine r → Refuses Mine (settingGiven o place r)
       go (bad c p) q h = h
       go (ok r) q h =
-          either Mine (eqb (r .kind) (phononKind .word)) _ _ tt
-          (either Mine (eqb (r .kind) (chargeKind .word)) _ (refused 5 place) tt (found-within r q 5 refl))
+          either Mine (eqb (r .word) (phononKind .word)) _ _ tt
+          (either Mine (eqb (r .word) (chargeKind .word)) _ (refused 5 place) tt (found-within r q 5 refl))
 
   pub sample-numbers : (k c p : ℕ) → sampleAt o bs place k ≡ refused c p → RecordRefusal bs place c p
   unfolding sampleAt
@@ -164,10 +165,10 @@ code-numbers kind detector name c p e = subst (Refuses (At 0 (10 ∷ []))) e (go
 -- ---- the writers
 
 -- Over an output of n bytes, of fields whose fault is one of these numbers.
-wrote-gives : (n place fault size : ℕ) (ns : List ℕ) → among 13 ns ≡ true → Numbered ns fault
-    → Gives (Refusal n (At place ns)) (wrote n place fault size)
-unfolding wrote
-wrote-gives n place fault size ns h f =
+writer-next-gives : (n place fault size : ℕ) (ns : List ℕ) → among 13 ns ≡ true → Numbered ns fault
+    → Gives (Refusal n (At place ns)) (writerNext n place fault size)
+unfolding writerNext
+writer-next-gives n place fault size ns h f =
     let P : ℕ → ℕ → Type 0 = At place ns in
     let room : Bool = leb (place + size) n in
     let last : Res ℕ = need (unless room 13) place (ok (place + size)) in
@@ -189,8 +190,8 @@ room-numbered (tlb f) = refl
 ten : (c : ℕ) → Numbered (10 ∷ []) c → Numbered (10 ∷ 13 ∷ []) c
 ten c h = numbered-wider (10 ∷ []) (10 ∷ 13 ∷ []) c refl h
 
-fault-numbered : (o : Order) (piece : Piece) → Numbered (writerNumbers piece) (writtenOf o piece .fault)
-unfolding writtenOf phononWritten chargeWritten administrativeWritten traceWritten historyWritten gpsWritten triggerWritten tlbWritten Numbered
+fault-numbered : (o : Order) (piece : Piece) → Numbered (writerNumbers piece) (draftOf o piece .fault)
+unfolding draftOf phononDraft chargeDraft administrativeDraft traceDraft historyDraft gpsDraft triggerDraft tlbDraft Numbered
 fault-numbered o (phonon f) = ten (phononFault (unsigned (f .code))) (phonon-fault-numbers (unsigned (f .code)))
 fault-numbered o (charge f) = ten (chargeFault (unsigned (f .code))) (charge-fault-numbers (unsigned (f .code)))
 fault-numbered o (administrative f) = ten (administrativeFault (f .date) (f .clock)) (administrative-fault-numbers (f .date) (f .clock))
@@ -200,17 +201,17 @@ fault-numbered o (gps f) = ten (gpsFault f) (gps-fault-numbers f)
 fault-numbered o (trigger f) = tt
 fault-numbered o (tlb f) = ten (tlbFault f) (tlb-fault-numbers f)
 
-pub writer-numbers : (o : Order) (piece : Piece) (out : List ℕ) (place c p : ℕ) → recordWrote out place (writtenOf o piece) ≡ bad c p
+pub writer-numbers : (o : Order) (piece : Piece) (out : List ℕ) (place c p : ℕ) → recordNext out place (draftOf o piece) ≡ bad c p
     → WriterRefusal out place (writerNumbers piece) c p
-unfolding recordWrote
+unfolding recordNext
 writer-numbers o piece out place c p e =
     subst (Gives (WriterRefusal out place (writerNumbers piece))) e
-    (wrote-gives (length out) place (writtenOf o piece .fault) (length (writtenOf o piece .bytes)) (writerNumbers piece)
+    (writer-next-gives (length out) place (draftOf o piece .fault) (length (draftOf o piece .bytes)) (writerNumbers piece)
     (room-numbered piece) (fault-numbered o piece))
 
-pub header-numbers : (out : List ℕ) (c p : ℕ) → headerWrote out ≡ bad c p → WriterRefusal out 0 (13 ∷ []) c p
-unfolding headerWrote Numbered
-header-numbers out c p e = subst (Gives (WriterRefusal out 0 (13 ∷ []))) e (wrote-gives (length out) 0 0 8 (13 ∷ []) refl tt)
+pub header-numbers : (out : List ℕ) (c p : ℕ) → headerNext out ≡ bad c p → WriterRefusal out 0 (13 ∷ []) c p
+unfolding headerNext Numbered
+header-numbers out c p e = subst (Gives (WriterRefusal out 0 (13 ∷ []))) e (writer-next-gives (length out) 0 0 8 (13 ∷ []) refl tt)
 
 -- ---- the closings and Rewrite
 
@@ -230,7 +231,7 @@ module _ (o : Order) (out : List ℕ) (place end : ℕ) where
       (λ b. need-gives P own (unless (leb (place + 8) end) 13) place r (unless-numbered own (leb (place + 8) end) 13 h) mine (λ c. g))))
 
   contents-give : (own : List ℕ) (context : Context) → Gives (ContainerNumbers place own (recordNumbers context))
-      (ended end (readRecords o context (place + 8) (contentsOf out place end)))
+      (endGiven end (readRecords o context (place + 8) (contentsOf out place end)))
   contents-give own context =
       let P : ℕ → ℕ → Type 0 = ContainerNumbers place own (recordNumbers context) in
       let r : Res (List Record) = readRecords o context (place + 8) (contentsOf out place end) in
@@ -246,23 +247,23 @@ module _ (o : Order) (out : List ℕ) (place end : ℕ) where
       (within-gives configurationClosingNumbers (recordNumbers entry) _ refl (contents-give configurationClosingNumbers entry))
 
   pub event-closing-numbers : (class category type c p : ℕ) → eventClosed o out place end class category type ≡ bad c p
-      → ClosingRefusal out place eventClosingNumbers (event none) c p
+      → ClosingRefusal out place eventClosingNumbers (event unseen) c p
   unfolding eventClosed
   event-closing-numbers class category type c p e =
       let own : List ℕ = eventClosingNumbers in
-      let P : ℕ → ℕ → Type 0 = ContainerNumbers place own (recordNumbers (event none)) in
+      let P : ℕ → ℕ → Type 0 = ContainerNumbers place own (recordNumbers (event unseen)) in
       let mine : (c : ℕ) → among c own ≡ true → P c place = λ c a. itself (a, refl) in
       let fault : ℕ = eventFault class category type in
-      let some : Bool = leb (place + 9) end in
-      let contents : Res ℕ = ended end (readRecords o (event none) (place + 8) (contentsOf out place end)) in
+      let some : Bool = leb 1 (end - (place + 8)) in
+      let contents : Res ℕ = endGiven end (readRecords o (event unseen) (place + 8) (contentsOf out place end)) in
       let full : Res ℕ = need (unless some 9) place contents in
-      subst (Gives (ClosingRefusal out place own (event none))) e
-      (within-gives own (recordNumbers (event none)) (need fault place full) refl
+      subst (Gives (ClosingRefusal out place own (event unseen))) e
+      (within-gives own (recordNumbers (event unseen)) (need fault place full) refl
       (need-gives P own fault place full (numbered-wider (7 ∷ 8 ∷ []) own fault refl (event-fault-numbers class category type)) mine
-      (λ f. need-gives P own (unless some 9) place contents (unless-numbered own some 9 refl) mine (λ s. contents-give own (event none)))))
+      (λ f. need-gives P own (unless some 9) place contents (unless-numbered own some 9 refl) mine (λ s. contents-give own (event unseen)))))
 
-pub rewrite-numbers : (bs out : List ℕ) (c p : ℕ) → rewriteWrote bs out ≡ bad c p → Refusal (length out) (RewriteNumbers bs) c p
-unfolding rewriteWrote
+pub rewrite-numbers : (bs out : List ℕ) (c p : ℕ) → rewriteNext bs out ≡ bad c p → Refusal (length out) (RewriteNumbers bs) c p
+unfolding rewriteNext
 rewrite-numbers bs out c p e =
     let P : ℕ → ℕ → Type 0 = RewriteNumbers bs in
     let size : File → ℕ = λ f. length (fileRewritten f) in

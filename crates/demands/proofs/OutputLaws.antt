@@ -13,13 +13,13 @@ use Rattle.theory.specs.Structures.{Structure, structureBytes}
 use Rattle.theory.specs.Tests.{Res, ok, bad, unless}
 use Rattle.theory.proofs.TestLaws.{need-ok, most-passed, most-passes, ok-inj}
 use Rattle.note.specs.Limits.{fileLimit}
-use Rattle.note.specs.Writers.{wrote, written, contentsOf}
+use Rattle.note.specs.Writers.{writerNext, outputAfter, contentsOf}
 use Rattle.demands.specs.Outputs.{Laid}
 
 -- A structure's bytes in front of others: its two words, its body, the others.
 pub structure-apart : (o : Order) {B : Type 0} (bodyBytes : B → List ℕ) (c : Structure B) (rest : List ℕ)
     → structureBytes o bodyBytes c ++ rest
-    ≡ put o 4 (c .kind) ++ (put o 4 (length (bodyBytes (c .body))) ++ (bodyBytes (c .body) ++ rest))
+    ≡ put o 4 (c .word) ++ (put o 4 (length (bodyBytes (c .body))) ++ (bodyBytes (c .body) ++ rest))
 structure-apart o bodyBytes c rest = simp append-assoc
 
 -- ---- what an output is made of
@@ -36,8 +36,8 @@ module _ (old new : List ℕ) (place next : ℕ) (bytes : List ℕ) (l : Laid ol
 
 -- Bytes put into the output where they have room.
 pub put-laid : (old bytes : List ℕ) (place next : ℕ) → place + length bytes ≤ length old
-    → Laid old (written (ok next) old place bytes) place (place + length bytes) bytes
-unfolding written
+    → Laid old (outputAfter (ok next) old place bytes) place (place + length bytes) bytes
+unfolding outputAfter
 put-laid old bytes place next room =
     let n : ℕ = length bytes in
     let rest : List ℕ = drop (place + n) old in
@@ -116,8 +116,8 @@ pub record Granted (n place fault size next : ℕ) : Type 0 where
   pub room : place + size ≤ n
   pub is : place + size ≡ next
 
-pub granted : (n place fault size next : ℕ) → wrote n place fault size ≡ ok next → Granted n place fault size next
-unfolding wrote
+pub granted : (n place fault size next : ℕ) → writerNext n place fault size ≡ ok next → Granted n place fault size next
+unfolding writerNext
 granted n place fault size next e =
     let (l, e1) = need-ok (unless (leb n fileLimit) 1) 0 _ e in
     let (f, e2) = need-ok fault place _ e1 in
@@ -125,11 +125,11 @@ granted n place fault size next e =
     record { limit = most-passed n fileLimit 0 l; fine = f; room = most-passed (place + size) n 12 r; is = ok-inj e3 }
 
 -- And what a writer asks is no more: no fault, and room.
-pub grants : (n place fault size : ℕ) → n ≤ fileLimit → fault ≡ 0 → place + size ≤ n → wrote n place fault size ≡ ok (place + size)
-unfolding wrote
+pub grants : (n place fault size : ℕ) → n ≤ fileLimit → fault ≡ 0 → place + size ≤ n → writerNext n place fault size ≡ ok (place + size)
+unfolding writerNext
 grants n place fault size limit fine room = rw (most-passes 1 limit, fine, most-passes 13 room)
 
 -- A refusal leaves the output as it was, whichever call gave it.
-pub refusal-keeps : (r : Res ℕ) (out bytes : List ℕ) (place c p : ℕ) → r ≡ bad c p → written r out place bytes ≡ out
-unfolding written
+pub refusal-keeps : (r : Res ℕ) (out bytes : List ℕ) (place c p : ℕ) → r ≡ bad c p → outputAfter r out place bytes ≡ out
+unfolding outputAfter
 refusal-keeps r out bytes place c p e = rw e

@@ -1,4 +1,4 @@
--- Demand 3, of parents: header, configuration and events have none, entries have the configuration's row, records that of an event.
+-- Parents by kind (FORMAT 7.3): header, configuration and events have none, entries have the configuration's row, records that of an event.
 -- The idea: the rows are walked with the nodes before them, so that the row of the container that holds them is known.
 use mathlib.Core.Path.{_≡_, refl, sym, ap, _∙_, subst}
 use mathlib.Core.Bool.{true, false≢true}
@@ -11,7 +11,7 @@ use Rattle.theory.specs.Words.{Bytes}
 use Rattle.theory.specs.Tests.{ok}
 use Rattle.theory.specs.Layout.{Row, Node, childRows, rows, rowCount, row}
 use Rattle.theory.proofs.LayoutLaws.{All, All-append, All-at, length-rows, rowCount-append, box-at}
-use Rattle.note.specs.Records.{Record, Seen, entry, event, none, isKind, behind, noted, recordSize, kindOf}
+use Rattle.note.specs.Records.{Record, Seen, entry, event, unseen, isKind, behind, noted, recordSize, kindOf}
 use Rattle.note.specs.Events.{Container}
 use Rattle.note.specs.Files.{File, orderIn, configurationOf, eventsOf, readFile}
 use Rattle.note.specs.Rows.{childOf, childrenOf, eventNode, nodesOf, rowsOf}
@@ -22,18 +22,18 @@ use Rattle.demands.proofs.Follows.{file-sound}
 use Rattle.demands.proofs.RowLaws.{nextRow, nextPlace, recordRows, eventRows, nodesBefore, rowsBehind}
 
 -- An entry is of row kind 3 or 4, a record in an event of 6 to 11.
-entry-kind : (o : Order) (r : Record) → ValidRecord o entry r → (3 ≤ kindOf (r .kind) .row) × (kindOf (r .kind) .row ≤ 4)
+entry-kind : (o : Order) (r : Record) → ValidRecord o entry r → (3 ≤ kindOf (r .word) .row) × (kindOf (r .word) .row ≤ 4)
 unfolding isKind
 entry-kind o r v =
-    kind-cases (λ w x. isKind entry w ≡ true → x .rule o (r .body) ≡ 0 → (3 ≤ x .row) × (x .row ≤ 4)) (r .kind)
+    kind-cases (λ w x. isKind entry w ≡ true → x .rule o (r .body) ≡ 0 → (3 ≤ x .row) × (x .row ≤ 4)) (r .word)
     (λ e q. omega arith) (λ e q. omega arith) (λ e q. absurd (false≢true e)) (λ e q. absurd (false≢true e)) (λ e q. absurd (false≢true e))
     (λ e q. absurd (false≢true e)) (λ e q. absurd (false≢true e)) (λ e q. absurd (false≢true e)) (λ e q. absurd (omega arith))
     (v .kind-allowed) (v .body-rule)
 
-record-kind : (o : Order) (s : Seen) (r : Record) → ValidRecord o (event s) r → (6 ≤ kindOf (r .kind) .row) × (kindOf (r .kind) .row ≤ 11)
+record-kind : (o : Order) (s : Seen) (r : Record) → ValidRecord o (event s) r → (6 ≤ kindOf (r .word) .row) × (kindOf (r .word) .row ≤ 11)
 unfolding isKind
 record-kind o s r v =
-    kind-cases (λ w x. isKind (event s) w ≡ true → x .rule o (r .body) ≡ 0 → (6 ≤ x .row) × (x .row ≤ 11)) (r .kind)
+    kind-cases (λ w x. isKind (event s) w ≡ true → x .rule o (r .body) ≡ 0 → (6 ≤ x .row) × (x .row ≤ 11)) (r .word)
     (λ e q. absurd (false≢true e)) (λ e q. absurd (false≢true e)) (λ e q. omega arith) (λ e q. omega arith) (λ e q. omega arith)
     (λ e q. omega arith) (λ e q. omega arith) (λ e q. omega arith) (λ e q. absurd (omega arith))
     (v .kind-allowed) (v .body-rule)
@@ -83,7 +83,7 @@ module _ (o : Order) (all : List Row) where
           entry = λ a b. absurd (omega arith);
           inside-event = λ a. (p, refl, l, k);
         },
-        records-by-kind p (at + recordSize r) (noted s (r .kind)) rs l k (v .1),
+        records-by-kind p (at + recordSize r) (noted s (r .word)) rs l k (v .1),
       )
 
   -- The rows of events, behind the nodes that were passed.
@@ -104,7 +104,7 @@ module _ (o : Order) (all : List Row) where
       let later : List Row = eventRows o (nextRow o i e) (nextPlace o at e) es in (
         outer-by-kind _ (omega arith) (omega arith) (λ a b. omega arith) refl,
         All-append (ParentByKind all) (recordRows o i (at + 8) (e .body)) later
-            (records-by-kind (rowCount passed) (at + 8) none (e .body) below is-event (v .0 .records-valid))
+            (records-by-kind (rowCount passed) (at + 8) unseen (e .body) below is-event (v .0 .records-valid))
             (subst (λ (n : ℕ). All (ParentByKind all) (eventRows o n (nextPlace o at e) es)) number
             (events-by-kind (passed ++ own ∷ []) (nextPlace o at e) es (q ∙ ap (rows 1 0) (sym (append-assoc passed (own ∷ []) more))) (v .1))),
       )

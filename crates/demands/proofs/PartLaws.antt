@@ -19,7 +19,7 @@ use Rattle.note.specs.Limits.{fileLimit}
 use Rattle.note.specs.Words.{word}
 use Rattle.note.specs.Answers.{whole, float, Given, accepted, refused, count, counts}
 use Rattle.note.specs.Trace.{traceKind, traceRule}
-use Rattle.note.specs.History.{historyKind, historyRule, widthAt, widthOf, after, triggerAt, sectionValues}
+use Rattle.note.specs.History.{historyKind, historyRule, widthAt, widthOf, endAt, triggerAt, sectionValues}
 use Rattle.note.specs.Records.{Record, alone, recordHead, recordLate, recordRule, readRecord, kindOf}
 use Rattle.note.specs.Calls.{recordFound, recordGiven, isTrace, partGiven, recordAt, samplesPart, samplesAt}
 use Rattle.note.proofs.AnswerLaws.{counts-determined}
@@ -29,6 +29,8 @@ use Rattle.note.proofs.HistoryLaws.{history-ends}
 use Rattle.demands.specs.Edited.{SameSection, SameLists}
 use Rattle.demands.proofs.Bundles.{same-record}
 use Rattle.demands.proofs.RecordLaws.{found-body}
+use Rattle.note.specs.Faults.{tooShort}
+use Rattle.note.proofs.FaultLaws.{short-some}
 
 module _ (o : Order) (bs : List ℕ) (place : ℕ) (r : Record) (found : recordFound o bs place ≡ ok r) where
   -- n bytes of the body, from its byte q on, are the file's
@@ -56,13 +58,14 @@ module _ (o : Order) (bs : List ℕ) (place : ℕ) (r : Record) (found : recordF
       ∙ getD-drop (place + 8) bs m 0
 
   -- what was found follows its kind's rule
-  pub rule-found : recordRule o (r .kind) (r .body) ≡ 0
+  pub rule-found : recordRule o (r .word) (r .body) ≡ 0
   unfolding recordFound
   rule-found =
       let from : List ℕ = drop place bs in
       let (l, q) = need-ok (unless (leb (length bs) fileLimit) 1) 0 (readRecord o alone place from) found in
       let shown =
-      opens o recordHead recordLate (ruled (λ s. recordRule o (s .1)) .read) alone place from r (sym (same-record o alone place from) ∙ q) in
+      opens o tooShort short-some recordHead recordLate (ruled (λ s. recordRule o (s .1)) .read) alone place from r
+      (sym (same-record o alone place from) ∙ q) in
       let b : List ℕ = take (wordAt o 4 4 from) (drop 8 from) in
       let (passed, same) = need-ok (recordRule o (wordAt o 4 0 from) b) place (ok b) (shown .body-is) in
       rw (shown .kind-is) (subst (λ (x : List ℕ). recordRule o (wordAt o 4 0 from) x ≡ 0) (ok-inj same) passed)
@@ -92,7 +95,7 @@ samples-given o bs place = go (recordFound o bs place) refl
         trace false k = refl
         trace true k =
             let passes : traceRule o (r .body) ≡ 0 =
-            subst (λ (w : ℕ). recordRule o w (r .body) ≡ 0) (eqb-true (r .kind) (traceKind .word) k) (rule-found o bs place r e) in
+            subst (λ (w : ℕ). recordRule o w (r .body) ≡ 0) (eqb-true (r .word) (traceKind .word) k) (rule-found o bs place r e) in
             let size : length (r .body) ≡ 48 + 2 * word o 44 (r .body) = trace-length o (r .body) passes .0 in
             let from : place + 56 ≡ place + 8 + 48 = omega arith in
             let short : length (drop 48 (r .body)) ≤ n = omega (arith, length-drop 48 (r .body)) in
@@ -127,18 +130,18 @@ module _ (o : Order) (bs bs′ : List ℕ) (place : ℕ) (r : Record) (was : rec
   same-part : (q n : ℕ) → q + n ≤ length (r .body) → take n (drop (place + 8 + q) bs′) ≡ take n (drop (place + 8 + q) bs)
   same-part q n l = part-found o bs′ place r is q n l ∙ sym (part-found o bs place r was q n l)
 
-  same-section : (p : ℕ) → after o p (r .body) ≤ length (r .body)
+  same-section : (p : ℕ) → endAt o p (r .body) ≤ length (r .body)
       → SameSection bs bs′ (word o p (r .body)) (place + 8 + (p + 4)) (widthOf o p (r .body)) (place + 8 + (widthAt o p (r .body) + 4))
-  unfolding after widthAt
+  unfolding endAt widthAt
   same-section p l = let b : List ℕ = r .body in (
     same-part (p + 4) (4 * word o p b) (omega arith),
     same-part (p + 4 + 4 * word o p b + 4) (4 * (word o p b * widthOf o p b)) (omega arith),
   )
 
-  same-lists : kindOf (r .kind) .row ≡ 8 → SameLists o bs bs′ place
+  same-lists : kindOf (r .word) .row ≡ 8 → SameLists o bs bs′ place
   unfolding recordAt sectionValues kindOf
   same-lists e n t w m n′ t′ w′ m′ given =
-      let k : r .kind ≡ historyKind .word = history-kind (r .kind) e in
+      let k : r .word ≡ historyKind .word = history-kind (r .word) e in
       let b : List ℕ = r .body in
       let passes : historyRule o b ≡ 0 = subst (λ (q : ℕ). recordRule o q b ≡ 0) k (rule-found o bs place r was) in
       let (room, end) = history-ends o b passes in
@@ -162,7 +165,7 @@ lists-stay o bs bs′ place same = go (recordFound o bs place) refl
         same-lists o bs bs′ place r e (same ∙ e) (ap firstNumber (sym (ap (recordGiven o place) e) ∙ given)) n t w m n′ t′ w′ m′ given
 
 -- Where a trace is found Record's answer is no history's.
-pub trace-lists : (o : Order) (bs bs′ : List ℕ) (place : ℕ) (r : Record) → recordFound o bs place ≡ ok r → r .kind ≡ traceKind .word
+pub trace-lists : (o : Order) (bs bs′ : List ℕ) (place : ℕ) (r : Record) → recordFound o bs place ≡ ok r → r .word ≡ traceKind .word
     → SameLists o bs bs′ place
 unfolding recordAt kindOf
 trace-lists o bs bs′ place r e k n t w m n′ t′ w′ m′ given =

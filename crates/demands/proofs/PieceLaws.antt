@@ -36,34 +36,26 @@ module _ (o : Order) (place : ℕ) (b : List ℕ) (h : Bytes b) where
   -- The body b under the kind word w of kind x, at the place: its fields, what they make, what they answer, what its row says.
   pub record Shown (w : ℕ) (x : Kind) : Type 0 where
     pub fields : Piece
-    pub made : recordOf o fields ≡ record { kind = w; body = b }
+    pub made : recordOf o fields ≡ record { word = w; body = b }
     pub answer : accepted (count (x .row) ∷ x .values o place b) ≡ answerOf place fields
     pub kind : x .row ≡ rowKind fields
     pub one : x .one o b ≡ rowValues o fields .0
     pub two : x .two o b ≡ rowValues o fields .1
 
-  shows : {w : ℕ} {x : Kind} (p : Piece) → recordOf o p ≡ record { kind = w; body = b }
+  shows : {w : ℕ} {x : Kind} (p : Piece) → recordOf o p ≡ record { word = w; body = b }
       → accepted (count (x .row) ∷ x .values o place b) ≡ answerOf place p
       → x .row ≡ rowKind p → x .one o b ≡ rowValues o p .0 → x .two o b ≡ rowValues o p .1 → Shown w x
   shows p m a k v w = record { fields = p; made = m; answer = a; kind = k; one = v; two = w }
 
-  -- A word that was read as signed is the same word.
-  word-again : (p : ℕ) → p + 4 ≤ length b → word o p b ≡ unsigned (signed (word o p b))
-  word-again p l = sym (signed-again (word o p b) (word-fits o 4 p b h l))
-
   phonon-shown : phononRule o b ≡ 0 → Shown (phononKind .word) phononKind
   unfolding recordOf answerOf rowKind rowValues phononOf phononRule
   phonon-shown e =
-      let size : length b ≡ 44 = equal-passed (length b) 44 5 (first-at _ e 0) in
-      shows (phonon (phononOf o b)) (ap (ofKind phononKind) (phonon-restored o b h e)) refl refl
-      (word-again 0 (omega arith)) (word-again 4 (omega arith))
+      shows (phonon (phononOf o b)) (ap (ofKind phononKind) (phonon-restored o b h e)) refl refl refl refl
 
   charge-shown : chargeRule o b ≡ 0 → Shown (chargeKind .word) chargeKind
   unfolding recordOf answerOf rowKind rowValues chargeOf chargeRule
   charge-shown e =
-      let size : length b ≡ 32 = equal-passed (length b) 32 5 (first-at _ e 0) in
-      shows (charge (chargeOf o b)) (ap (ofKind chargeKind) (charge-restored o b h e)) refl refl
-      (word-again 0 (omega arith)) (word-again 4 (omega arith))
+      shows (charge (chargeOf o b)) (ap (ofKind chargeKind) (charge-restored o b h e)) refl refl refl refl
 
   administrative-shown : administrativeRule o b ≡ 0 → Shown (administrativeKind .word) administrativeKind
   unfolding recordOf answerOf rowKind rowValues administrativeOf

@@ -12,7 +12,7 @@ use Rattle.theory.proofs.StructureLaws.{second-word}
 use Rattle.note.specs.Words.{word}
 use Rattle.note.specs.Events.{Container, eventWord, readEvent}
 use Rattle.note.specs.Files.{File, fileMark, versionWord, versionOf, eventsOf, headerBytes, readHeader, readFile}
-use Rattle.note.specs.Writers.{headerWrote, headerOutput, eventClosed, eventOutput}
+use Rattle.note.specs.Writers.{headerNext, headerOutput, eventClosed, eventOutput}
 use Rattle.note.proofs.ContainerFieldLaws.{event-read-back, header-read-back, header-admitted}
 use Rattle.demands.specs.Assembly.{EventPieces, FilePieces, EventsFaultless, FileFits, Built, eventOf, fileOf, fileAssembled}
 use Rattle.demands.specs.Named.{NamedEvent, NamedEvents, NamedVersion}
@@ -26,12 +26,12 @@ use Rattle.demands.proofs.GrantLaws.{granted-exactly}
 -- The event that a granted closing leaves is read there, with the class, category and type handed over.
 pub closed-event-named : (o : Order) (out : List ℕ) (place end class category type next : ℕ) → Bytes out
     → eventClosed o out place end class category type ≡ ok next
-    → (x : Container) × (readEvent o tt place (take (end - place) (drop place (eventOutput o out place end class category type))) ≡ ok x)
+    → (x : Container) × (readEvent o place (take (end - place) (drop place (eventOutput o out place end class category type))) ≡ ok x)
     × NamedEvent class category type x
 closed-event-named o out place end class category type next h e =
     let k = event-closes o out place end class category type next h e in
     let (a, b, c) = event-read-back class category type (event-faultless o out place end class category type next e) in
-    (record { kind = eventWord class category type; body = k .records }, k .reads, record { class-is = a; category-is = b; type-is = c })
+    (record { word = eventWord class category type; body = k .records }, k .reads, record { class-is = a; category-is = b; type-is = c })
 
 -- The words of these numbers have them.
 version-named : (major minor : ℕ) → major < 256 → minor < 256 → NamedVersion major minor (versionWord major minor)
@@ -40,8 +40,8 @@ version-named major minor a b =
     record { major-is = x; minor-is = y; format-is = z }
 
 -- The header that the writer leaves is read at byte 0, and its version word, at byte 4, has the two bytes handed over.
-pub written-header-named : (o : Order) (out : List ℕ) (major minor next : ℕ) → major < 256 → minor < 256 → headerWrote out ≡ ok next
-    → (readHeader o tt 0 (headerOutput o out major minor) ≡ ok (word o 4 (headerOutput o out major minor)))
+pub written-header-named : (o : Order) (out : List ℕ) (major minor next : ℕ) → major < 256 → minor < 256 → headerNext out ≡ ok next
+    → (readHeader o 0 (headerOutput o out major minor) ≡ ok (word o 4 (headerOutput o out major minor)))
     × NamedVersion major minor (word o 4 (headerOutput o out major minor))
 unfolding readHeader
 written-header-named o out major minor next a b e =
@@ -52,7 +52,7 @@ written-header-named o out major minor next a b e =
     let stands : new ≡ headerBytes o v ++ rest = laid-from out new 0 next (headerBytes o v) (header-laid o out major minor next e) in
     let apart : headerBytes o v ++ rest ≡ put o 4 fileMark ++ (put o 4 v ++ rest) = append-assoc (put o 4 fileMark) (put o 4 v) rest in
     let second : word o 4 new ≡ v = ap (word o 4) (stands ∙ apart) ∙ second-word o fileMark v rest fits in
-    let read : readHeader o tt 0 new ≡ ok v = ap (headerItem o .read tt 0) stands ∙ headerItem o .complete tt 0 v rest (rule, fits) in
+    let read : readHeader o 0 new ≡ ok v = ap (headerItem o .read tt 0) stands ∙ headerItem o .complete tt 0 v rest (rule, fits) in
     let named : NamedVersion major minor (word o 4 new) = rw second (version-named major minor a b) in
     (read ∙ ap ok (sym second), named)
 

@@ -24,6 +24,8 @@ use Rattle.demands.specs.Valid.{ValidRecord}
 use Rattle.demands.proofs.Bundles.{recordItem, same-record, record-ok}
 use Rattle.demands.proofs.OutputLaws.{structure-apart}
 use Rattle.demands.proofs.RowLaws.{container-size}
+use Rattle.note.specs.Faults.{tooShort}
+use Rattle.note.proofs.FaultLaws.{short-some}
 
 -- ---- a record in any context is one alone
 
@@ -43,7 +45,7 @@ kind-alone alone k e = e
 pub valid-alone : (o : Order) (c : Context) (r : Record) → ValidRecord o c r → ValidRecord o alone r
 unfolding isAllowed
 valid-alone o c r v = record {
-  kind-allowed = kind-alone c (r .kind) (v .kind-allowed);
+  kind-allowed = kind-alone c (r .word) (v .kind-allowed);
   place-allowed = refl;
   kind-fits = v .kind-fits;
   length-fits = v .length-fits;
@@ -100,23 +102,23 @@ unfolding isKind
 no-header = refl
 
 -- So Record finds no record at a container.
-pub reads-container : (o : Order) (at : ℕ) (c : Container) (rest : List ℕ) → Fits 4 (c .kind) → isKind alone (c .kind) ≡ false
+pub reads-container : (o : Order) (at : ℕ) (c : Container) (rest : List ℕ) → Fits 4 (c .word) → isKind alone (c .word) ≡ false
     → readRecord o alone at (containerBytes o c ++ rest) ≡ bad 5 at
 reads-container o at c rest f k =
     let bs : List ℕ = containerBytes o c ++ rest in
     let n : List ℕ = put o 4 (length (recordsBytes o (c .body))) in
-    let w : wordAt o 4 0 bs ≡ c .kind =
+    let w : wordAt o 4 0 bs ≡ c .word =
     ap (wordAt o 4 0) (structure-apart o (recordsBytes o) c rest)
-    ∙ word-after-put o 4 (c .kind) (n ++ (recordsBytes o (c .body) ++ rest)) f in
+    ∙ word-after-put o 4 (c .word) (n ++ (recordsBytes o (c .body) ++ rest)) f in
     reads-none o at bs (omega (arith, length-append (containerBytes o c) rest, container-size o c)) (rw w k)
 
 -- ---- what was read
 
 -- A record that was read: its kind is the first word, its body follows the two words.
 pub record-opens : (o : Order) (c : Context) (at : ℕ) (bs : List ℕ) (r : Record) → recordItem o .read c at bs ≡ ok r
-    → (r .kind ≡ wordAt o 4 0 bs) × (r .body ≡ take (wordAt o 4 4 bs) (drop 8 bs))
+    → (r .word ≡ wordAt o 4 0 bs) × (r .body ≡ take (wordAt o 4 4 bs) (drop 8 bs))
 record-opens o c at bs r e =
-    let shown = opens o recordHead recordLate (ruled (λ s. recordRule o (s .1)) .read) c at bs r e in
+    let shown = opens o tooShort short-some recordHead recordLate (ruled (λ s. recordRule o (s .1)) .read) c at bs r e in
     let b : List ℕ = take (wordAt o 4 4 bs) (drop 8 bs) in
     let (passed, same) = need-ok (recordRule o (wordAt o 4 0 bs) b) at (ok b) (shown .body-is) in
     (shown .kind-is, sym (ok-inj same))

@@ -1,4 +1,4 @@
--- Which numbers each reader can refuse with, and where; so a file's refusal is one of document 01's numbers, and never 0.
+-- Which numbers each reader can refuse with, and where; so a file's refusal is one of the listed numbers (FORMAT 2.1), and never 0.
 -- The idea: `need` gives back a test's number at its place and `bind` passes on what it is given; each reader is made of these two.
 use mathlib.Core.Path.{_≡_, refl, sym, _∙_, subst}
 use mathlib.Core.Bool.{Bool, true, false, false≢true}
@@ -11,20 +11,22 @@ use lib.ListN.{length, take, drop}
 use Rattle.theory.specs.declared.Order.{Order}
 use Rattle.theory.specs.Words.{wordAt}
 use Rattle.theory.specs.Tests.{Res, ok, bad, need, bind, unless, among}
-use Rattle.theory.specs.Structures.{Structure, readStructure, readSequence, readPair, readWords}
+use Rattle.theory.specs.Structures.{Structure, readStructure, readSequence}
+use Rattle.theory.proofs.StructureLaws.{stateless, readIn}
 use Rattle.theory.proofs.TestLaws.{Numbered, unless-numbered, unless-zero, numbered-wider, among-wider}
 use Rattle.note.specs.Limits.{fileLimit}
-use Rattle.note.specs.Records.{Record, Context, entry, event, alone, none, isKind, isAllowed, entryKinds}
-use Rattle.note.specs.Records.{recordHead, recordLate, recordRule, recordStep, recordSize, behind, readRecord, readRecords}
-use Rattle.note.specs.Events.{Container, containerSize, eventHead, eventLate, eventStep, readEvent, readEvents}
-use Rattle.note.specs.Files.{orderOf, fileMark, format, versionRule, configurationWord, configurationHead, configurationLate}
+use Rattle.note.specs.Records.{Record, Context, entry, event, alone, unseen, isKind, isAllowed, entryKinds}
+use Rattle.note.specs.Records.{recordHead, recordLate, recordRule, nextContext, recordSize, behind, readRecord, readRecords}
+use Rattle.note.specs.Events.{Container, containerSize, eventWordRule, eventLate, readEvent, readEvents}
+use Rattle.note.specs.Files.{orderOf, fileMark, format, versionRule, configurationWord, configurationRule, configurationLate}
 use Rattle.note.specs.Files.{Parts, File, readHeader, readConfiguration, readParts, readFile}
 use Rattle.note.proofs.BoolLaws.{among-tells, upTo, one-up-to}
 use Rattle.note.proofs.RuleNumbers.{rule-numbers, entry-rule-numbers, event-word-numbers}
-use Rattle.demands.specs.Refusals.{Refusal, too-long, within-limit}
+use Rattle.demands.specs.Refusals.{Refusal, too-large, within-limit}
 use Rattle.demands.specs.Numbers.{At, From, recordNumbers, ContainerNumbers, itself, inside}
 use Rattle.demands.specs.Numbers.{headerNumbers, configurationNumbers, restNumbers}
 use Rattle.demands.specs.Numbers.{FileNumbers, of-header, of-configuration, of-rest, FileRefusal}
+use Rattle.note.specs.Faults.{tooShort}
 
 -- An answer, or a refusal of this sort.
 abbrev pub Gives : {A : Type 0} → (ℕ → ℕ → Type 0) → Res A → Type 0
@@ -53,12 +55,12 @@ module _ (o : Order) {S B : Type 0} (head : S → ℕ → ℕ) (late : S → ℕ
     (heads : (w : ℕ) → Numbered ns (head s w)) (lates : (w n : ℕ) → Numbered ns (late s w n)) where
   structure-gives : (at : ℕ) (bs : List ℕ) → ((n : ℕ) → among n ns ≡ true → P n at)
       → ((w : ℕ) (part : List ℕ) → head s w ≡ 0 → Gives P (body (s, w) at part))
-      → Gives P (readStructure o head late body s at bs)
+      → Gives P (readIn o tooShort head late body s at bs)
   structure-gives at bs own bodies =
       let w : ℕ = wordAt o 4 0 bs in
       let n : ℕ = wordAt o 4 4 bs in
       let part : List ℕ = take n (drop 8 bs) in
-      let made : B → Res (Structure B) = λ b. ok (record { kind = w; body = b }) in
+      let made : B → Res (Structure B) = λ b. ok (record { word = w; body = b }) in
       let inner : Res (Structure B) = bind (body (s, w) at part) made in
       let late-on : Res (Structure B) = need (late s w n) at inner in
       let fits-on : Res (Structure B) = need (unless (leb (8 + n) (length bs)) 2) at late-on in
@@ -80,13 +82,6 @@ module _ {S A : Type 0} (step : S → A → S) (size : A → ℕ) (read : S → 
       bind-gives P (read s at (b ∷ bs)) (λ a. bind (later a) (λ xs. ok (a ∷ xs))) (gives s at (b ∷ bs) h)
       (λ a. bind-gives P (later a) (λ xs. ok (a ∷ xs))
       (sequence-gives n (step s a) (at + size a) (drop (size a) (b ∷ bs)) (on s at a h)) (λ xs. tt))
-
-pair-gives : {S A B : Type 0} (step : S → A → S) (size : A → ℕ) (one : S → ℕ → List ℕ → Res A) (rest : S → ℕ → List ℕ → Res B)
-    → (P : ℕ → ℕ → Type 0) (s : S) (at : ℕ) (bs : List ℕ) → Gives P (one s at bs)
-    → ((a : A) → Gives P (rest (step s a) (at + size a) (drop (size a) bs))) → Gives P (readPair step size one rest s at bs)
-pair-gives {B = B} step size one rest P s at bs h g =
-    let later : _ → Res B = λ a. rest (step s a) (at + size a) (drop (size a) bs) in
-    bind-gives P (one s at bs) (λ a. bind (later a) (λ b. ok (a, b))) h (λ a. bind-gives P (later a) (λ b. ok (a, b)) (g a) (λ b. tt))
 
 -- ---- the readers of the note
 
@@ -134,47 +129,48 @@ unfolding readRecords
 records-give o c at bs =
     let P : ℕ → ℕ → Type 0 = From at (recordNumbers c) in
     let Reached : Context → ℕ → Type 0 = λ s q. (recordNumbers s ≡ recordNumbers c) × (at ≤ q) in
-    sequence-gives recordStep recordSize (readRecord o) P Reached
-    (λ s q r h. (numbers-stay s (r .kind) ∙ h .0, omega (arith, h .1)))
+    sequence-gives nextContext recordSize (readRecord o) P Reached
+    (λ s q r h. (numbers-stay s (r .word) ∙ h .0, omega (arith, h .1)))
     (λ s q bs h. gives-wider (At q (recordNumbers s)) P (readRecord o s q bs)
     (λ n p e. (subst (λ (ns : List ℕ). among n ns ≡ true) (h .0) (e .0), omega (arith, e .1, h .1))) (record-gives o s q bs))
     (length bs) c at bs (refl, omega arith)
 
 -- Any container of records.
-container-gives : (o : Order) (head : Unit {0} → ℕ → ℕ) (late : Unit {0} → ℕ → ℕ → ℕ) (c : Context) (own : List ℕ) → among 2 own ≡ true
-    → ((w : ℕ) → Numbered own (head tt w)) → ((w n : ℕ) → Numbered own (late tt w n)) → (s : Unit {0}) (at : ℕ) (bs : List ℕ)
-    → Gives (ContainerNumbers at own (recordNumbers c)) (readStructure o head late (λ s at bs. readRecords o c (at + 8) bs) s at bs)
-container-gives o head late c own two heads lates s at bs =
+container-gives : (o : Order) (head : ℕ → ℕ) (late : ℕ → ℕ → ℕ) (c : Context) (own : List ℕ) → among 2 own ≡ true
+    → ((w : ℕ) → Numbered own (head w)) → ((w n : ℕ) → Numbered own (late w n)) → (at : ℕ) (bs : List ℕ)
+    → Gives (ContainerNumbers at own (recordNumbers c)) (readStructure o tooShort head late (λ w at bs. readRecords o c (at + 8) bs) at bs)
+container-gives o head late c own two heads lates at bs =
     let P : ℕ → ℕ → Type 0 = ContainerNumbers at own (recordNumbers c) in
-    structure-gives o head late (λ s at bs. readRecords o c (at + 8) bs) P own two s heads lates at bs (λ n h. itself (h, refl))
+    structure-gives o (stateless head) (stateless late) (λ s at bs. readRecords o c (at + 8) bs) P own two tt heads lates at bs
+    (λ n h. itself (h, refl))
     (λ w part h. gives-wider (From (at + 8) (recordNumbers c)) P (readRecords o c (at + 8) part) (λ n p e. inside e) (records-give o c (at + 8) part))
 
 configuration-gives : (o : Order) (at : ℕ) (bs : List ℕ)
-    → Gives (ContainerNumbers at configurationNumbers (recordNumbers entry)) (readConfiguration o tt at bs)
+    → Gives (ContainerNumbers at configurationNumbers (recordNumbers entry)) (readConfiguration o at bs)
 unfolding readConfiguration Numbered
 configuration-gives o at bs =
-    container-gives o configurationHead configurationLate entry configurationNumbers refl
-    (λ w. unless-numbered configurationNumbers (eqb w configurationWord) 5 refl) (λ w n. tt) tt at bs
+    container-gives o configurationRule configurationLate entry configurationNumbers refl
+    (λ w. unless-numbered configurationNumbers (eqb w configurationWord) 5 refl) (λ w n. tt) at bs
 
 event-gives : (o : Order) (at : ℕ) (bs : List ℕ)
-    → Gives (ContainerNumbers at (2 ∷ 5 ∷ 7 ∷ 8 ∷ 9 ∷ []) (recordNumbers (event none))) (readEvent o tt at bs)
+    → Gives (ContainerNumbers at (2 ∷ 5 ∷ 7 ∷ 8 ∷ 9 ∷ []) (recordNumbers (event unseen))) (readEvent o at bs)
 unfolding readEvent
 event-gives o at bs =
-    container-gives o eventHead eventLate (event none) (2 ∷ 5 ∷ 7 ∷ 8 ∷ 9 ∷ []) refl
-    (λ w. numbered-wider (5 ∷ 7 ∷ 8 ∷ []) _ (eventHead tt w) refl (event-word-numbers w)) (λ w n. unless-numbered _ (leb 1 n) 9 refl) tt at bs
+    container-gives o eventWordRule eventLate (event unseen) (2 ∷ 5 ∷ 7 ∷ 8 ∷ 9 ∷ []) refl
+    (λ w. numbered-wider (5 ∷ 7 ∷ 8 ∷ []) _ (eventWordRule w) refl (event-word-numbers w)) (λ w n. unless-numbered _ (leb 1 n) 9 refl) at bs
 
-events-give : (o : Order) (from at : ℕ) (bs : List ℕ) → from ≤ at → Gives (From from restNumbers) (readEvents o tt at bs)
+events-give : (o : Order) (from at : ℕ) (bs : List ℕ) → from ≤ at → Gives (From from restNumbers) (readEvents o at bs)
 unfolding readEvents
 events-give o from at bs l =
     let P : ℕ → ℕ → Type 0 = From from restNumbers in
-    sequence-gives eventStep (containerSize o) (readEvent o) P (λ s q. from ≤ q) (λ s q e h. omega (arith, h))
-    (λ s q bs h. gives-wider _ P (readEvent o tt q bs) (λ n p e. spread q n p h e) (event-gives o q bs)) (length bs) tt at bs l
+    sequence-gives {S = Unit {0}} (λ s e. s) (containerSize o) (λ s. readEvent o) P (λ s q. from ≤ q) (λ s q e h. omega (arith, h))
+    (λ s q bs h. gives-wider _ P (readEvent o q bs) (λ n p e. spread q n p h e) (event-gives o q bs)) (length bs) tt at bs l
   where
-    spread : (q n p : ℕ) → from ≤ q → ContainerNumbers q (2 ∷ 5 ∷ 7 ∷ 8 ∷ 9 ∷ []) (recordNumbers (event none)) n p → From from restNumbers n p
+    spread : (q n p : ℕ) → from ≤ q → ContainerNumbers q (2 ∷ 5 ∷ 7 ∷ 8 ∷ 9 ∷ []) (recordNumbers (event unseen)) n p → From from restNumbers n p
     spread q n p h (itself (a, e)) = (among-wider (2 ∷ 5 ∷ 7 ∷ 8 ∷ 9 ∷ []) restNumbers n refl a, omega arith)
-    spread q n p h (inside (a, e)) = (among-wider (recordNumbers (event none)) restNumbers n refl a, omega arith)
+    spread q n p h (inside (a, e)) = (among-wider (recordNumbers (event unseen)) restNumbers n refl a, omega arith)
 
-header-gives : (o : Order) (bs : List ℕ) → Gives (At 0 headerNumbers) (readHeader o tt 0 bs)
+header-gives : (o : Order) (bs : List ℕ) → Gives (At 0 headerNumbers) (readHeader o 0 bs)
 unfolding readHeader
 header-gives o bs =
     let ns : List ℕ = headerNumbers in
@@ -190,14 +186,16 @@ header-gives o bs =
 parts-give : (o : Order) (bs : List ℕ) → Gives FileNumbers (readParts o bs)
 unfolding readParts
 parts-give o bs =
-    pair-gives (λ s v. tt) (λ v. 8) (readHeader o) (readPair (λ s c. tt) (containerSize o) (readConfiguration o) (readEvents o)) FileNumbers tt 0 bs
-    (gives-wider (At 0 headerNumbers) FileNumbers (readHeader o tt 0 bs) (λ c p h. of-header h) (header-gives o bs))
-    (λ v. pair-gives (λ s c. tt) (containerSize o) (readConfiguration o) (readEvents o) FileNumbers tt 8 (drop 8 bs)
-    (gives-wider _ FileNumbers (readConfiguration o tt 8 (drop 8 bs)) spread (configuration-gives o 8 (drop 8 bs)))
+    bind-gives FileNumbers (readHeader o 0 bs) _
+    (gives-wider (At 0 headerNumbers) FileNumbers (readHeader o 0 bs) (λ c p h. of-header h) (header-gives o bs))
+    (λ v. bind-gives FileNumbers (readConfiguration o 8 (drop 8 bs)) _
+    (gives-wider _ FileNumbers (readConfiguration o 8 (drop 8 bs)) spread (configuration-gives o 8 (drop 8 bs)))
     (λ x.
     let at : ℕ = 8 + containerSize o x in
-    let rest : List ℕ = drop (containerSize o x) (drop 8 bs) in
-    gives-wider (From 16 restNumbers) FileNumbers (readEvents o tt at rest) (λ c p h. of-rest h) (events-give o 16 at rest (omega arith))))
+    bind-gives FileNumbers (readEvents o at (drop at bs)) _
+    (gives-wider (From 16 restNumbers) FileNumbers (readEvents o at (drop at bs)) (λ c p h. of-rest h)
+    (events-give o 16 at (drop at bs) (omega arith)))
+    (λ es. tt)))
   where
     spread : (c p : ℕ) → ContainerNumbers 8 configurationNumbers (recordNumbers entry) c p → FileNumbers c p
     spread c p (itself h) = of-configuration h
@@ -209,7 +207,7 @@ limit-gives P n r h = go (leb n fileLimit) refl
   where
     go : (t : Bool) → leb n fileLimit ≡ t → Gives (Refusal n P) (need (unless t 1) 0 r)
     go true e = gives-wider P (Refusal n P) r (λ c p q. within-limit (leb-true n fileLimit e) q) h
-    go false e = too-long (leb-false n fileLimit e) refl refl
+    go false e = too-large (leb-false n fileLimit e) refl refl
 
 pub file-gives : (bs : List ℕ) → Gives (FileRefusal bs) (readFile bs)
 unfolding readFile
@@ -230,7 +228,7 @@ in-table ns zero z u h = absurd (false≢true (sym z ∙ h))
 in-table ns (suc c) z u h = (omega arith, one-up-to 11 ns (suc c) u (among-tells ns (suc c) .0 h))
 
 file-in-table : (bs : List ℕ) (c p : ℕ) → FileRefusal bs c p → (0 < c) × (c ≤ 11)
-file-in-table bs c p (too-long l e q) = (omega arith, omega arith)
+file-in-table bs c p (too-large l e q) = (omega arith, omega arith)
 file-in-table bs c p (within-limit l (of-header h)) = in-table headerNumbers c refl refl (h .0)
 file-in-table bs c p (within-limit l (of-configuration h)) = in-table configurationNumbers c refl refl (h .0)
 file-in-table bs c p (within-limit l (of-rest h)) = in-table restNumbers c refl refl (h .0)

@@ -1,4 +1,4 @@
--- Demand 3, the rows: they tile the file from its first byte to its last, each byte in one row, each child inside its one parent, which
+-- The rows (FORMAT 7.3): they tile the file from its first byte to its last, each byte in one row, each child inside its one parent, which
 -- stands before it, and there are no more rows than an eighth of the length.
 -- The idea: a file's nodes have the sizes of its structures; the theory's laws of rows do the rest.
 use mathlib.Core.Path.{_≡_, refl, sym, subst}
@@ -69,7 +69,7 @@ configurationRow o c = record { kind = 2; start = 8; whole = 8 + total (children
 
 abbrev pub eventRow : Order → ℕ → Container → Row
 eventRow o at e =
-    record { kind = 5; start = at; whole = 8 + total (childrenOf o (e .body)); parent = 0; one = e .kind % 65536; two = length (e .body) }
+    record { kind = 5; start = at; whole = 8 + total (childrenOf o (e .body)); parent = 0; one = e .word % 65536; two = length (e .body) }
 
 -- Behind a container that has row number i and stands at the place `at`: the next row number, the next place.
 abbrev pub nextRow : Order → ℕ → Container → ℕ
@@ -105,7 +105,7 @@ child-kind k = kind-cases (λ w x. isBox (x .row) ≡ false) k refl refl refl re
 children-good : (o : Order) (rs : List Record) → GoodChildren isBox (childrenOf o rs)
 unfolding childOf
 children-good o [] = tt
-children-good o (r ∷ rs) = ((child-kind (r .kind), omega arith), children-good o rs)
+children-good o (r ∷ rs) = ((child-kind (r .word), omega arith), children-good o rs)
 
 events-good : (o : Order) (es : List Container) → Good isBox (map (eventNode o) es)
 events-good o [] = tt
@@ -130,15 +130,15 @@ rows-inside f = one-parent isBox (nodesOf f) (nodes-good f)
 -- ---- and of an accepted file's bytes
 
 module _ (bs : List ℕ) (f : File) (h : Bytes bs) (e : readFile bs ≡ ok f) where
-  -- "In row order the rows' own bytes run from the first byte to the last without gap or overlap."
+  -- The rows' own bytes, row by row, are all bytes of the file.
   pub rows-tile-file : Tiles isBox 0 (rowsOf f) (length bs)
   rows-tile-file = subst (λ (x : List ℕ). Tiles isBox 0 (rowsOf f) (length x)) (sym (file-sound bs f h e .0)) (rows-tile f)
 
-  -- "Rows are never more than an eighth of the length."
+  -- Each row owns eight bytes at the least, so there are few.
   pub few-rows-in-file : 8 * length (rowsOf f) ≤ length bs
   few-rows-in-file = omega (arith, few-rows isBox 0 (length bs) (rowsOf f) rows-tile-file)
 
-  -- "Every byte belongs to one row": to a row, and to no other.
+  -- A byte is a row's, and no other row's.
   pub byte-has-row : (i : ℕ) → i < length bs → (j : ℕ) × (j < length (rowsOf f)) × Owns isBox (row (rowsOf f) j) i
   byte-has-row i l = owner isBox 0 (length bs) (rowsOf f) i rows-tile-file (omega arith) l
 
@@ -146,7 +146,7 @@ module _ (bs : List ℕ) (f : File) (h : Bytes bs) (e : readFile bs ≡ ok f) wh
       → Owns isBox (row (rowsOf f) j) i → Owns isBox (row (rowsOf f) k) i → j ≡ k
   byte-has-one-row i j k lj lk oj ok′ = owner-one isBox 0 (length bs) (rowsOf f) i rows-tile-file j k lj lk oj ok′
 
-  -- "Each child inside its one parent": after the parent's own eight bytes, within its whole length, and in no other container.
+  -- A child lies behind its parent's own eight bytes, within its whole length, and in no other container.
   pub child-inside-parent : (j : ℕ) → j < length (rowsOf f) → OneParent isBox (rowsOf f) (row (rowsOf f) j)
   child-inside-parent = rows-inside f
 

@@ -21,7 +21,7 @@ use Rattle.demands.specs.Edited.{pair}
 use Rattle.demands.proofs.RecordLaws.{found-body}
 use Rattle.demands.proofs.PartLaws.{byte-found, rule-found}
 
-module _ (o : Order) (bs : List ℕ) (place : ℕ) (r : Record) (h : Bytes bs) (found : recordFound o bs place ≡ ok r) (trace : r .kind ≡ 0x11) where
+module _ (o : Order) (bs : List ℕ) (place : ℕ) (r : Record) (h : Bytes bs) (found : recordFound o bs place ≡ ok r) (trace : r .word ≡ 0x11) where
   abbrev part : List ℕ
   part = drop 48 (r .body)
 
@@ -63,7 +63,7 @@ module _ (o : Order) (bs : List ℕ) (place : ℕ) (r : Record) (h : Bytes bs) (
 
     sample-shown : sampleAt o bs place k ≡ accepted (counts (sampleIn o part k ∷ []))
     unfolding sampleAt traceOf
-    sample-shown = rw (found, eq-eqb (r .kind) 0x11 trace, le-leb 1 k lo, le-leb k (word o 44 (r .body)) hi)
+    sample-shown = rw (found, eq-eqb (r .word) 0x11 trace, le-leb 1 k lo, le-leb k (word o 44 (r .body)) hi)
 
     -- Sample k, from 1, of as many as the trace's last word counts: two bytes, the lower first, behind 56 bytes and the samples before it.
     pub sample-of-trace : sampleAt o bs place k ≡ accepted (counts (pair o bs (place + 56) k ∷ []))

@@ -31,10 +31,10 @@ trace-kind k =
     (λ e. absurd (omega arith)) (λ e. absurd (omega arith)) (λ e. absurd (omega arith)) (λ e. absurd (omega arith))
 
 -- An entry is no trace.
-pub entry-no-trace : (o : Order) (r : Record) → ValidRecord o entry r → kindOf (r .kind) .row ≡ 7 → ⊥
+pub entry-no-trace : (o : Order) (r : Record) → ValidRecord o entry r → kindOf (r .word) .row ≡ 7 → ⊥
 unfolding isKind
 entry-no-trace o r v e =
-    let k : r .kind ≡ traceKind .word = trace-kind (r .kind) e in
+    let k : r .word ≡ traceKind .word = trace-kind (r .word) e in
     let f : isKind entry (traceKind .word) ≡ true = subst (λ (n : ℕ). isKind entry n ≡ true) k (v .kind-allowed) in
     mathlib.Core.Bool.false≢true f
 
@@ -66,11 +66,11 @@ unfolding rowRecords
 records-split o v c p t =
     let here : List (Option Record) = none ∷ map some (p .left) in
     let rest : List (Option Record) = some t ∷ recordsAfter p in
-    let box : containerRecords (record { kind = p .word; body = p .left ++ t ∷ p .right }) ++ eventsRecords (p .after) ≡ here ++ rest =
+    let box : containerRecords (record { word = p .word; body = p .left ++ t ∷ p .right }) ++ eventsRecords (p .after) ≡ here ++ rest =
     ap (λ (l : List (Option Record)). (none ∷ l) ++ eventsRecords (p .after)) (map-append (p .left) (t ∷ p .right))
     ∙ append-assoc here (some t ∷ map some (p .right)) (eventsRecords (p .after)) in
     ap (λ (l : List (Option Record)). none ∷ (containerRecords c ++ l))
-    (eventsRecords-append (p .before) (record { kind = p .word; body = p .left ++ t ∷ p .right } ∷ p .after)
+    (eventsRecords-append (p .before) (record { word = p .word; body = p .left ++ t ∷ p .right } ∷ p .after)
     ∙ ap (λ (l : List (Option Record)). eventsRecords (p .before) ++ l) box
     ∙ sym (append-assoc (eventsRecords (p .before)) here rest))
     ∙ ap (λ (l : List (Option Record)). none ∷ l) (sym (append-assoc (containerRecords c) (eventsRecords (p .before) ++ here) rest))
@@ -80,7 +80,7 @@ records-split o v c p t =
 -- Row n is a trace: the file with that trace in its spot.
 abbrev pub Found : Order → File → ℕ → Row → Type 0
 Found o f n r = r .kind ≡ 7 → (p : Spot) × (t : Record) × (eventsOf f ≡ plug p t) × (n ≡ length (recordsBefore (configurationOf f) p))
-    × (r .start ≡ placeOf o (configurationOf f) p) × (r .whole ≡ recordSize t) × (t .kind ≡ traceKind .word)
+    × (r .start ≡ placeOf o (configurationOf f) p) × (r .whole ≡ recordSize t) × (t .word ≡ traceKind .word)
 
 length-records : (rs : List Record) → length (map {B = Option Record} some rs) ≡ length rs
 length-records rs = length-map rs some
@@ -121,7 +121,7 @@ module _ (f : File) where
 
     -- Its records: those passed, then those to come, the first of them at the place `at` and in row n.
     found-children : (left rs : List Record) (i at n : ℕ)
-        → eventsOf f ≡ before ++ record { kind = word; body = left ++ rs } ∷ after
+        → eventsOf f ≡ before ++ record { word = word; body = left ++ rs } ∷ after
         → at ≡ placeOf o (configurationOf f) (passed left) → n ≡ length (recordsBefore (configurationOf f) (passed left))
         → AllFrom (Found o f) n (recordRows o i at rs)
     unfolding childRows childOf
@@ -130,9 +130,9 @@ module _ (f : File) where
         let more : List Record = left ++ r ∷ [] in
         let bytes-more : length (recordsBytes o more) ≡ length (recordsBytes o left) + recordSize r =
         length-encs (recordItem o) left r [] ∙ omega arith in
-        let regroup = ap (λ (b : List Record). before ++ record { kind = word; body = b } ∷ after) (sym (append-assoc left (r ∷ []) rs)) in
+        let regroup = ap (λ (b : List Record). before ++ record { word = word; body = b } ∷ after) (sym (append-assoc left (r ∷ []) rs)) in
         let spot : Spot = record { before = before; word = word; left = left; right = rs; after = after } in (
-          (λ k. (spot, r, e, en, ea, refl, trace-kind (r .kind) k)),
+          (λ k. (spot, r, e, en, ea, refl, trace-kind (r .word) k)),
           found-children more rs i (at + recordSize r) (suc n) (e ∙ regroup) (omega arith)
               (omega (arith, rows-before left, rows-before more, length-append left (r ∷ []))),
         )
@@ -158,10 +158,10 @@ module _ (f : File) where
         length-append (containerRecords x) [],
         length-records (x .body),
       ) in
-      let first = rows-before before (x .kind) es [] in (
+      let first = rows-before before (x .word) es [] in (
         (λ k. absurd (omega arith)),
         AllFrom-append (Found o f) (suc n) kids (eventRows o (nextRow o i x) (nextPlace o at x) es)
-            (found-children before (x .kind) es [] (x .body) i (at + 8) (suc n) e (omega arith) (omega arith))
+            (found-children before (x .word) es [] (x .body) i (at + 8) (suc n) e (omega arith) (omega arith))
             (found-events more es (nextRow o i x) (nextPlace o at x) (suc n + length kids)
             (e ∙ sym (append-assoc before (x ∷ []) es))
             (omega (arith, children-total o (x .body)))

@@ -13,7 +13,7 @@ use Rattle.theory.specs.Layout.{Row, Child, noRow, childRows, rows, row}
 use Rattle.theory.proofs.LayoutLaws.{All, All-append, All-at, length-childRows}
 use Rattle.note.specs.Administrative.{administrativeKind, administrativeOf}
 use Rattle.note.specs.Trace.{traceKind, traceOf}
-use Rattle.note.specs.Records.{Record, entry, event, none, behind, recordSize, recordsBytes, kindOf}
+use Rattle.note.specs.Records.{Record, entry, event, unseen, behind, recordSize, recordsBytes, kindOf}
 use Rattle.note.specs.Events.{Container, containerSize}
 use Rattle.note.specs.Files.{File, orderIn, versionOf, configurationOf, eventsOf}
 use Rattle.note.specs.Rows.{childOf, childrenOf, nodesOf, rowsOf}
@@ -33,9 +33,9 @@ first-row : (o : Order) (i at : ℕ) (e : Container) (more : List Row) → Valid
 unfolding childRows childOf kindOf administrativeOf
 first-row o i at e more v = go (e .body) (v .not-empty) (v .records-valid)
   where
-    go : (rs : List Record) → 1 ≤ length (recordsBytes o rs) → ValidRecords o (event none) rs → Numbered o (recordRows o i at rs ++ more) rs
+    go : (rs : List Record) → 1 ≤ length (recordsBytes o rs) → ValidRecords o (event unseen) rs → Numbered o (recordRows o i at rs ++ more) rs
     go [] l w = absurd (omega arith)
-    go (r ∷ rs) l w = let k : r .kind ≡ administrativeKind .word = first-administrative o r (w .0) in (rw k, rw k)
+    go (r ∷ rs) l w = let k : r .word ≡ administrativeKind .word = first-administrative o r (w .0) in (rw k, rw k)
 
 -- The rows of entries tell of no trace.
 no-entries : (o : Order) (all : List Row) (i at : ℕ) (rs : List Record) (more : List Row) → ValidRecords o entry rs
@@ -43,7 +43,7 @@ no-entries : (o : Order) (all : List Row) (i at : ℕ) (rs : List Record) (more 
 unfolding rowTraces childRows childOf behind
 no-entries o all i at [] more v = refl
 no-entries o all i at (r ∷ rs) more v =
-    rw (ne-eqb (kindOf (r .kind) .row) (traceKind .row) (entry-no-trace o r (v .0)))
+    rw (ne-eqb (kindOf (r .word) .row) (traceKind .row) (entry-no-trace o r (v .0)))
     (no-entries o all i (at + recordSize r) rs more (v .1))
 
 module _ (o : Order) (all : List Row) where
@@ -54,11 +54,11 @@ module _ (o : Order) (all : List Row) where
   children i at [] more = refl
   children i at (r ∷ rs) more =
       let rest = children i (at + recordSize r) rs more in
-      elim (ℕ-discrete (r .kind) (traceKind .word)) [
+      elim (ℕ-discrete (r .word) (traceKind .word)) [
         | yes k ↦ rw k (ap (λ (ts : List TraceAt). record { number = row all i .one; code = traceOf o (r .body) .code; place = at } ∷ ts) rest)
         | no d ↦
-            let other = ne-eqb (kindOf (r .kind) .row) (traceKind .row) (λ q. d (trace-kind (r .kind) q)) in
-            rw (other, ne-eqb (r .kind) (traceKind .word) d) rest
+            let other = ne-eqb (kindOf (r .word) .row) (traceKind .row) (λ q. d (trace-kind (r .word) q)) in
+            rw (other, ne-eqb (r .word) (traceKind .word) d) rest
       ]
 
   -- Where a row is a trace's, the row behind its parent's is administrative.

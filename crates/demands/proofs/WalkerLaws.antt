@@ -23,7 +23,7 @@ module _ (bs old : List ℕ) (f : File) (e : readFile bs ≡ ok f) (room : rowWi
       rw (e, lt-ltb k (length (rowsOf f)) below, le-leb (rowWidth * length (rowsOf f)) (length old) room)
       (ap (λ (x : List ℕ). accepted (counts x)) (sym (flat-at (rowsOf f) (drop (rowWidth * length (rowsOf f)) old) k below)))
 
-  -- From there on it is the end, again and again.
+  -- From there on it is the end, however often it is asked.
   pub yields-end : (k : ℕ) → tableAnswer bs (length old) .count ≤ k → yieldAt bs k ≡ accepted []
   unfolding tableAnswer yieldAt
   yields-end k l =

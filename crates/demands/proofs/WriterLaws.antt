@@ -21,16 +21,16 @@ use Rattle.note.specs.Phonon.{Phonon, phononKind, phononBytes}
 use Rattle.note.specs.Charge.{Charge, chargeKind, chargeBytes}
 use Rattle.note.specs.Administrative.{Administrative, administrativeKind, administrativeBytes}
 use Rattle.note.specs.Trace.{Trace, traceKind, traceWords, traceBytes, traceOf}
-use Rattle.note.specs.History.{Section, History, historyKind, widthAt, widthOf, after, triggerAt, sectionOf, historyOf}
+use Rattle.note.specs.History.{Section, History, historyKind, widthAt, widthOf, endAt, triggerAt, sectionOf, historyOf}
 use Rattle.note.specs.History.{sectionBytes, historyBytes, historyFault, sectionValues}
 use Rattle.note.specs.Gps.{Gps, gpsKind, gpsBytes}
 use Rattle.note.specs.Trigger.{Trigger, triggerKind, triggerBytes}
 use Rattle.note.specs.Tlb.{Tlb, tlbKind, tlbBytes}
-use Rattle.note.specs.Records.{Record, alone, isKind, isAllowed, kindOf, recordBytes, recordRule, readRecord}
+use Rattle.note.specs.Records.{Record, alone, isKind, isAllowed, kindOf, recordBytes, readRecord}
 use Rattle.note.specs.Files.{versionWord, headerBytes}
-use Rattle.note.specs.Writers.{Written, wrapped, recordWrote, recordOutput, headerWrote, headerOutput}
-use Rattle.note.specs.Writers.{phononWritten, chargeWritten, administrativeWritten, traceWritten, historyWritten}
-use Rattle.note.specs.Writers.{gpsWritten, triggerWritten, tlbWritten}
+use Rattle.note.specs.Writers.{Draft, wrapped, recordNext, recordOutput, headerNext, headerOutput}
+use Rattle.note.specs.Writers.{phononDraft, chargeDraft, administrativeDraft, traceDraft, historyDraft}
+use Rattle.note.specs.Writers.{gpsDraft, triggerDraft, tlbDraft}
 use Rattle.note.specs.Answers.{Value, accepted, count, counts}
 use Rattle.note.specs.Calls.{recordFound, recordGiven, recordAt, partGiven, samplesPart, samplesAt}
 use Rattle.note.proofs.FieldLaws.{phonon-read-back, charge-read-back, administrative-read-back, trigger-read-back, tlb-read-back}
@@ -39,7 +39,7 @@ use Rattle.note.proofs.HistoryLaws.{history-read-back}
 use Rattle.note.proofs.GpsLaws.{gps-read-back}
 use Rattle.demands.specs.Valid.{ValidRecord}
 use Rattle.demands.specs.Pieces.{Piece, phonon, charge, administrative, trace, history, gps, trigger, tlb}
-use Rattle.demands.specs.Pieces.{writtenOf, ofKind, recordOf, SectionFits, PieceFits, timesFrom, masksFrom}
+use Rattle.demands.specs.Pieces.{draftOf, ofKind, recordOf, Writes, SectionFits, PieceFits, timesFrom, masksFrom}
 use Rattle.demands.specs.Pieces.{sectionAnswer, sectionSize, vetoFrom, triggerFrom, answerOf}
 use Rattle.demands.specs.Outputs.{Laid, SectionStands}
 use Rattle.demands.proofs.Bundles.{headerItem}
@@ -49,12 +49,12 @@ use Rattle.demands.proofs.OutputLaws.{structure-apart, laid-from, put-l
 
 -- ---- one record
 
-module _ (out : List ℕ) (place next : ℕ) (w : Written) (e : recordWrote out place w ≡ ok next) where
+module _ (out : List ℕ) (place next : ℕ) (w : Draft) (e : recordNext out place w ≡ ok next) where
   pub record-granted : Granted (length out) place (w .fault) (length (w .bytes)) next
-  unfolding recordWrote
+  unfolding recordNext
   record-granted = granted (length out) place (w .fault) (length (w .bytes)) next e
 
-  -- "Output bytes that the written structure doesn't occupy .. stay."
+  -- The record's bytes stand there, and every other byte of the output is as it was (FORMAT 9.1).
   pub record-laid : Laid out (recordOutput out place w) place next (w .bytes)
   unfolding recordOutput
   record-laid =
@@ -62,16 +62,16 @@ module _ (out : List ℕ) (place next : ℕ) (w : Written) (e : recordWrote out 
       rw (e, ← g .is) (put-laid out (w .bytes) place (place + length (w .bytes)) (g .room))
 
 -- A refusal leaves the output as it was.
-pub record-refused : (out : List ℕ) (place : ℕ) (w : Written) (c p : ℕ) → recordWrote out place w ≡ bad c p
+pub record-refused : (out : List ℕ) (place : ℕ) (w : Draft) (c p : ℕ) → recordNext out place w ≡ bad c p
     → recordOutput out place w ≡ out
 unfolding recordOutput
-record-refused out place w c p e = refusal-keeps (recordWrote out place w) out (w .bytes) place c p e
+record-refused out place w c p e = refusal-keeps (recordNext out place w) out (w .bytes) place c p e
 
 -- ---- the header
 
-pub header-laid : (o : Order) (out : List ℕ) (major minor next : ℕ) → headerWrote out ≡ ok next
+pub header-laid : (o : Order) (out : List ℕ) (major minor next : ℕ) → headerNext out ≡ ok next
     → Laid out (headerOutput o out major minor) 0 next (headerBytes o (versionWord major minor))
-unfolding headerWrote headerOutput
+unfolding headerNext headerOutput
 header-laid o out major minor next e =
     let g = granted (length out) 0 0 8 next e in
     let v : ℕ = versionWord major minor in
@@ -79,22 +79,14 @@ header-laid o out major minor next e =
     let is : 0 + length (headerBytes o v) ≡ next = ap (λ (n : ℕ). 0 + n) (sym eight) ∙ g .is in
     rw (e, ← is) (put-laid out (headerBytes o v) 0 (0 + length (headerBytes o v)) (omega (arith, eight, g .room)))
 
-pub header-refused : (o : Order) (out : List ℕ) (major minor c p : ℕ) → headerWrote out ≡ bad c p → headerOutput o out major minor ≡ out
+pub header-refused : (o : Order) (out : List ℕ) (major minor c p : ℕ) → headerNext out ≡ bad c p → headerOutput o out major minor ≡ out
 unfolding headerOutput
-header-refused o out major minor c p e = refusal-keeps (headerWrote out) out (headerBytes o (versionWord major minor)) 0 c p e
+header-refused o out major minor c p e = refusal-keeps (headerNext out) out (headerBytes o (versionWord major minor)) 0 c p e
 
 -- ---- any record is found
 
--- A writer's way to write the record r: its bytes, and, where the fields have no fault, a body that follows the kind's rule.
-pub record Writes (o : Order) (w : Written) (r : Record) : Type 0 where
-  pub bytes-are : w .bytes ≡ recordBytes o r
-  pub kind-known : isKind alone (r .kind) ≡ true
-  pub kind-fits : Fits 4 (r .kind)
-  pub body-bytes : Bytes (r .body)
-  pub body-rule : w .fault ≡ 0 → recordRule o (r .kind) (r .body) ≡ 0
-
 -- What any writer wrote, Record finds there.
-module _ (o : Order) (out : List ℕ) (place next : ℕ) (w : Written) (r : Record) (h : Writes o w r) (e : recordWrote out place w ≡ ok next) where
+module _ (o : Order) (out : List ℕ) (place next : ℕ) (w : Draft) (r : Record) (h : Writes o w r) (e : recordNext out place w ≡ ok next) where
   pub written-valid : ValidRecord o alone r
   unfolding isAllowed
   written-valid =
@@ -128,7 +120,7 @@ module _ (o : Order) (out : List ℕ) (place next : ℕ) (w : Written) (r : Reco
       let rest : List ℕ = drop next out in
       sym (drop-drop 8 place (recordOutput out place w))
       ∙ ap (drop 8) (written-from ∙ structure-apart o (λ (b : List ℕ). b) r rest)
-      ∙ drop-two o (r .kind) (length (r .body)) (r .body ++ rest)
+      ∙ drop-two o (r .word) (length (r .body)) (r .body ++ rest)
 
 -- ---- the eight kinds
 
@@ -150,9 +142,9 @@ section-bytes o s h =
     (Bytes-append (s .times) _ (h .0)
     (Bytes-append (words o (s .width ∷ [])) _ (Bytes-puts o 4 (s .width ∷ [])) (h .1)))
 
-pub piece-writes : (o : Order) (p : Piece) → PieceFits p → Writes o (writtenOf o p) (recordOf o p)
-unfolding writtenOf recordOf PieceFits kindOf isKind
-    phononWritten chargeWritten administrativeWritten traceWritten historyWritten gpsWritten triggerWritten tlbWritten
+pub piece-writes : (o : Order) (p : Piece) → PieceFits p → Writes o (draftOf o p) (recordOf o p)
+unfolding draftOf recordOf PieceFits kindOf isKind
+    phononDraft chargeDraft administrativeDraft traceDraft historyDraft gpsDraft triggerDraft tlbDraft
     phononBytes chargeBytes administrativeBytes traceBytes historyBytes gpsBytes triggerBytes tlbBytes
 piece-writes o (phonon f) h = writes o phononKind (phononBytes o f) _ refl refl (omega arith) (Bytes-puts o 4 _) (λ e. phonon-read-back o f h e .0)
 piece-writes o (charge f) h = writes o chargeKind (chargeBytes o f) _ refl refl (omega arith) (Bytes-puts o 4 _) (λ e. charge-read-back o f h e .0)
@@ -182,8 +174,8 @@ section-answer o from p b s e =
     let masks : from + (p + 4 + 4 * word o p b + 4) ≡ from + p + 8 + 4 * s .count = omega arith in
     λ i. counted i ∷ times i ∷ wide i ∷ masks i ∷ []
 
-after-section : (o : Order) (p : ℕ) (b : List ℕ) (s : Section) → sectionOf o p b ≡ s → after o p b ≡ p + sectionSize s
-unfolding after sectionOf widthAt
+after-section : (o : Order) (p : ℕ) (b : List ℕ) (s : Section) → sectionOf o p b ≡ s → endAt o p b ≡ p + sectionSize s
+unfolding endAt sectionOf widthAt
 after-section o p b s e =
     let counted : word o p b ≡ s .count = ap (λ (x : Section). x .count) e in
     let wide : widthOf o p b ≡ s .width = ap (λ (x : Section). x .width) e in
@@ -214,9 +206,9 @@ module _ (o : Order) (place : ℕ) (f : History) (e : historyFault f ≡ 0) wher
       (section-answer o (place + 8) (triggerAt o b) b (f .trigger) trigger-is ∙ ap (λ (n : ℕ). sectionAnswer n (f .trigger)) trigger-place)
 
 -- The fields of the body of fields are the fields.
-fields-are : (o : Order) (place : ℕ) (p : Piece) → PieceFits p → writtenOf o p .fault ≡ 0 → recordGiven o place (ok (recordOf o p)) ≡ answerOf place p
-unfolding writtenOf recordOf PieceFits answerOf kindOf
-    phononWritten chargeWritten administrativeWritten traceWritten historyWritten gpsWritten triggerWritten tlbWritten
+fields-are : (o : Order) (place : ℕ) (p : Piece) → PieceFits p → draftOf o p .fault ≡ 0 → recordGiven o place (ok (recordOf o p)) ≡ answerOf place p
+unfolding draftOf recordOf PieceFits answerOf kindOf
+    phononDraft chargeDraft administrativeDraft traceDraft historyDraft gpsDraft triggerDraft tlbDraft
 fields-are o place (phonon f) h e = ap (λ (g : Phonon). answerOf place (phonon g)) (phonon-read-back o f h e .1)
 fields-are o place (charge f) h e = ap (λ (g : Charge). answerOf place (charge g)) (charge-read-back o f h e .1)
 fields-are o place (administrative f) h e = ap (λ (g : Administrative). answerOf place (administrative g)) (administrative-read-back o f h e .1)
@@ -228,19 +220,19 @@ fields-are o place (tlb f) h e = ap (λ (g : Tlb). answerOf place (tlb g)) (tlb-
 
 module _ (o : Order) (out : List ℕ) (place next : ℕ) where
   -- For every kind: what the writer wrote, Record reads back the same, at that place.
-  pub piece-reads : (p : Piece) → PieceFits p → recordWrote out place (writtenOf o p) ≡ ok next
-      → recordAt o (recordOutput out place (writtenOf o p)) place ≡ answerOf place p
+  pub piece-reads : (p : Piece) → PieceFits p → recordNext out place (draftOf o p) ≡ ok next
+      → recordAt o (recordOutput out place (draftOf o p)) place ≡ answerOf place p
   unfolding recordAt
   piece-reads p h e =
-      ap (recordGiven o place) (record-found o out place next (writtenOf o p) (recordOf o p) (piece-writes o p h) e)
-      ∙ fields-are o place p h (record-granted out place next (writtenOf o p) e .fine)
+      ap (recordGiven o place) (record-found o out place next (draftOf o p) (recordOf o p) (piece-writes o p h) e)
+      ∙ fields-are o place p h (record-granted out place next (draftOf o p) e .fine)
 
   -- A trace's samples, which Samples finds.
-  pub samples-read : (f : Trace) → PieceFits (trace f) → recordWrote out place (traceWritten o f) ≡ ok next
-      → samplesAt o (recordOutput out place (traceWritten o f)) place ≡ f .samples
-  unfolding writtenOf recordOf PieceFits traceWritten traceOf samplesAt samplesPart
+  pub samples-read : (f : Trace) → PieceFits (trace f) → recordNext out place (traceDraft o f) ≡ ok next
+      → samplesAt o (recordOutput out place (traceDraft o f)) place ≡ f .samples
+  unfolding draftOf recordOf PieceFits traceDraft traceOf samplesAt samplesPart
   samples-read f h e =
-      let w : Written = traceWritten o f in
+      let w : Draft = traceDraft o f in
       let new : List ℕ = recordOutput out place w in
       let body : List ℕ = traceBytes o f in
       let rest : List ℕ = drop next out in
@@ -294,12 +286,12 @@ module _ (o : Order) (bs b rest : List ℕ) (from p : ℕ) (s : Section) (stands
 
 -- A history's lists stand where Record's answer says.
 pub lists-stand : (o : Order) (out : List ℕ) (place next : ℕ) (f : History) → PieceFits (history f)
-    → recordWrote out place (historyWritten o f) ≡ ok next
-    → SectionStands (recordOutput out place (historyWritten o f)) (vetoFrom place f) (f .veto)
-    × SectionStands (recordOutput out place (historyWritten o f)) (triggerFrom place f) (f .trigger)
-unfolding writtenOf recordOf PieceFits historyWritten
+    → recordNext out place (historyDraft o f) ≡ ok next
+    → SectionStands (recordOutput out place (historyDraft o f)) (vetoFrom place f) (f .veto)
+    × SectionStands (recordOutput out place (historyDraft o f)) (triggerFrom place f) (f .trigger)
+unfolding draftOf recordOf PieceFits historyDraft
 lists-stand o out place next f h e =
-    let w : Written = historyWritten o f in
+    let w : Draft = historyDraft o f in
     let b : List ℕ = historyBytes o f in
     let rest : List ℕ = drop next out in
     let new : List ℕ = recordOutput out place w in

@@ -14,13 +14,14 @@ use Rattle.theory.specs.declared.Order.{Order}
 use Rattle.theory.specs.Tests.{Res, ok, bad, need, bind, unless, first}
 use Rattle.theory.proofs.TestLaws.{ok-bad, bad-ok, ok-inj, need-ok, most-passed, most-passes}
 use Rattle.note.specs.Limits.{fileLimit}
-use Rattle.note.specs.Records.{Record, Context, entry, event, none, readRecords}
-use Rattle.note.specs.Events.{eventFault}
-use Rattle.note.specs.Writers.{Written, wrote, recordWrote, headerWrote, contentsOf, ended, within, configurationClosed, eventClosed}
+use Rattle.note.specs.Records.{Record, Context, entry, event, unseen, readRecords}
+use Rattle.note.specs.Events.{eventFault, eventWord, eventLate}
+use Rattle.note.specs.Writers.{Draft, writerNext, recordNext, headerNext, contentsOf, endGiven, within, configurationClosed, eventClosed}
 use Rattle.note.specs.Asked.{asks, fine}
+use Rattle.note.specs.Readings.{EventAsked}
 use Rattle.note.proofs.AskedLaws.{Gives, no-more, asked, gate, last-gate}
-use Rattle.note.proofs.BoolLaws.{le-tells}
-use Rattle.note.proofs.WordRuleLaws.{EventAsked, event-gives}
+use Rattle.note.proofs.BoolLaws.{Tells, le-tells}
+use Rattle.note.proofs.WordRuleLaws.{event-gives}
 use Rattle.demands.specs.WriterRefusals.{WriterRefused, output-over, field-fault, no-room, WriterGranted}
 use Rattle.demands.specs.WriterRefusals.{Lies, ClosingRefused, closing-over, closing-room, own-word, contents}
 
@@ -64,8 +65,8 @@ module _ (out : List ℕ) (place fault size : ℕ) where
       → (length out < place + size) × (c ≡ 13) × (p ≡ place)
   last-test c p = ⊎-elim (λ h. h) (λ h. absurd (ok-bad (h .1)))
 
-  writer-refused : (c p : ℕ) → (wrote (length out) place fault size ≡ bad c p) ↔ WriterRefused out place fault size c p
-  unfolding wrote
+  writer-refused : (c p : ℕ) → (writerNext (length out) place fault size ≡ bad c p) ↔ WriterRefused out place fault size c p
+  unfolding writerNext
   writer-refused c p =
       let room = bound-bad {A = ℕ} (place + size) (length out) 12 place (ok (place + size)) c p in
       let field = need-bad {A = ℕ} fault place (need (unless (leb (place + size) (length out)) 13) place (ok (place + size))) c p in
@@ -84,8 +85,8 @@ module _ (out : List ℕ) (place fault size : ℕ) where
         ]),
       )
 
-  writer-granted : (next : ℕ) → (wrote (length out) place fault size ≡ ok next) ↔ WriterGranted out place fault size next
-  unfolding wrote
+  writer-granted : (next : ℕ) → (writerNext (length out) place fault size ≡ ok next) ↔ WriterGranted out place fault size next
+  unfolding writerNext
   writer-granted next = (
     λ e.
         let (l, e1) = need-ok (unless (leb (length out) fileLimit) 1) 0 _ e in
@@ -100,27 +101,27 @@ module _ (out : List ℕ) (place fault size : ℕ) where
     λ g. rw (most-passes 1 (g .within), g .faultless, most-passes 13 (g .room), g .ends),
   )
 
-pub writer-refused-exact : (out : List ℕ) (place : ℕ) (w : Written) (c p : ℕ)
-    → (recordWrote out place w ≡ bad c p) ↔ WriterRefused out place (w .fault) (length (w .bytes)) c p
-unfolding recordWrote
+pub writer-refused-exact : (out : List ℕ) (place : ℕ) (w : Draft) (c p : ℕ)
+    → (recordNext out place w ≡ bad c p) ↔ WriterRefused out place (w .fault) (length (w .bytes)) c p
+unfolding recordNext
 writer-refused-exact out place w c p = writer-refused out place (w .fault) (length (w .bytes)) c p
 
-pub writer-granted-exact : (out : List ℕ) (place : ℕ) (w : Written) (next : ℕ)
-    → (recordWrote out place w ≡ ok next) ↔ WriterGranted out place (w .fault) (length (w .bytes)) next
-unfolding recordWrote
+pub writer-granted-exact : (out : List ℕ) (place : ℕ) (w : Draft) (next : ℕ)
+    → (recordNext out place w ≡ ok next) ↔ WriterGranted out place (w .fault) (length (w .bytes)) next
+unfolding recordNext
 writer-granted-exact out place w next = writer-granted out place (w .fault) (length (w .bytes)) next
 
-pub header-refused-exact : (out : List ℕ) (c p : ℕ) → (headerWrote out ≡ bad c p) ↔ WriterRefused out 0 0 8 c p
-unfolding headerWrote
+pub header-refused-exact : (out : List ℕ) (c p : ℕ) → (headerNext out ≡ bad c p) ↔ WriterRefused out 0 0 8 c p
+unfolding headerNext
 header-refused-exact out c p = writer-refused out 0 0 8 c p
 
-pub header-granted-exact : (out : List ℕ) (next : ℕ) → (headerWrote out ≡ ok next) ↔ WriterGranted out 0 0 8 next
-unfolding headerWrote
+pub header-granted-exact : (out : List ℕ) (next : ℕ) → (headerNext out ≡ ok next) ↔ WriterGranted out 0 0 8 next
+unfolding headerNext
 header-granted-exact out next = writer-granted out 0 0 8 next
 
 -- ---- the closings
 
-ended-bad : (end : ℕ) (r : Res (List Record)) (c p : ℕ) → (ended end r ≡ bad c p) ↔ (r ≡ bad c p)
+ended-bad : (end : ℕ) (r : Res (List Record)) (c p : ℕ) → (endGiven end r ≡ bad c p) ↔ (r ≡ bad c p)
 ended-bad end (ok rs) c p = (λ e. absurd (ok-bad e), λ e. absurd (ok-bad e))
 ended-bad end (bad d q) c p = (
   λ e. let same : (d ≡ c) × (q ≡ p) = bad-same e in ap₂ (λ (x y : ℕ). bad x y) (same .0) (same .1),
@@ -130,7 +131,7 @@ ended-bad end (bad d q) c p = (
 -- Any container: its own tests, and what they ask.
 module _ (o : Order) (c : Context) (Own : ℕ → Type 0) (cs : List ℕ) (given : Gives cs Own) (out : List ℕ) (place end n p : ℕ) where
   inner : Res ℕ
-  inner = ended end (readRecords o c (place + 8) (contentsOf out place end))
+  inner = endGiven end (readRecords o c (place + 8) (contentsOf out place end))
 
   behind-tests : Res ℕ
   behind-tests = need (first cs) place inner
@@ -184,15 +185,20 @@ pub configuration-refused-exact : (o : Order) (out : List ℕ) (place end n p : 
 unfolding configurationClosed first inner behind-tests
 configuration-refused-exact o out place end n p = closing-refused o entry fine [] no-more out place end n p
 
+-- That there are contents: the end lies behind the two words.
+some-tells : (place end : ℕ) → Tells (leb 1 (end - (place + 8))) (place + 9 ≤ end)
+some-tells place end = let t = le-tells 1 (end - (place + 8)) in (λ e. let l = t .0 e in omega arith, λ h. t .1 (omega arith))
+
 -- An event's closing asks for class, category and type, then for contents.
 pub event-refused-exact : (o : Order) (out : List ℕ) (place end class category type n p : ℕ)
     → (eventClosed o out place end class category type ≡ bad n p)
-    ↔ ClosingRefused o (event none) (EventAsked class category type (asks (place + 9 ≤ end) 9 fine)) out place end n p
+    ↔ ClosingRefused o (event unseen) (EventAsked class category type (asks (place + 9 ≤ end) 9 fine)) out place end n p
 unfolding eventClosed inner behind-tests
 event-refused-exact o out place end class category type n p =
-    let tests : List ℕ = eventFault class category type ∷ unless (leb (place + 9) end) 9 ∷ [] in
-    let rest : Res ℕ = ended end (readRecords o (event none) (place + 8) (contentsOf out place end)) in
-    let chain : need (eventFault class category type) place (need (unless (leb (place + 9) end) 9) place rest) ≡ need (first tests) place rest =
+    let late : ℕ = eventLate (eventWord class category type) (end - (place + 8)) in
+    let tests : List ℕ = eventFault class category type ∷ late ∷ [] in
+    let rest : Res ℕ = endGiven end (readRecords o (event unseen) (place + 8) (contentsOf out place end)) in
+    let chain : need (eventFault class category type) place (need late place rest) ≡ need (first tests) place rest =
     gate _ place _ rest (last-gate _ place rest) in
     rw chain (
-    closing-refused o (event none) _ tests (event-gives class category type (asked (le-tells (place + 9) end) no-more)) out place end n p)
+    closing-refused o (event unseen) _ tests (event-gives class category type (asked (some-tells place end) no-more)) out place end n p)

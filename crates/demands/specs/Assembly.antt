@@ -1,5 +1,6 @@
--- Document 01, 'Rows and calls', of writers: a file assembled in one output by header, entries, closing, records, closings, each call from
--- the place that the call before it answered.
+-- A whole file made in one output by the writers: header, entries, closing, then for each event records and closing, each call from the place that
+-- the call before it answered. What is handed over is a tree of pieces; what is asked of it is split by who asks: the caller's types (Fits), the
+-- writers (Faultless), the closings (Placed). So the theorem can say exactly when the calls succeed, and what then stands in the output.
 use Prim.Native.Nat.{ℕ, _+_, _≤_, _<_}
 use mathlib.Core.Path.{_≡_}
 use mathlib.Core.Bool.{true}
@@ -7,23 +8,23 @@ use mathlib.Core.List.{List, [], _∷_, map}
 use lib.ListN.{length, take, drop}
 use Rattle.theory.specs.declared.Order.{Order}
 use Rattle.theory.specs.Tests.{Res, ok, bind}
-use Rattle.note.specs.Records.{Context, entry, event, none, isKind, isAllowed, behind}
+use Rattle.note.specs.Records.{Context, entry, event, unseen, isKind, isAllowed, behind}
 use Rattle.note.specs.Events.{Container, eventWord, eventFault}
 use Rattle.note.specs.Files.{File, versionWord, configurationWord, readFile}
-use Rattle.note.specs.Writers.{recordWrote, recordOutput, headerWrote, headerOutput}
+use Rattle.note.specs.Writers.{recordNext, recordOutput, headerNext, headerOutput}
 use Rattle.note.specs.Writers.{configurationClosed, configurationOutput, eventClosed, eventOutput}
-use Rattle.demands.specs.Pieces.{Piece, writtenOf, recordOf, PieceFits}
+use Rattle.demands.specs.Pieces.{Piece, draftOf, recordOf, PieceFits}
 
 -- ---- the pieces
 
--- "An event's closing takes its class, category and type as numbers"; its records.
+-- FORMAT 9.4: what makes an event: the three numbers that its closing takes, and its records.
 pub record EventPieces : Type 0 where
   pub class : ℕ
   pub category : ℕ
   pub type : ℕ
   pub records : List Piece
 
--- "The file header's writer takes the two DAQ bytes"; the configuration's entries; the events.
+-- FORMAT 9.3: what makes a file: the two bytes that the header's writer takes; the configuration's entries; the events.
 pub record FilePieces : Type 0 where
   pub major : ℕ
   pub minor : ℕ
@@ -45,11 +46,11 @@ pub record FileFits (f : FilePieces) : Type 0 where
   pub entries : AllFitting (f .entries)
   pub events : EventsFitting (f .events)
 
--- "Writers: 1, then fields in word order": the fields of each piece are without fault, and so are an event's class, category and type. The
--- tree's words alone don't say so: a number may be larger than its bits.
+-- FORMAT 9.1: what the writers ask: the fields of each piece are without fault, and so are an event's class, category and type. The tree's words
+-- alone don't say so: a number may be larger than its bits.
 abbrev pub AllFaultless : Order → List Piece → Type 0
 AllFaultless o [] = Unit {0}
-AllFaultless o (p ∷ ps) = (writtenOf o p .fault ≡ 0) × AllFaultless o ps
+AllFaultless o (p ∷ ps) = (draftOf o p .fault ≡ 0) × AllFaultless o ps
 
 pub record EventFaultless (o : Order) (e : EventPieces) : Type 0 where
   pub word : eventFault (e .class) (e .category) (e .type) ≡ 0
@@ -63,16 +64,15 @@ pub record FileFaultless (o : Order) (f : FilePieces) : Type 0 where
   pub entries : AllFaultless o (f .entries)
   pub events : EventsFaultless o (f .events)
 
--- A container's contents "are checked by the reading rules": what these ask beyond the fields is that each kind is one of this container's
--- and stands where it may, and that no event is empty.
+-- FORMAT 9.4: what the closings ask beyond the fields: each kind is one of this container's and stands where it may, and no event is empty.
 abbrev pub AllPlaced : Order → Context → List Piece → Type 0
 AllPlaced o c [] = Unit {0}
 AllPlaced o c (p ∷ ps) =
-    (isKind c (recordOf o p .kind) ≡ true) × (isAllowed c (recordOf o p .kind) ≡ true) × AllPlaced o (behind c (recordOf o p .kind)) ps
+    (isKind c (recordOf o p .word) ≡ true) × (isAllowed c (recordOf o p .word) ≡ true) × AllPlaced o (behind c (recordOf o p .word)) ps
 
 pub record EventPlaced (o : Order) (e : EventPieces) : Type 0 where
   pub some : 1 ≤ length (e .records)
-  pub records : AllPlaced o (event none) (e .records)
+  pub records : AllPlaced o (event unseen) (e .records)
 
 abbrev pub EventsPlaced : Order → List EventPieces → Type 0
 EventsPlaced o [] = Unit {0}
@@ -84,7 +84,7 @@ pub record FilePlaced (o : Order) (f : FilePieces) : Type 0 where
 
 -- The tree that they make.
 abbrev pub containerOf : Order → ℕ → List Piece → Container
-containerOf o word ps = record { kind = word; body = map (recordOf o) ps }
+containerOf o word ps = record { word = word; body = map (recordOf o) ps }
 
 abbrev pub eventOf : Order → EventPieces → Container
 eventOf o e = containerOf o (eventWord (e .class) (e .category) (e .type)) (e .records)
@@ -103,10 +103,10 @@ pub record Built : Type 0 where
 unfoldable pub recordsAssembled : Order → Built → List Piece → Res Built
 recordsAssembled o b [] = ok b
 recordsAssembled o b (p ∷ ps) =
-    bind (recordWrote (b .out) (b .next) (writtenOf o p)) (λ next.
-    recordsAssembled o (record { next = next; out = recordOutput (b .out) (b .next) (writtenOf o p) }) ps)
+    bind (recordNext (b .out) (b .next) (draftOf o p)) (λ next.
+    recordsAssembled o (record { next = next; out = recordOutput (b .out) (b .next) (draftOf o p) }) ps)
 
--- "Over contents already written after eight free bytes": the contents, then a closing, with its answer and its output.
+-- FORMAT 9.4: eight bytes are left free, the contents follow, and then the closing, with its answer and its output.
 unfoldable pub containerAssembled : Order → (List ℕ → ℕ → ℕ → Res ℕ) → (List ℕ → ℕ → ℕ → List ℕ)
     → Built → List Piece → Res Built
 containerAssembled o closed output b ps =
@@ -127,10 +127,10 @@ unfoldable pub eventsAssembled : Order → Built → List EventPieces → Res Bu
 eventsAssembled o b [] = ok b
 eventsAssembled o b (e ∷ es) = bind (eventAssembled o b e) (λ after. eventsAssembled o after es)
 
--- The header, whose writer "starts at byte 0"; the configuration; the events.
+-- FORMAT 9.3: the header at byte 0; the configuration; the events.
 unfoldable pub fileAssembled : Order → List ℕ → FilePieces → Res Built
 fileAssembled o out f =
-    bind (headerWrote out) (λ next.
+    bind (headerNext out) (λ next.
     bind (configurationAssembled o (record { next = next; out = headerOutput o out (f .major) (f .minor) }) (f .entries)) (λ b.
     eventsAssembled o b (f .events)))
 

@@ -1,5 +1,5 @@
--- The third of the founders' demands: one byte changed inside a trace's samples: still accepted, same rows, the sample that holds it has
--- that byte and keeps its other one, every other sample, field and byte reads as before.
+-- One byte changed inside a trace's samples: the file is still accepted, with the same rows; the sample that holds the byte has it and keeps its
+-- other one; every other sample, field and byte reads as before. Each of these is said of the calls, since that is where a caller would see it.
 use Prim.Native.Nat.{ℕ, _+_, _-_, _*_, _/_, _%_, _<_}
 use mathlib.Core.Path.{_≡_}
 use mathlib.Core.Logic.{_≢_}
@@ -22,15 +22,15 @@ startOf f k = row (rowsOf f) k .start
 
 -- ---- the sample that holds a byte
 
--- Byte i of the file, counted from 0 among the samples of the trace that begins at `start`: they begin 56 bytes further on.
+-- FORMAT 5.2: byte i of the file, counted from 0 among the samples of the trace that begins at `start`: they begin 56 bytes further on.
 abbrev pub offset : ℕ → ℕ → ℕ
 offset start i = i - (start + 56)
 
--- Which byte that is where each word's bytes are counted from its lowest up, as the samples of a word are.
+-- FORMAT 1.2: which byte that is where each word's bytes are counted from its lowest up, as the samples of a word are.
 abbrev pub counted : Order → ℕ → ℕ → ℕ
 counted o start i = byteAt o (offset start i)
 
--- The number, from 1, of the sample that holds byte i.
+-- FORMAT 8.7: the number, from 1, of the sample that holds byte i.
 abbrev pub holder : Order → ℕ → ℕ → ℕ
 holder o start i = counted o start i / 2 + 1
 
@@ -50,12 +50,12 @@ halfReplaced false x s = x * 256 + s % 256
 abbrev pub replaced : ℕ → ℕ → ℕ → ℕ
 replaced m x s = halfReplaced (eqb (m % 2) 0) x s
 
--- Of the trace that begins at `start` and is `whole` bytes long, byte i, inside its samples, becomes x. The sample that holds it is given
--- before and after; a different byte makes a different sample. Samples gives all the trace's bytes behind the first 56, the same part
+-- FORMAT 8.7: of the trace that begins at `start` and is `whole` bytes long, byte i, inside its samples, becomes x. The sample that holds it is
+-- given before and after; a different byte makes a different sample. Samples gives all the trace's bytes behind the first 56, the same part
 -- before and after, its bytes with that one replaced.
 pub record SampleEdited (o : Order) (bs : List ℕ) (start whole i x : ℕ) : Type 0 where
-  pub before : sampleAt o bs start (holder o start i) ≡ accepted (counts (held o bs start i ∷ []))
-  pub after : sampleAt o (set bs i x) start (holder o start i) ≡ accepted (counts (replaced (counted o start i) x (held o bs start i) ∷ []))
+  pub was : sampleAt o bs start (holder o start i) ≡ accepted (counts (held o bs start i ∷ []))
+  pub becomes : sampleAt o (set bs i x) start (holder o start i) ≡ accepted (counts (replaced (counted o start i) x (held o bs start i) ∷ []))
   pub differs : x ≢ getD bs i 0 → replaced (counted o start i) x (held o bs start i) ≢ held o bs start i
   pub part : samplesPart o bs start ≡ (start + 56, whole - 56)
   pub bytes : samplesAt o bs start ≡ take (whole - 56) (drop (start + 56) bs)
@@ -64,7 +64,7 @@ pub record SampleEdited (o : Order) (bs : List ℕ) (start whole i x : ℕ) : Ty
 
 -- ---- what stays
 
--- A section of a history, as Record's answer gives it: n times from byte t on, then n masks of w words each from byte m on. The bytes
+-- FORMAT 5.3: a section of a history, as Record's answer gives it: n times from byte t on, then n masks of w words each from byte m on. The bytes
 -- of both lists are the same in bs and in bs′.
 abbrev pub SameSection : List ℕ → List ℕ → ℕ → ℕ → ℕ → ℕ → Type 0
 SameSection bs bs′ n t w m =

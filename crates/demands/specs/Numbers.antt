@@ -1,5 +1,5 @@
--- Document 01, 'Numbers given back': which numbers each call can refuse with, and at which place. No number stands in a list that the call
--- never gives (proofs/NumberExamples.antt). 1 stands in no list: it is given for a buffer over the limit (Refusals) and nowhere else.
+-- Which numbers each call can refuse with, and at which place. The lists are as short as they can be: no number stands in one that its call never
+-- gives (proofs/NumberExamples.antt). 1 stands in none: it is given for a buffer over the limit (Refusals) and nowhere else.
 use Prim.Native.Nat.{ℕ, _+_, _*_, _≤_, _<_}
 use mathlib.Core.Path.{_≡_}
 use mathlib.Core.Bool.{true}
@@ -23,18 +23,19 @@ From place ns c p = (among c ns ≡ true) × (place ≤ p)
 
 -- ---- reading
 
--- One record or entry, by where it is read: a configuration's entries have no rule that gives 11, and only an event asks for an order (9).
+-- FORMAT 2.1, 6.1: one record or entry, by where it is read: a configuration's entries have no rule that gives 11, and only an event asks for an
+-- order (9).
 abbrev pub recordNumbers : Context → List ℕ
 recordNumbers entry = 2 ∷ 5 ∷ 6 ∷ 10 ∷ []
 recordNumbers (event seen) = 2 ∷ 5 ∷ 6 ∷ 9 ∷ 10 ∷ 11 ∷ []
 recordNumbers alone = 2 ∷ 5 ∷ 6 ∷ 10 ∷ 11 ∷ []
 
--- A container at the place: itself, or its contents behind its eight bytes.
+-- FORMAT 2.2: a container at the place: itself, or its contents behind its eight bytes.
 pub data ContainerNumbers (place : ℕ) (own contents : List ℕ) (c p : ℕ) : Type 0 where
   itself : At place own c p → ContainerNumbers place own contents c p
   inside : From (place + 8) contents c p → ContainerNumbers place own contents c p
 
--- A file: its header at byte 0, its configuration at byte 8, and all that stands behind the configuration's first eight bytes.
+-- FORMAT 6.5: a file: its header at byte 0, its configuration at byte 8, and all that stands behind the configuration's first eight bytes.
 abbrev pub headerNumbers : List ℕ
 headerNumbers = 2 ∷ 3 ∷ 4 ∷ []
 
@@ -49,15 +50,15 @@ pub data FileNumbers (c p : ℕ) : Type 0 where
   of-configuration : At 8 configurationNumbers c p → FileNumbers c p
   of-rest : From 16 restNumbers c p → FileNumbers c p
 
--- The refusals of a whole file: those of Find, of a walker's yields and of the visitor.
+-- FORMAT 8.3, 8.4, 8.8: the refusals of a whole file: those of Find, of a walker's yields and of the visitor.
 abbrev pub FileRefusal : List ℕ → ℕ → ℕ → Type 0
 FileRefusal bs c p = Refusal (length bs) FileNumbers c p
 
--- Record's, Setting's and a sample's, at the place asked.
+-- FORMAT 8.5, 8.6, 8.7: Record's, Setting's and a sample's, at the place asked.
 abbrev pub RecordRefusal : List ℕ → ℕ → ℕ → ℕ → Type 0
 RecordRefusal bs place c p = Refusal (length bs) (At place (recordNumbers alone)) c p
 
--- Table's: the file's, with count 0; or 12 over an accepted file, the count being the rows needed and the place the file's length.
+-- FORMAT 8.2: Table's: the file's, with count 0; or 12 over an accepted file, the count being the rows needed and the place the file's length.
 pub data TableRefusal (bs : List ℕ) (capacity : ℕ) (a : TableAnswer) : Type 0 where
   of-file : FileRefusal bs (a .number) (a .place) → a .count ≡ 0 → TableRefusal bs capacity a
   few-rows : (f : File) → readFile bs ≡ ok f → capacity < rowWidth * length (rowsOf f)
@@ -65,7 +66,7 @@ pub data TableRefusal (bs : List ℕ) (capacity : ℕ) (a : TableAnswer) : Type 
 
 -- ---- writing
 
--- What the writer of each kind gives at the place given: its fields' numbers, and 13.
+-- FORMAT 9.2: what the writer of each kind gives at the place given: its fields' numbers, and 13.
 abbrev pub writerNumbers : Piece → List ℕ
 writerNumbers (phonon f) = 10 ∷ 13 ∷ []
 writerNumbers (charge f) = 10 ∷ 13 ∷ []
@@ -79,7 +80,7 @@ writerNumbers (tlb f) = 10 ∷ 13 ∷ []
 abbrev pub WriterRefusal : List ℕ → ℕ → List ℕ → ℕ → ℕ → Type 0
 WriterRefusal out place ns c p = Refusal (length out) (At place ns) c p
 
--- A closing's own refusals have the place given; a fault of its contents stands in them.
+-- FORMAT 9.4: a closing's own refusals have the place given; a fault of its contents stands in them.
 abbrev pub configurationClosingNumbers : List ℕ
 configurationClosingNumbers = 13 ∷ []
 
@@ -89,7 +90,7 @@ eventClosingNumbers = 7 ∷ 8 ∷ 9 ∷ 13 ∷ []
 abbrev pub ClosingRefusal : List ℕ → ℕ → List ℕ → Context → ℕ → ℕ → Type 0
 ClosingRefusal out place own context c p = Refusal (length out) (ContainerNumbers place own (recordNumbers context)) c p
 
--- Rewrite's: the file's own, or 13, whose place is 0.
+-- FORMAT 9.5: Rewrite's: the file's own, or 13, whose place is 0.
 pub data RewriteNumbers (bs : List ℕ) (c p : ℕ) : Type 0 where
   of-read : FileRefusal bs c p → RewriteNumbers bs c p
   small-output : At 0 (13 ∷ []) c p → RewriteNumbers bs c p

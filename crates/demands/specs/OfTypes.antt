@@ -1,5 +1,5 @@
--- Document 01, 'Words and nesting' and 'Rows and calls', of what is handed to a writer: numbers of 32 bits, signed or not, and parts of bytes. This
--- is what the types of a caller's numbers say of them, and all that the promises about writers ask (`types-fit`, `file-types-fit`).
+-- What is handed to a writer: numbers of 32 bits, signed or not, and parts of bytes. This is what the types of a caller's numbers say of them, and
+-- all that the promises about writers ask (`types-fit`, `file-types-fit`): no promise asks for more than a caller has.
 use mathlib.Core.List.{[], _∷_}
 use Rattle.note.specs.Sizes.{Each, Byte, Word, SignedWord}
 use Rattle.note.specs.History.{Section}
@@ -10,7 +10,7 @@ use Rattle.demands.specs.Assembly.{EventPieces, FilePieces}
 abbrev pub SectionOfTypes : Section → Type 0
 SectionOfTypes s = Each Byte (s .times) × Each Byte (s .masks)
 
--- The fields of each kind.
+-- FORMAT 9.2: the fields of each kind.
 unfoldable pub OfTypes : Piece → Type 0
 OfTypes (phonon f) =
     Each SignedWord (
@@ -25,7 +25,7 @@ OfTypes (gps f) = Unit {0}
 OfTypes (trigger f) = Each Word (f .mask1 ∷ f .mask2 ∷ f .mask3 ∷ f .mask4 ∷ f .mask5 ∷ f .mask6 ∷ [])
 OfTypes (tlb f) = Each Word (f .tower1 ∷ f .tower2 ∷ f .tower3 ∷ f .tower4 ∷ f .tower5 ∷ f .tower6 ∷ [])
 
--- The pieces of a file: two DAQ bytes, entries, events.
+-- FORMAT 9.3: the pieces of a file: two DAQ bytes, entries, events.
 pub record FileOfTypes (f : FilePieces) : Type 0 where
   pub major : Byte (f .major)
   pub minor : Byte (f .minor)

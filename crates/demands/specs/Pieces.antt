@@ -1,8 +1,11 @@
--- Document 01, 'Rows and calls', of writers: what is handed to a record's writer, and the record that it makes.
+-- What is handed to a record's writer, for any of the eight kinds, as one type: so that a theorem about writers is said once. Then the record that
+-- the writer makes of it, and what Record answers for that record.
 use Prim.Native.Nat.{ℕ, _+_, _*_}
+use mathlib.Core.Path.{_≡_}
+use mathlib.Core.Bool.{true}
 use mathlib.Core.List.{List, [], _∷_, _++_}
 use Rattle.theory.specs.declared.Order.{Order}
-use Rattle.theory.specs.Words.{Bytes, AllFit}
+use Rattle.theory.specs.Words.{Bytes, Fits, AllFit}
 use Rattle.note.specs.Words.{AllSigned}
 use Rattle.note.specs.Answers.{Given, accepted, whole, count, counts, wholes}
 use Rattle.note.specs.Phonon.{Phonon, phononKind, phononWords, phononBytes}
@@ -14,11 +17,11 @@ use Rattle.note.specs.Gps.{Gps, gpsKind, gpsNumbers, gpsBytes}
 use Rattle.note.specs.Trigger.{Trigger, triggerKind, triggerMasks, triggerBytes}
 use Rattle.note.specs.Tlb.{Tlb, tlbKind, tlbWords, tlbBytes}
 use Rattle.note.specs.Kinds.{Kind}
-use Rattle.note.specs.Records.{Record}
-use Rattle.note.specs.Writers.{Written, phononWritten, chargeWritten, administrativeWritten, traceWritten}
-use Rattle.note.specs.Writers.{historyWritten, gpsWritten, triggerWritten, tlbWritten}
+use Rattle.note.specs.Records.{Record, alone, isKind, recordRule, recordBytes}
+use Rattle.note.specs.Writers.{Draft, phononDraft, chargeDraft, administrativeDraft, traceDraft}
+use Rattle.note.specs.Writers.{historyDraft, gpsDraft, triggerDraft, tlbDraft}
 
--- The fields of one record or entry, as its writer takes them.
+-- FORMAT 9.2: the fields of one record or entry, as its writer takes them.
 pub data Piece : Type 0 where
   phonon : Phonon → Piece
   charge : Charge → Piece
@@ -30,19 +33,19 @@ pub data Piece : Type 0 where
   tlb : Tlb → Piece
 
 -- What its writer makes of them: the first fault, and the bytes.
-unfoldable pub writtenOf : Order → Piece → Written
-writtenOf o (phonon f) = phononWritten o f
-writtenOf o (charge f) = chargeWritten o f
-writtenOf o (administrative f) = administrativeWritten o f
-writtenOf o (trace f) = traceWritten o f
-writtenOf o (history f) = historyWritten o f
-writtenOf o (gps f) = gpsWritten o f
-writtenOf o (trigger f) = triggerWritten o f
-writtenOf o (tlb f) = tlbWritten o f
+unfoldable pub draftOf : Order → Piece → Draft
+draftOf o (phonon f) = phononDraft o f
+draftOf o (charge f) = chargeDraft o f
+draftOf o (administrative f) = administrativeDraft o f
+draftOf o (trace f) = traceDraft o f
+draftOf o (history f) = historyDraft o f
+draftOf o (gps f) = gpsDraft o f
+draftOf o (trigger f) = triggerDraft o f
+draftOf o (tlb f) = tlbDraft o f
 
 -- The record or entry that these fields are: the kind's word around the body of the fields.
 abbrev pub ofKind : Kind → List ℕ → Record
-ofKind k body = record { kind = k .word; body = body }
+ofKind k body = record { word = k .word; body = body }
 
 unfoldable pub recordOf : Order → Piece → Record
 recordOf o (phonon f) = ofKind phononKind (phononBytes o f)
@@ -54,8 +57,17 @@ recordOf o (gps f) = ofKind gpsKind (gpsBytes o f)
 recordOf o (trigger f) = ofKind triggerKind (triggerBytes o f)
 recordOf o (tlb f) = ofKind tlbKind (tlbBytes o f)
 
--- "All words are 32 bits"; "samples and history lists are handed over .., each as a part of bytes". A caller's types say no less; of a
--- GPS record's numbers nothing is asked, since the writer's own tests bound them.
+-- FORMAT 9.2, a second time: a writer's way to write the record r: its bytes, and, where the fields have no fault, a body that follows the kind's
+-- rule.
+pub record Writes (o : Order) (w : Draft) (r : Record) : Type 0 where
+  pub bytes-are : w .bytes ≡ recordBytes o r
+  pub kind-known : isKind alone (r .word) ≡ true
+  pub kind-fits : Fits 4 (r .word)
+  pub body-bytes : Bytes (r .body)
+  pub body-rule : w .fault ≡ 0 → recordRule o (r .word) (r .body) ≡ 0
+
+-- FORMAT 1.2, 9.2: numbers are words, lists and samples are bytes. A caller's types say no less; of a GPS record's numbers nothing is asked, since
+-- the writer's own tests bound them.
 abbrev pub SectionFits : Section → Type 0
 SectionFits s = Bytes (s .times) × Bytes (s .masks)
 
@@ -71,7 +83,7 @@ PieceFits (tlb f) = AllFit 4 (tlbWords f)
 
 -- ---- what Record answers for them
 
--- "The answer gives the counts and where each list starts": of a section whose count stands at `from`; and how many bytes it has.
+-- FORMAT 5.3: a history's section whose count stands at `from`: where its two lists start, what is answered for it, and how many bytes it has.
 abbrev pub timesFrom : ℕ → Section → ℕ
 timesFrom from s = from + 4
 
@@ -84,14 +96,14 @@ sectionAnswer from s = s .count ∷ timesFrom from s ∷ s .width ∷ masksFrom 
 abbrev pub sectionSize : Section → ℕ
 sectionSize s = 8 + 4 * s .count + 4 * (s .count * s .width)
 
--- The veto section of a history at the place begins its body, the trigger section follows.
+-- FORMAT 5.3: the veto section of a history at the place begins its body, the trigger section follows.
 abbrev pub vetoFrom : ℕ → History → ℕ
 vetoFrom place f = place + 8
 
 abbrev pub triggerFrom : ℕ → History → ℕ
 triggerFrom place f = place + 8 + sectionSize (f .veto)
 
--- "The answer is one of eight kinds with its fields": the row kind, and the fields that were handed over.
+-- FORMAT 8.5: Record's answer for a record of these fields: the row kind, and the fields that were handed over.
 unfoldable pub answerOf : ℕ → Piece → Given
 answerOf place (phonon f) = accepted (count 3 ∷ wholes (phononWords f))
 answerOf place (charge f) = accepted (count 4 ∷ wholes (chargeWords f))

@@ -1,5 +1,5 @@
--- Document 01, 'Numbers given back', of writers and closings: which refusal each gives, as cases in their order, of which only one can be; as
--- Outputs has Rewrite's.
+-- Which refusal a writer and a closing give, as cases in the order in which they are asked, of which only one can be; as Outputs has Rewrite's.
+-- note/specs/Writers computes the answer; here each number comes with what has to be so for it.
 use Prim.Native.Nat.{ℕ, _+_, _-_, _≤_, _<_}
 use mathlib.Core.Path.{_≡_}
 use mathlib.Core.Logic.{_⊎_, _≢_}
@@ -9,20 +9,20 @@ use Rattle.theory.specs.declared.Order.{Order}
 use Rattle.theory.specs.Tests.{bad}
 use Rattle.note.specs.Records.{Context, readRecords}
 
--- A record's or the header's writer of `size` bytes, whose fields' first fault is `fault` (0 for none).
+-- FORMAT 9.1: a record's or the header's writer of `size` bytes, whose fields' first fault is `fault` (0 for none).
 pub data WriterRefused (out : List ℕ) (place fault size c p : ℕ) : Type 0 where
   output-over : 16777216 < length out → c ≡ 1 → p ≡ 0 → WriterRefused out place fault size c p
   field-fault : length out ≤ 16777216 → fault ≢ 0 → c ≡ fault → p ≡ place → WriterRefused out place fault size c p
   no-room : length out ≤ 16777216 → fault ≡ 0 → length out < place + size → c ≡ 13 → p ≡ place → WriterRefused out place fault size c p
 
--- Where the writer writes.
+-- FORMAT 9.1: where the writer writes.
 pub record WriterGranted (out : List ℕ) (place fault size next : ℕ) : Type 0 where
   pub within : length out ≤ 16777216
   pub faultless : fault ≡ 0
   pub room : place + size ≤ length out
   pub ends : next ≡ place + size
 
--- A closing: the container's two words and its contents lie in the output, or 13; `Own` is what is asked of its own word and length; its
+-- FORMAT 9.4: a closing: the container's two words and its contents lie in the output, or 13; `Own` is what is asked of its own word and length; its
 -- contents are read in the context c.
 pub record Lies (out : List ℕ) (place end : ℕ) : Type 0 where
   pub within : length out ≤ 16777216

@@ -1,5 +1,5 @@
 //! The door: every public call, and nothing else. Each takes any input, has no `requires`, and its contract is an equation with the
-//! note's definitions (a writer's by way of `Wrote`, its answer and its output; stores/specs/Writes); a walker's three with those of
+//! note's definitions (a writer's by way of `WriterDid`, its answer and its output; stores/specs/Writes); a walker's three with those of
 //! walk/specs/Steps, of which `walk-yields` says that k steps from opening the yield is the note's `yieldAt file k`.
 pub use channels::channel;
 pub use channels::code;

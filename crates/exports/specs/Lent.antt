@@ -1,5 +1,5 @@
--- What a C caller finds in the numbers that it lent: an accepted call's values, a refused call's place, and otherwise what stood
--- there. Document 01, 'How far each contract goes': an answer by numbers, and every lent buffer, for refused inputs too.
+-- What a C caller finds in the numbers that it lent: an accepted call's values, a refused call's place, and otherwise what stood there. The answer
+-- by number and values (FORMAT 8.1) determines each lent number, for refused inputs too.
 use Prim.Native.Nat.{ℕ}
 use mathlib.Core.Bool.{Bool, true, false, cond}
 use mathlib.Core.Path.{_≡_}
@@ -51,7 +51,7 @@ NumberAfter old given new = pos new ∷ [] ≡ wholesAfter 1 (pos old ∷ []) gi
 
 -- Channel's four numbers.
 abbrev pub channelNumbers : ChannelAnswer → List ℕ
-channelNumbers answer = answer .kind ∷ answer .detector ∷ answer .analysis .length ∷ answer .cold .length ∷ []
+channelNumbers answer = answer .«detector_type» ∷ answer .detector ∷ answer .analysis .length ∷ answer .cold .length ∷ []
 
 -- A buffer lent to Channel after the call: the value, or under another number than 0 what stood there.
 abbrev pub channelAfter : List ℕ → ChannelAnswer → List ℕ → List ℕ

@@ -1,4 +1,5 @@
--- A walker for C: its numbers in a lent buffer, any of which are taken, and its yield in lent numbers.
+-- A walker for C: its numbers in a lent buffer, any of which are taken, and its yield in lent numbers. C has no private fields, so a step is
+-- defined for every six numbers, and what opening made is the case that the promises speak of.
 use Prim.Native.Nat.{ℕ, zero, suc, _%_}
 use mathlib.Core.List.{List, [], _∷_}
 use lib.ListN.{getD}
@@ -25,7 +26,7 @@ spotOf ns = record {
   last = End;
 }
 
--- The lent row after the call: the row's six numbers, zeros at the end, and on a refusal what stood there.
+-- FORMAT 8.3: the lent row after the call: the row's six numbers, zeros at the end, and on a refusal what stood there.
 unfoldable pub rowAfter : List ℕ → WalkerYield → List ℕ
 rowAfter old (Row kind start whole parent one two) = kind ∷ start ∷ whole ∷ parent ∷ one ∷ two ∷ []
 rowAfter old End = 0 ∷ 0 ∷ 0 ∷ 0 ∷ 0 ∷ 0 ∷ []

@@ -6,6 +6,7 @@ use note::RecordAnswer;
 use note::SampleAnswer;
 use note::SettingAnswer;
 use note::WalkerYield;
+use samples::SAMPLES_FROM;
 use walk::Spot;
 ghost use mathlib.Core.Path.{_≡_};
 ghost use lib.ListN.{length};
@@ -131,7 +132,7 @@ pub extern "C" fn dwj_record(
             code,
             t0,
             delta_t,
-            samples,
+            n,
         } => {
             *values = [
                 7,
@@ -140,7 +141,7 @@ pub extern "C" fn dwj_record(
                 code as i64,
                 t0 as i64,
                 delta_t as i64,
-                samples as i64,
+                n as i64,
                 0,
                 0,
                 0,
@@ -338,7 +339,7 @@ pub extern "C" fn dwj_samples(file: &[u8], place: usize, offset: &mut u64, size:
         *offset = 0;
         return;
     }
-    *offset = (place + 56) as u64;
+    *offset = (place + SAMPLES_FROM) as u64;
 }
 
 /// Sample: a sample by number; on a refusal the place alone.
@@ -507,7 +508,7 @@ pub extern "C" fn dwj_channel(
     let answer = dwejrasq::channel(code);
     if answer.number == 0 {
         *numbers = [
-            answer.kind,
+            answer.detector_type,
             answer.detector,
             answer.analysis.length,
             answer.cold.length,
@@ -522,11 +523,11 @@ pub extern "C" fn dwj_channel(
 
 /// Code: the detector code lent; untouched under 10.
 #[no_mangle]
-pub extern "C" fn dwj_code(kind: u32, detector: u32, name: &[u8], code: &mut u32) -> u32
-    ensures number { λ r. ⌜ r ≡ numberOf (codeAnswer kind detector (now (name .entry))) ⌝ }
-    ensures code { λ _. ⌜ NumberAfter (now (code .entry)) (codeAnswer kind detector (now (name .entry))) (now (code .exit)) ⌝ }
+pub extern "C" fn dwj_code(detector_type: u32, detector: u32, name: &[u8], code: &mut u32) -> u32
+    ensures number { λ r. ⌜ r ≡ numberOf (codeAnswer «detector_type» detector (now (name .entry))) ⌝ }
+    ensures code { λ _. ⌜ NumberAfter (now (code .entry)) (codeAnswer «detector_type» detector (now (name .entry))) (now (code .exit)) ⌝ }
 {
-    match dwejrasq::code(kind, detector, name) {
+    match dwejrasq::code(detector_type, detector, name) {
         CodeAnswer::Code { code: found } => {
             *code = found;
             0

@@ -1,12 +1,15 @@
 // The faults that writers alone ask: of a trace's and a history's fields, in word order, with the sizes of the parts handed over. Each answers
 // 0 or the number of the refusal; the other kinds' faults are those that readers ask.
 use channels::is_named;
+use fields::GREATEST_SIGNED;
 use fields::count_fault;
 use fields::earlier;
 use fields::is_channel;
 use fields::is_width;
 use fields::or_unless;
 use fields::unless;
+use note::WRONG_FIELD;
+use note::WRONG_LENGTH;
 ghost use mathlib.Core.Path.{_≡_};
 ghost use mathlib.Core.List.{[], _∷_};
 ghost use Prim.Native.Nat.{_*_};
@@ -21,17 +24,14 @@ ghost use Rattle.note.specs.History.{sectionFault, historyFault};
 pub fn trace_fault(channel: u32, code: u32, delta: u32, n: u32, samples: usize) -> u32
     ensures { λ r. ⌜ r ≡ first (channelFault channel ∷ codeFault code ∷ deltaFault delta ∷ countFault n ∷ unless (eqb samples (2 * n)) 6 ∷ []) ⌝ }
 {
-    let fault = unless(is_channel(channel), 10);
-    let fault = or_unless(fault, is_named(code), 10);
-    let fault = or_unless(fault, 1 <= delta, 10);
+    let fault = unless(is_channel(channel), WRONG_FIELD);
+    let fault = or_unless(fault, is_named(code), WRONG_FIELD);
+    let fault = or_unless(fault, 1 <= delta, WRONG_FIELD);
     let fault = earlier(fault, count_fault(n));
-    or_unless(fault, samples == 2 * n as usize, 6)
+    or_unless(fault, samples == 2 * n as usize, WRONG_LENGTH)
 }
 
 // ---- history
-
-// "Signed and not negative": a word up to this.
-const GREATEST_SIGNED: u32 = 0x7FFF_FFFF;
 
 // Whether a part's size is that of so many words. By division: four times so many may pass a machine number.
 fn is_filled(size: usize, words: usize) -> bool
@@ -51,11 +51,11 @@ fn section_fault(trigger: bool, count: u32, times: &[u8], width: u32, masks: &[u
 {
     let filled = is_filled(times.len(), count as usize);
     let masked = is_filled(masks.len(), count as usize * width as usize);
-    let fault = unless(count <= GREATEST_SIGNED, 10);
-    let fault = or_unless(fault, filled, 6);
-    let fault = or_unless(fault, width <= GREATEST_SIGNED, 10);
-    let fault = or_unless(fault, is_width(trigger, count, width), 10);
-    or_unless(fault, masked, 6)
+    let fault = unless(count <= GREATEST_SIGNED, WRONG_FIELD);
+    let fault = or_unless(fault, filled, WRONG_LENGTH);
+    let fault = or_unless(fault, width <= GREATEST_SIGNED, WRONG_FIELD);
+    let fault = or_unless(fault, is_width(trigger, count, width), WRONG_FIELD);
+    or_unless(fault, masked, WRONG_LENGTH)
 }
 
 /// The first fault of a history's fields.

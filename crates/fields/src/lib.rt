@@ -1,6 +1,11 @@
-// The fields of a file's structures as numbers: how a word is taken apart, and whether a field keeps its rule, in document 01's order.
+// The fields of a file's structures as numbers: how a word is taken apart, and whether a field keeps its rule, in FORMAT's order.
 // A rule answers 0 or the number of the refusal, of several tests the first that fails; readers and writers ask the same ones. Places and
 // bytes are other crates' matter.
+use note::MONITORING;
+use note::NOT_ADMITTED;
+use note::WRONG_COUNT;
+use note::WRONG_FIELD;
+use note::WRONG_KIND;
 ghost use mathlib.Core.Bool.{_&&_};
 ghost use mathlib.Core.List.{[], _∷_};
 ghost use mathlib.Core.Path.{_≡_};
@@ -43,7 +48,7 @@ pub fn or_unless(fault: u32, holds: bool, number: u32) -> u32
 
 // ---- words
 
-/// Digit k of w to the base 16, the lowest being 0. By shift and mask (document 01).
+/// Digit k of w to the base 16, the lowest being 0. By shift and mask (FORMAT 5.4, 6.2).
 pub fn nibble(w: u32, k: u32) -> u32
     ensures { λ r. ⌜ r ≡ w / 16 ^ k % 16 ⌝ }
 {
@@ -71,7 +76,7 @@ pub fn from_signed(z: i32) -> u32
     if z < 0 { !((!z) as u32) } else { z as u32 }
 }
 
-/// A x100 word in working units. Exact cast, one division (document 01).
+/// A x100 word in working units: an exact cast, one division (FORMAT 8.6).
 pub fn hundredth(z: i32) -> f64
     ensures { λ r. ⌜ r ≡ hundredth z ⌝ }
 {
@@ -82,6 +87,9 @@ pub fn hundredth(z: i32) -> f64
 
 /// The upper half of an event's first word.
 pub const EVENT_MARK: u32 = 0xA980;
+
+/// The greatest number that a signed word can say.
+pub const GREATEST_SIGNED: u32 = 0x7FFF_FFFF;
 
 // The classes, categories and types that events admit; type 7, within those, is monitoring.
 const RAW: u32 = 0;
@@ -96,23 +104,23 @@ const SELECTIVE_READOUT: u32 = 6;
 
 const LAST_TYPE: u32 = 0xA;
 
-const MONITORING: u32 = 7;
+const MONITORING_TYPE: u32 = 7;
 
-/// The class in an event's first word. A nibble (document 01).
+/// The class in an event's first word, a nibble (FORMAT 6.2).
 pub fn class_of(w: u32) -> u32
     ensures { λ r. ⌜ r ≡ classOf w ⌝ }
 {
     nibble(w, 3)
 }
 
-/// The category in an event's first word. A nibble (document 01).
+/// The category in an event's first word, a nibble (FORMAT 6.2).
 pub fn category_of(w: u32) -> u32
     ensures { λ r. ⌜ r ≡ categoryOf w ⌝ }
 {
     nibble(w, 2)
 }
 
-/// The type in an event's first word. By a mask (document 01).
+/// The type in an event's first word, by a mask (FORMAT 6.2).
 pub fn event_type_of(w: u32) -> u32
     ensures { λ r. ⌜ r ≡ eventTypeOf w ⌝ }
 {
@@ -140,13 +148,13 @@ fn is_category(category: u32) -> bool
 }
 
 /// 7 where an event's class, category or type isn't admitted, 8 for monitoring. Any numbers are taken, and none is masked first.
-pub fn event_fault(class: u32, category: u32, kind: u32) -> u32
-    ensures { λ r. ⌜ r ≡ eventFault class category kind ⌝ }
+pub fn event_fault(class: u32, category: u32, event_type: u32) -> u32
+    ensures { λ r. ⌜ r ≡ eventFault class category «event_type» ⌝ }
 {
-    let fault = unless(is_class(class), 7);
-    let fault = or_unless(fault, is_category(category), 7);
-    let fault = or_unless(fault, kind <= LAST_TYPE, 7);
-    or_unless(fault, kind != MONITORING, 8)
+    let fault = unless(is_class(class), NOT_ADMITTED);
+    let fault = or_unless(fault, is_category(category), NOT_ADMITTED);
+    let fault = or_unless(fault, event_type <= LAST_TYPE, NOT_ADMITTED);
+    or_unless(fault, event_type != MONITORING_TYPE, MONITORING)
 }
 
 /// 5 where the upper half of an event's first word isn't the mark, then the fault of its class, category and type.
@@ -154,7 +162,7 @@ pub fn event_word_rule(w: u32) -> u32
     ensures { λ r. ⌜ r ≡ eventWordRule w ⌝ }
 {
     if w >> 16 != EVENT_MARK {
-        return 5;
+        return WRONG_KIND;
     }
     event_fault(class_of(w), category_of(w), event_type_of(w))
 }
@@ -227,8 +235,8 @@ pub fn is_clock(w: u32) -> bool
 pub fn administrative_fault(date: u32, clock: u32) -> u32
     ensures { λ r. ⌜ r ≡ administrativeFault date clock ⌝ }
 {
-    let fault = unless(is_series(date), 10);
-    or_unless(fault, is_clock(clock), 10)
+    let fault = unless(is_series(date), WRONG_FIELD);
+    or_unless(fault, is_clock(clock), WRONG_FIELD)
 }
 
 // ---- trace
@@ -250,13 +258,13 @@ pub fn count_fault(n: u32) -> u32
     ensures { λ r. ⌜ r ≡ countFault n ⌝ }
 {
     if n % 2 != 0 {
-        return 11;
+        return WRONG_COUNT;
     }
     if n < FEWEST_SAMPLES {
-        return 11;
+        return WRONG_COUNT;
     }
     if n > MOST_SAMPLES {
-        return 11;
+        return WRONG_COUNT;
     }
     0
 }
@@ -281,7 +289,7 @@ pub fn is_width(trigger: bool, times: u32, width: u32) -> bool
 
 // ---- GPS
 
-/// Whether the lowest n BCD digits of w are each at most 9. By nibbles (document 01).
+/// Whether the lowest n BCD digits of w are each at most 9. By nibbles (FORMAT 5.4).
 pub fn are_digits(n: u32, w: u32) -> bool
     ensures { λ r. ⌜ r ≡ areDigits n w ⌝ }
 {
@@ -293,7 +301,7 @@ pub fn are_digits(n: u32, w: u32) -> bool
     true
 }
 
-/// The number that the lowest n BCD digits of w write, of which a word has eight. By nibbles (document 01).
+/// The number that the lowest n BCD digits of w write, of which a word has eight. By nibbles (FORMAT 5.4).
 pub fn decimal(n: u32, w: u32) -> u32
     requires { ⌜ n ≤ 8 ⌝ }
     ensures { λ r. ⌜ r ≡ decimal n w ⌝ }
@@ -350,28 +358,28 @@ pub fn gps_fault(
       tenths = tenths;
     }) ⌝ }
 {
-    let fault = unless(year <= 9999, 10);
-    let fault = or_unless(fault, is_day(year, day), 10);
-    let fault = or_unless(fault, status <= 15, 10);
-    let fault = or_unless(fault, hour <= 23, 10);
-    let fault = or_unless(fault, minute <= 59, 10);
-    let fault = or_unless(fault, second <= 59, 10);
-    or_unless(fault, tenths <= 9_999_999, 10)
+    let fault = unless(year <= 9999, WRONG_FIELD);
+    let fault = or_unless(fault, is_day(year, day), WRONG_FIELD);
+    let fault = or_unless(fault, status <= 15, WRONG_FIELD);
+    let fault = or_unless(fault, hour <= 23, WRONG_FIELD);
+    let fault = or_unless(fault, minute <= 59, WRONG_FIELD);
+    let fault = or_unless(fault, second <= 59, WRONG_FIELD);
+    or_unless(fault, tenths <= 9_999_999, WRONG_FIELD)
 }
 
 /// 10 where a digit of a GPS record's three words isn't a decimal digit, or the digit after the status isn't zero; the status is free.
 pub fn gps_digits_fault(w0: u32, w1: u32, w2: u32) -> u32
     ensures { λ r. ⌜ r ≡ gpsDigitsFault w0 w1 w2 ⌝ }
 {
-    let fault = unless(are_digits(8, w0), 10);
-    let fault = or_unless(fault, nibble(w1, 6) == 0, 10);
-    let fault = or_unless(fault, are_digits(6, w1), 10);
-    or_unless(fault, are_digits(8, w2), 10)
+    let fault = unless(are_digits(8, w0), WRONG_FIELD);
+    let fault = or_unless(fault, nibble(w1, 6) == 0, WRONG_FIELD);
+    let fault = or_unless(fault, are_digits(6, w1), WRONG_FIELD);
+    or_unless(fault, are_digits(8, w2), WRONG_FIELD)
 }
 
 // ---- TLB mask
 
-/// Whether w may stand for tower i: zero, or i in its top byte. By a shift (document 01).
+/// Whether w may stand for tower i: zero, or i in its top byte. By a shift (FORMAT 5.6).
 pub fn is_tower(i: u32, w: u32) -> bool
     ensures { λ r. ⌜ r ≡ isTower i w ⌝ }
 {
@@ -389,15 +397,15 @@ pub fn tlb_fault(t1: u32, t2: u32, t3: u32, t4: u32, t5: u32, t6: u32) -> u32
       tower6 = t6;
     }) ⌝ }
 {
-    let fault = unless(is_tower(1, t1), 10);
-    let fault = or_unless(fault, is_tower(2, t2), 10);
-    let fault = or_unless(fault, is_tower(3, t3), 10);
-    let fault = or_unless(fault, is_tower(4, t4), 10);
-    let fault = or_unless(fault, is_tower(5, t5), 10);
-    or_unless(fault, is_tower(6, t6), 10)
+    let fault = unless(is_tower(1, t1), WRONG_FIELD);
+    let fault = or_unless(fault, is_tower(2, t2), WRONG_FIELD);
+    let fault = or_unless(fault, is_tower(3, t3), WRONG_FIELD);
+    let fault = or_unless(fault, is_tower(4, t4), WRONG_FIELD);
+    let fault = or_unless(fault, is_tower(5, t5), WRONG_FIELD);
+    or_unless(fault, is_tower(6, t6), WRONG_FIELD)
 }
 
-/// Whether the bit of ZIP z, from 1 to 24, is set in a TLB word. By shift and mask (document 01).
+/// Whether the bit of ZIP z, from 1 to 24, is set in a TLB word. By shift and mask (FORMAT 5.6).
 pub fn zip(w: u32, z: u32) -> bool
     ensures { λ r. ⌜ r ≡ zipSet w z ⌝ }
 {

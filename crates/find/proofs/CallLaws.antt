@@ -42,7 +42,7 @@ module _ {o : Order} {bs : List ℕ} (f : CheckedIn o bs) where
     pub events-fit : 16 + m ≤ length bs
     events-fit = omega (arith, begins, size)
 
-    events : readEvents o tt (16 + m) (behindOf (16 + m) bs) ≡ ok (eventsOf (o, f .parts))
+    events : readEvents o (16 + m) (behindOf (16 + m) bs) ≡ ok (eventsOf (o, f .parts))
     events = events-read bs (o, f .parts) (f .bytes) (f .reads) (16 + m) (ap (λ (x : ℕ). 16 + x) em)
 
     pub searchable : Searchable o (16 + m) (behindOf (16 + m) bs)
@@ -54,7 +54,7 @@ module _ {o : Order} {bs : List ℕ} (f : CheckedIn o bs) where
 
     -- What the search of its events answers is find's answer.
     pub searched : (number code : ℕ) (r : FindAnswer)
-        → givenFind r ≡ accepted (counts (firstMatch number code (tracesRead o (16 + m) (readEvents o tt (16 + m) (behindOf (16 + m) bs)))))
+        → givenFind r ≡ accepted (counts (firstMatch number code (tracesRead o (16 + m) (readEvents o (16 + m) (behindOf (16 + m) bs)))))
         → givenFind r ≡ findAt bs number code
     unfolding findAt tracesOf tracesRead
     searched number code r e =

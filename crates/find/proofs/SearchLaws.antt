@@ -19,7 +19,7 @@ use Rattle.note.specs.Limits.{fileLimit}
 use Rattle.note.specs.Words.{word}
 use Rattle.note.specs.Administrative.{administrativeKind, administrativeOf}
 use Rattle.note.specs.Trace.{traceKind, traceOf}
-use Rattle.note.specs.Records.{Record, Context, behind, event, none, recordSize, recordsBytes, recordRule, kindOf, readRecords}
+use Rattle.note.specs.Records.{Record, Context, behind, event, unseen, recordSize, recordsBytes, recordRule, kindOf, readRecords}
 use Rattle.note.specs.Events.{Container, containerSize, readEvents}
 use Rattle.note.specs.Calls.{TraceAt, isTrace, keptIf, tracesIn, tracesFrom, eventNumber, firstMatch}
 use Rattle.demands.specs.Valid.{ValidRecord, ValidEvent}
@@ -129,7 +129,7 @@ module _ {o : Order} {number code : ℕ} {answer : List ℕ} {next : ℕ} {later
         → Looking o number code answer next later (place + (8 + m)) (behindOf (8 + m) bs)
     past d m em =
         let n : ℕ = 8 + word o 4 bs in
-        let s : Context = behind (i .state) (front .item .kind) in
+        let s : Context = behind (i .state) (front .item .word) in
         let size : recordSize (front .item) ≡ n = ap recordSize (shown .1) ∙ ap (λ (x : ℕ). 8 + x) (shown .0 .size) in
         let behind-it : readRecords o s (place + n) (drop n bs) ≡ ok (front .others) =
         subst (λ (x : ℕ). readRecords o s (place + x) (drop x bs) ≡ ok (front .others)) size
@@ -149,17 +149,17 @@ module _ {o : Order} {number code : ℕ} {answer : List ℕ} {next : ℕ} {later
 -- Events fill the part, and the first match among their traces is the answer.
 pub record Searching (o : Order) (number code : ℕ) (answer : List ℕ) (at : ℕ) (bs : List ℕ) : Type 0 where
   pub es : List Container
-  pub reads : readEvents o tt at bs ≡ ok es
+  pub reads : readEvents o at bs ≡ ok es
   pub still : firstMatch number code (tracesFrom o at es) ≡ answer
   pub within : at + length bs ≤ fileLimit
   pub bytes : Bytes bs
 
 -- The traces behind the first n bytes of a part whose first byte stands at `at`.
 abbrev pub laterTraces : Order → ℕ → ℕ → List ℕ → List TraceAt
-laterTraces o n at bs = tracesRead o (at + n) (readEvents o tt (at + n) (behindOf n bs))
+laterTraces o n at bs = tracesRead o (at + n) (readEvents o (at + n) (behindOf n bs))
 
 pub begin : (o : Order) (number code from : ℕ) (bs : List ℕ) → Searchable o from bs → Bytes bs
-    → Searching o number code (firstMatch number code (tracesRead o from (readEvents o tt from bs))) from bs
+    → Searching o number code (firstMatch number code (tracesRead o from (readEvents o from bs))) from bs
 unfolding tracesRead
 begin o number code from bs s h = record {
   es = s .events;
@@ -197,23 +197,24 @@ module _ {o : Order} {number code : ℕ} {answer : List ℕ} {at : ℕ} {bs : Li
     inner-bytes = cut-bytes (word o 4 bs) bs (i .bytes)
 
     -- its first record, which is administrative
-    inner-front : Ahead (recordItem o) (event none) (at + 8) inner (front-event .item .body)
+    inner-front : Ahead (recordItem o) (event unseen) (at + 8) inner (front-event .item .body)
     inner-front =
         let e : Container = front-event .item in
         let v : ValidEvent o e = event-valid o e (eventItem o .sound tt at bs e (i .bytes) (front-event .reads-item) .1) in
-        ahead (recordItem o) (event none) (at + 8) inner (e .body) inner-bytes (omega (arith, v .not-empty, shown-event .size, inner-length))
-        (sym (same-records o (event none) (at + 8) inner) ∙ shown-event .contents)
+        ahead (recordItem o) (event unseen) (at + 8) inner (e .body) inner-bytes (omega (arith, v .not-empty, shown-event .size, inner-length))
+        (sym (same-records o (event unseen) (at + 8) inner) ∙ shown-event .contents)
 
-    first-shown : Read o (event none) (at + 8) inner (word o 0 inner) (word o 4 inner)
+    first-shown : Read o (event unseen) (at + 8) inner (word o 0 inner) (word o 4 inner)
         × (inner-front .item ≡ recordAt (word o 0 inner) (word o 4 inner) inner)
-    first-shown = read-shows o (event none) (at + 8) inner (inner-front .item) (same-record o (event none) (at + 8) inner ∙ inner-front .reads-item)
+    first-shown =
+        read-shows o (event unseen) (at + 8) inner (inner-front .item) (same-record o (event unseen) (at + 8) inner ∙ inner-front .reads-item)
 
     first-room : 24 ≤ length (inner-front .item .body)
     unfolding kindOf
     first-room =
         let r : Record = inner-front .item in
-        let good = recordItem o .sound (event none) (at + 8) inner r inner-bytes (inner-front .reads-item) .1 in
-        let v : ValidRecord o (event none) r = record-valid o (event none) r good in
+        let good = recordItem o .sound (event unseen) (at + 8) inner r inner-bytes (inner-front .reads-item) .1 in
+        let v : ValidRecord o (event unseen) r = record-valid o (event unseen) r good in
         long-enough o (administrativeKind .word) (r .body)
         (subst (λ (w : ℕ). recordRule o w (r .body) ≡ 0) (first-administrative o r v) (v .body-rule))
 
@@ -234,12 +235,12 @@ module _ {o : Order} {number code : ℕ} {answer : List ℕ} {at : ℕ} {bs : Li
         ∙ word-of-part o 4 16 8 (8 + word o 4 bs - 8) bs (omega (arith, first-long))
 
     -- behind the event
-    behind-event : readEvents o tt (at + (8 + word o 4 bs)) (behindOf (8 + word o 4 bs) bs) ≡ ok (front-event .others)
+    behind-event : readEvents o (at + (8 + word o 4 bs)) (behindOf (8 + word o 4 bs) bs) ≡ ok (front-event .others)
     behind-event =
         let n : ℕ = 8 + word o 4 bs in
         let size : 8 + length (recordsBytes o (front-event .item .body)) ≡ n = ap (λ (x : ℕ). 8 + x) (shown-event .size) in
-        ap (readEvents o tt (at + n)) (sym (left n bs))
-        ∙ subst (λ (x : ℕ). readEvents o tt (at + x) (drop x bs) ≡ ok (front-event .others)) size
+        ap (readEvents o (at + n)) (sym (left n bs))
+        ∙ subst (λ (x : ℕ). readEvents o (at + x) (drop x bs) ≡ ok (front-event .others)) size
         (same-events o tt (at + containerSize o (front-event .item)) (drop (containerSize o (front-event .item)) bs) ∙ front-event .reads-others)
 
     split-event : firstMatch number code (tracesIn o (word o 24 bs) (at + 8) (front-event .item .body) ++ laterTraces o (8 + word o 4 bs) at bs)
@@ -263,7 +264,7 @@ module _ {o : Order} {number code : ℕ} {answer : List ℕ} {at : ℕ} {bs : Li
         let later : List TraceAt = laterTraces o (8 + word o 4 bs) at bs in
         subst (λ (x : ℕ). Looking o number code answer (at + (8 + x)) (laterTraces o (8 + x) at bs) (at + 8) (cutBody x bs)) (sym em)
         (record {
-          state = event none;
+          state = event unseen;
           rs = rs;
           reads = shown-event .contents;
           still = subst (λ (w : ℕ). firstMatch number code (tracesIn o w (at + 8) rs ++ later) ≡ answer) same split-event;
@@ -276,8 +277,8 @@ module _ {o : Order} {number code : ℕ} {answer : List ℕ} {at : ℕ} {bs : Li
         → Searching o number code answer (at + (8 + m)) (behindOf (8 + m) bs)
     unfolding tracesRead
     past-event m em e =
-        let reads-behind : readEvents o tt (at + (8 + m)) (behindOf (8 + m) bs) ≡ ok (front-event .others) =
-        subst (λ (x : ℕ). readEvents o tt (at + (8 + x)) (behindOf (8 + x) bs) ≡ ok (front-event .others)) (sym em) behind-event in
+        let reads-behind : readEvents o (at + (8 + m)) (behindOf (8 + m) bs) ≡ ok (front-event .others) =
+        subst (λ (x : ℕ). readEvents o (at + (8 + x)) (behindOf (8 + x) bs) ≡ ok (front-event .others)) (sym em) behind-event in
         record {
           es = front-event .others;
           reads = reads-behind;

@@ -1,4 +1,5 @@
--- Table's answer and buffer as a listing's text, and what a lent output must have room for.
+-- Table's answer and buffer as a listing's text, and what a lent output must have room for. The listing of FORMAT 8.9 is said of a file; this is
+-- the same text, made from what Table leaves.
 use Prim.Native.Nat.{ℕ, zero, suc, _+_, _*_}
 use mathlib.Core.Path.{_≡_}
 use mathlib.Core.Bool.{Bool, cond, _&&_}

@@ -1,4 +1,4 @@
-// The calls by place, as document 01 has them: every word little-endian. Each hands its order on to the call that takes one; a file's own calls
+// The calls by place with every word little-endian (FORMAT 1.2). Each hands its order on to the call that takes one; a file's own calls
 // (Table, Walker, Find, Rewrite) take the order from the file.
 use note::RecordAnswer;
 use note::SampleAnswer;
@@ -9,15 +9,15 @@ ghost use Prim.Native.Nat.{_+_};
 ghost use Rattle.theory.specs.declared.Order.the-variants.{Little};
 ghost use Rattle.note.specs.Answers.{givenRecord, givenSetting, givenSample, givenWriter};
 ghost use Rattle.note.specs.Calls.{recordAt, settingAt, samplesPart, samplesAt, sampleAt};
-ghost use Rattle.note.specs.Writers.{administrativeWritten, chargeWritten, configurationClosed, configurationOutput, eventClosed, eventOutput, gpsWritten};
-ghost use Rattle.note.specs.Writers.{headerOutput, headerWrote, historyWritten, phononWritten, tlbWritten, traceWritten, triggerWritten, writerGiven};
-ghost use Rattle.stores.specs.Writes.{Wrote};
+ghost use Rattle.note.specs.Writers.{administrativeDraft, chargeDraft, configurationClosed, configurationOutput, eventClosed, eventOutput, gpsDraft};
+ghost use Rattle.note.specs.Writers.{headerOutput, headerNext, historyDraft, phononDraft, tlbDraft, traceDraft, triggerDraft, writerGiven};
+ghost use Rattle.stores.specs.Writes.{WriterDid};
 
 // No word has its highest byte first.
 const LITTLE: bool = false;
 
 /// Record: the record or entry at a place with its fields, the whole file its parent and no event's rules; or a refusal.
-/// A case for each kind (document 01).
+/// A case for each kind (FORMAT 8.5).
 pub fn record(file: &[u8], place: usize) -> RecordAnswer
     ensures { λ r. ⌜ givenRecord r ≡ recordAt Little (now (file .entry)) place ⌝ }
 {
@@ -25,14 +25,14 @@ pub fn record(file: &[u8], place: usize) -> RecordAnswer
 }
 
 /// Setting: the entry at a place in working units; Record's refusals, then 5 there for another kind.
-/// An enum with floats (document 01).
+/// A case for each kind of entry, with floats (FORMAT 8.6).
 pub fn setting(file: &[u8], place: usize) -> SettingAnswer
     ensures { λ r. ⌜ givenSetting r ≡ settingAt Little (now (file .entry)) place ⌝ }
 {
     answers::setting(file, place, LITTLE)
 }
 
-/// Samples: the part of the caller's own file that holds the samples of the trace at a place; empty where Record finds none.
+/// Samples: of the lent file, the part that the samples of the trace at a place fill; empty where Record finds none.
 pub fn samples<'a>(file: &'a [u8], place: usize) -> &'a [u8]
     ensures bytes { λ r. ⌜ now r ≡ samplesAt Little (now (file .entry)) place ⌝ }
     ensures own { λ r. ⌜ r .ptr ≡ (file .entry .ptr .0, samplesPart Little (now (file .entry)) place .0 + file .entry .ptr .1) ⌝ }
@@ -48,8 +48,7 @@ pub fn sample(file: &[u8], place: usize, number: usize) -> SampleAnswer
     samples::sample(file, place, number, LITTLE)
 }
 
-/// Writes a phonon entry: detector code, tower, gain x100, QET bias x100, SQUID bias x100, lockpoint x100, RTF offset, variable gain,
-/// delta t, T0, trace length.
+/// Writes a phonon entry from its eleven words, in order; gain, both biases and lockpoint are times 100 (FORMAT 4.1).
 pub fn write_phonon(
     out: &mut [u8],
     place: usize,
@@ -65,7 +64,7 @@ pub fn write_phonon(
     t0: i32,
     trace_length: i32,
 ) -> WriterAnswer
-    ensures { λ r. ⌜ Wrote (now (out .entry)) place (phononWritten Little (record {
+    ensures { λ r. ⌜ WriterDid (now (out .entry)) place (phononDraft Little (record {
       code = code;
       tower = tower;
       gain = gain;
@@ -97,7 +96,7 @@ pub fn write_phonon(
     )
 }
 
-/// Writes a charge entry: detector code, tower, gain x100, bias, RTF offset, delta t, T0, trace length.
+/// Writes a charge entry from its eight words, in order; the gain is times 100 (FORMAT 4.2).
 pub fn write_charge(
     out: &mut [u8],
     place: usize,
@@ -110,7 +109,7 @@ pub fn write_charge(
     t0: i32,
     trace_length: i32,
 ) -> WriterAnswer
-    ensures { λ r. ⌜ Wrote (now (out .entry)) place (chargeWritten Little (record {
+    ensures { λ r. ⌜ WriterDid (now (out .entry)) place (chargeDraft Little (record {
       code = code;
       tower = tower;
       gain = gain;
@@ -136,7 +135,8 @@ pub fn write_charge(
     )
 }
 
-/// Writes an administrative record: series LLYYMMDD, series HHMM, event number, event time, time since last event, live time.
+/// Writes an administrative record from its six words, in order: the series by its digits, LLYYMMDD and HHMM; since and live in milliseconds
+/// (FORMAT 5.1).
 pub fn write_administrative(
     out: &mut [u8],
     place: usize,
@@ -147,7 +147,7 @@ pub fn write_administrative(
     since: u32,
     live: u32,
 ) -> WriterAnswer
-    ensures { λ r. ⌜ Wrote (now (out .entry)) place (administrativeWritten Little (record {
+    ensures { λ r. ⌜ WriterDid (now (out .entry)) place (administrativeDraft Little (record {
       date = date;
       clock = clock;
       number = number;
@@ -171,7 +171,7 @@ pub fn write_trace(
     n: u32,
     samples: &[u8],
 ) -> WriterAnswer
-    ensures { λ r. ⌜ Wrote (now (out .entry)) place (traceWritten Little (record {
+    ensures { λ r. ⌜ WriterDid (now (out .entry)) place (traceDraft Little (record {
       address = address;
       channel = channel;
       code = code;
@@ -208,7 +208,7 @@ pub fn write_history(
     trigger_width: u32,
     trigger_masks: &[u8],
 ) -> WriterAnswer
-    ensures { λ r. ⌜ Wrote (now (out .entry)) place (historyWritten Little (record {
+    ensures { λ r. ⌜ WriterDid (now (out .entry)) place (historyDraft Little (record {
       veto = record {
         count = «veto_count»;
         times = now («veto_times» .entry);
@@ -250,7 +250,7 @@ pub fn write_gps(
     second: u32,
     tenths: u32,
 ) -> WriterAnswer
-    ensures { λ r. ⌜ Wrote (now (out .entry)) place (gpsWritten Little (record {
+    ensures { λ r. ⌜ WriterDid (now (out .entry)) place (gpsDraft Little (record {
       year = year;
       day = day;
       status = status;
@@ -285,7 +285,7 @@ pub fn write_trigger(
     mask5: u32,
     mask6: u32,
 ) -> WriterAnswer
-    ensures { λ r. ⌜ Wrote (now (out .entry)) place (triggerWritten Little (record {
+    ensures { λ r. ⌜ WriterDid (now (out .entry)) place (triggerDraft Little (record {
       mask1 = mask1;
       mask2 = mask2;
       mask3 = mask3;
@@ -308,7 +308,7 @@ pub fn write_tlb(
     tower5: u32,
     tower6: u32,
 ) -> WriterAnswer
-    ensures { λ r. ⌜ Wrote (now (out .entry)) place (tlbWritten Little (record {
+    ensures { λ r. ⌜ WriterDid (now (out .entry)) place (tlbDraft Little (record {
       tower1 = tower1;
       tower2 = tower2;
       tower3 = tower3;
@@ -332,7 +332,7 @@ pub fn write_tlb(
 
 /// Writes the file header with these two DAQ bytes, from byte 0 on.
 pub fn write_header(out: &mut [u8], major: u8, minor: u8) -> WriterAnswer
-    ensures answer { λ r. ⌜ givenWriter r ≡ writerGiven (headerWrote (now (out .entry))) ⌝ }
+    ensures answer { λ r. ⌜ givenWriter r ≡ writerGiven (headerNext (now (out .entry))) ⌝ }
     ensures output { λ _. ⌜ now (out .exit) ≡ headerOutput Little (now (out .entry)) major minor ⌝ }
 {
     closings::write_header(out, major, minor, LITTLE)
@@ -353,10 +353,10 @@ pub fn close_event(
     end: usize,
     class: u32,
     category: u32,
-    kind: u32,
+    event_type: u32,
 ) -> WriterAnswer
-    ensures answer { λ r. ⌜ givenWriter r ≡ writerGiven (eventClosed Little (now (out .entry)) place end class category kind) ⌝ }
-    ensures output { λ _. ⌜ now (out .exit) ≡ eventOutput Little (now (out .entry)) place end class category kind ⌝ }
+    ensures answer { λ r. ⌜ givenWriter r ≡ writerGiven (eventClosed Little (now (out .entry)) place end class category «event_type») ⌝ }
+    ensures output { λ _. ⌜ now (out .exit) ≡ eventOutput Little (now (out .entry)) place end class category «event_type» ⌝ }
 {
-    closings::close_event(out, place, end, class, category, kind, LITTLE)
+    closings::close_event(out, place, end, class, category, event_type, LITTLE)
 }

@@ -25,10 +25,10 @@ fn print_name(name: Name) {
 }
 
 // The code that a type and an analysis name lead back to, and the line's end.
-fn print_code(kind: u32, name: Name) {
+fn print_code(detector_type: u32, name: Name) {
     let bytes = name.bytes;
     let size = io::count(name.length as isize, &bytes);
-    match dwejrasq::code(kind, DETECTOR, &bytes[..size]) {
+    match dwejrasq::code(detector_type, DETECTOR, &bytes[..size]) {
         CodeAnswer::Code { code } => {
             io::print_decimal(STDOUT_FILENO, code as u64);
         }
@@ -43,36 +43,36 @@ fn print_code(kind: u32, name: Name) {
 }
 
 // The line of a type's channel, where it is listed.
-fn print_channel(kind: u32, channel: u32) {
-    if kind > MOST_TYPE {
+fn print_channel(detector_type: u32, channel: u32) {
+    if detector_type > MOST_TYPE {
         return;
     }
     if channel > MOST_CHANNEL {
         return;
     }
-    let answer = dwejrasq::channel(kind * 1_000_000 + DETECTOR * 1_000 + channel);
+    let answer = dwejrasq::channel(detector_type * 1_000_000 + DETECTOR * 1_000 + channel);
     if answer.number == 0 {
-        print(kind);
+        print(detector_type);
         print(channel);
         print_name(answer.analysis);
         print_name(answer.cold);
-        print_code(kind, answer.analysis);
+        print_code(detector_type, answer.analysis);
     }
 }
 
 // The lines of a type's channels.
-fn print_type(kind: u32) {
+fn print_type(detector_type: u32) {
     let mut channel: u32 = 0;
     while channel <= MOST_CHANNEL {
-        print_channel(kind, channel);
+        print_channel(detector_type, channel);
         channel += 1;
     }
 }
 
 fn main() {
-    let mut kind: u32 = 0;
-    while kind <= MOST_TYPE {
-        print_type(kind);
-        kind += 1;
+    let mut detector_type: u32 = 0;
+    while detector_type <= MOST_TYPE {
+        print_type(detector_type);
+        detector_type += 1;
     }
 }

@@ -9,6 +9,7 @@ use native.Mathlib.Omega.{arith}
 use lib.Dec.{leb, eqb}
 use borrow.Author.Tests.{leb-true, le-leb, eqb-true, eq-eqb}
 use Rattle.theory.specs.Tests.{among}
+use Rattle.note.specs.Asked.{OneOf}
 
 abbrev pub Tells : Bool → Type 0 → Type 0
 Tells t A = (t ≡ true) ↔ A
@@ -29,12 +30,8 @@ le-tells m n = (leb-true m n, le-leb m n)
 pub eq-tells : (m n : ℕ) → Tells (eqb m n) (m ≡ n)
 eq-tells m n = (eqb-true m n, eq-eqb m n)
 
--- n is one of these numbers.
-abbrev pub OneOf : List ℕ → ℕ → Type 0
-OneOf [] n = ⊥
-OneOf (x ∷ xs) n = (n ≡ x) ⊎ OneOf xs n
-
-pub among-tells : (xs : List ℕ) (n : ℕ) → Tells (among n xs) (OneOf xs n)
+-- n is in the list exactly where it is one of its numbers.
+pub among-tells : (xs : List ℕ) (n : ℕ) → (among n xs ≡ true) ↔ OneOf xs n
 among-tells [] n = (λ e. absurd (false≢true e), λ h. absurd h)
 among-tells (x ∷ xs) n = either-tells (eq-tells n x) (among-tells xs n)
 

@@ -86,22 +86,22 @@ module _ (o : Order) (bs : List ℕ) (place c p : ℕ) where
     go (recordFound o bs place) refl,
     λ h. elim h [
       | no-record e ↦ rw e
-      | no-entry r e d f n q ↦ rw (e, ne-eqb (r .kind) 0x00010001 d, ne-eqb (r .kind) 0x00010002 f, n, q)
+      | no-entry r e d f n q ↦ rw (e, ne-eqb (r .word) 0x00010001 d, ne-eqb (r .word) 0x00010002 f, n, q)
     ],
   )
     where
-      tests : (r : Record) → recordFound o bs place ≡ ok r → (t u : Bool) → eqb (r .kind) 0x00010001 ≡ t → eqb (r .kind) 0x00010002 ≡ u
+      tests : (r : Record) → recordFound o bs place ≡ ok r → (t u : Bool) → eqb (r .word) 0x00010001 ≡ t → eqb (r .word) 0x00010002 ≡ u
           → (x y : List Value)
           → cond t (accepted x) (cond u (accepted y) (refused 5 place)) ≡ refused c p → SettingRefused o bs place c p
       tests r f true u a b x y e = absurd (not-refused e)
       tests r f false true a b x y e = absurd (not-refused e)
       tests r f false false a b x y e =
           let same = refused-same e in
-          no-entry r f (eqb-false (r .kind) 0x00010001 a) (eqb-false (r .kind) 0x00010002 b) (sym (same .0)) (sym (same .1))
+          no-entry r f (eqb-false (r .word) 0x00010001 a) (eqb-false (r .word) 0x00010002 b) (sym (same .0)) (sym (same .1))
 
       go : (r : Res Record) → recordFound o bs place ≡ r → settingGiven o place r ≡ refused c p → SettingRefused o bs place c p
       go (bad d q) f e = let same = refused-same e in no-record (f ∙ ap₂ (λ (x y : ℕ). bad x y) (same .0) (same .1))
-      go (ok r) f e = tests r f (eqb (r .kind) 0x00010001) (eqb (r .kind) 0x00010002) refl refl _ _ e
+      go (ok r) f e = tests r f (eqb (r .word) 0x00010001) (eqb (r .word) 0x00010002) refl refl _ _ e
 
 -- ---- a sample by number
 
@@ -129,38 +129,38 @@ module _ (o : Order) (bs : List ℕ) (place k c p : ℕ) where
     go (recordFound o bs place) refl,
     λ h. elim h [
       | nothing-found e ↦ rw e
-      | no-trace r e d n q ↦ rw (e, ne-eqb (r .kind) 0x11 d, n, q)
-      | no-sample r e t s n q ↦ rw (e, eq-eqb (r .kind) 0x11 t, out-of-range (word o 44 (r .body)) s, n, q)
+      | no-trace r e d n q ↦ rw (e, ne-eqb (r .word) 0x11 d, n, q)
+      | no-sample r e t s n q ↦ rw (e, eq-eqb (r .word) 0x11 t, out-of-range (word o 44 (r .body)) s, n, q)
     ],
   )
     where
-      tests : (r : Record) → recordFound o bs place ≡ ok r → (t u : Bool) → eqb (r .kind) 0x11 ≡ t → leb 1 k && leb k (word o 44 (r .body)) ≡ u
+      tests : (r : Record) → recordFound o bs place ≡ ok r → (t u : Bool) → eqb (r .word) 0x11 ≡ t → leb 1 k && leb k (word o 44 (r .body)) ≡ u
           → (x : List Value)
           → cond t (cond u (accepted x) (refused 11 place)) (refused 5 place) ≡ refused c p → SampleRefused o bs place k c p
       tests r f true true a b x e = absurd (not-refused e)
       tests r f true false a b x e =
           let same = refused-same e in
-          no-sample r f (eqb-true (r .kind) 0x11 a) (range (word o 44 (r .body)) b)
+          no-sample r f (eqb-true (r .word) 0x11 a) (range (word o 44 (r .body)) b)
           (sym (same .0)) (sym (same .1))
       tests r f false u a b x e =
-          let same = refused-same e in no-trace r f (eqb-false (r .kind) 0x11 a) (sym (same .0)) (sym (same .1))
+          let same = refused-same e in no-trace r f (eqb-false (r .word) 0x11 a) (sym (same .0)) (sym (same .1))
 
       go : (r : Res Record) → recordFound o bs place ≡ r → sampleGiven o place k r ≡ refused c p → SampleRefused o bs place k c p
       go (bad d q) f e = let same = refused-same e in nothing-found (f ∙ ap₂ (λ (x y : ℕ). bad x y) (same .0) (same .1))
-      go (ok r) f e = tests r f (eqb (r .kind) 0x11) (leb 1 k && leb k (word o 44 (r .body))) refl refl _ e
+      go (ok r) f e = tests r f (eqb (r .word) 0x11) (leb 1 k && leb k (word o 44 (r .body))) refl refl _ e
 
 -- ---- Samples
 
 -- A trace's samples are its body behind the first 48 bytes, which stands 8 bytes behind the place; all else has none.
 module _ (o : Order) (bs : List ℕ) (place : ℕ) where
-  pub samples-of-trace : (r : Record) → recordFound o bs place ≡ ok r → r .kind ≡ 0x11
+  pub samples-of-trace : (r : Record) → recordFound o bs place ≡ ok r → r .word ≡ 0x11
       → samplesPart o bs place ≡ (place + 56, length (r .body) - 48)
   unfolding samplesPart
-  samples-of-trace r f k = rw (f, eq-eqb (r .kind) 0x11 k)
+  samples-of-trace r f k = rw (f, eq-eqb (r .word) 0x11 k)
 
-  pub other-has-no-samples : (r : Record) → recordFound o bs place ≡ ok r → r .kind ≢ 0x11 → samplesPart o bs place ≡ (0, 0)
+  pub other-has-no-samples : (r : Record) → recordFound o bs place ≡ ok r → r .word ≢ 0x11 → samplesPart o bs place ≡ (0, 0)
   unfolding samplesPart
-  other-has-no-samples r f k = rw (f, ne-eqb (r .kind) 0x11 k)
+  other-has-no-samples r f k = rw (f, ne-eqb (r .word) 0x11 k)
 
   pub refused-has-no-samples : (c p : ℕ) → recordFound o bs place ≡ bad c p → samplesPart o bs place ≡ (0, 0)
   unfolding samplesPart

@@ -1,10 +1,10 @@
 -- The laws of the channel lists: code to names to code, name to code to name, and a channel code said a second time, without names.
 -- The idea: every type from 12 on has an empty list, so a fact about all lists is a test that antt computes at the types 0 to 11.
-use Prim.Native.Nat.{ℕ, _+_, _-_, _*_, _/_, _≤_, _<_}
+use Prim.Native.Nat.{ℕ, _+_, _*_, _/_, _≤_, _<_}
 use mathlib.Core.Path.{_≡_, refl, sym, _∙_, subst}
 use mathlib.Core.Logic.{_↔_, _⊎_, inl, inr, ⊎-elim, by-cases}
 use mathlib.Core.Bool.{Bool, true, false, Bool·beq, cond, _&&_, _||_, false≢true, and-eq-true-iff}
-use mathlib.Core.List.{List, [], _∷_, map}
+use mathlib.Core.List.{List, [], _∷_}
 use mathlib.Core.Option.{Option, some, none}
 use native.Mathlib.Omega.{arith}
 use native.Mathlib.Decide.{decLe}
@@ -14,9 +14,10 @@ use borrow.Author.Tests.{leb-true, le-leb, eqb-true, ne-eqb}
 use Rattle.theory.specs.Tests.{among}
 use Rattle.note.specs.Answers.{accepted, refused, counts}
 use Rattle.note.specs.Channels.{ascii, Channel, channelsOf, pick, same, numbered, called, beginsWith, isSome}
-use Rattle.note.specs.Channels.{typeOf, detectorOf, channelNumber, codeFrom, channelOf, named, phononNamed, chargeNamed}
+use Rattle.note.specs.Channels.{typeOf, detectorOf, channelNumber, codeFrom, channelOf, namesChannel, namesPhonon, namesCharge}
 use Rattle.note.specs.Channels.{nameOf, channelGiven, channelAnswer, codeGiven, codeAnswer}
-use Rattle.note.proofs.BoolLaws.{Tells, both-tell, either-tells, le-tells, OneOf, among-tells, upTo, one-up-to}
+use Rattle.note.specs.ChannelTable.{ChannelLine, Listed, channelLines, chargeLines, phononLines, CodeListed, sides}
+use Rattle.note.proofs.BoolLaws.{Tells, both-tell, either-tells, le-tells, among-tells, upTo, one-up-to}
 use Rattle.note.proofs.Sweep.{all, all-at, allPairs, all-pairs-at}
 use Rattle.note.proofs.Computing.{computing}
 
@@ -150,136 +151,91 @@ code-leads-back w x e =
 
 -- The code w comes from a channel that was found, o.
 abbrev From : ℕ → ℕ → ℕ → Option Channel → Type 0
-From kind detector w o = (x : Channel) × (o ≡ some x) × (detector ≤ 999) × (codeFrom kind detector (x .channel) ≡ w)
+From type detector w o = (x : Channel) × (o ≡ some x) × (detector ≤ 999) × (codeFrom type detector (x .channel) ≡ w)
 
-code-from : (kind detector w : ℕ) (o : Option Channel) → codeGiven kind detector o ≡ accepted (counts (w ∷ [])) → From kind detector w o
-code-from kind detector w none e = let z : _≡_ {A = ℕ} 0 1 = cc in absurd (omega arith)
-code-from kind detector w (some x) e = go (leb detector 999) refl e
+code-from : (type detector w : ℕ) (o : Option Channel) → codeGiven type detector o ≡ accepted (counts (w ∷ [])) → From type detector w o
+code-from type detector w none e = let z : _≡_ {A = ℕ} 0 1 = cc in absurd (omega arith)
+code-from type detector w (some x) e = go (leb detector 999) refl e
   where
     made : ℕ
-    made = codeFrom kind detector (x .channel)
+    made = codeFrom type detector (x .channel)
 
     go : (b : Bool) → leb detector 999 ≡ b → cond b (accepted (counts (made ∷ []))) (refused 10 0) ≡ accepted (counts (w ∷ []))
-        → From kind detector w (some x)
+        → From type detector w (some x)
     go true t e = (x, refl, leb-true detector 999 t, cc)
     go false t e = let z : _≡_ {A = ℕ} 0 1 = cc in absurd (omega arith)
 
 -- The three parts of a code, read apart.
-parts-of-code : (kind detector c w : ℕ) → w ≡ codeFrom kind detector c → detector ≤ 999 → c ≤ 999
-    → (typeOf w ≡ kind) × (detectorOf w ≡ detector) × (channelNumber w ≡ c)
-parts-of-code kind detector c w e d h =
-    let r : w / 1000 ≡ kind * 1000 + detector = omega arith in
+parts-of-code : (type detector c w : ℕ) → w ≡ codeFrom type detector c → detector ≤ 999 → c ≤ 999
+    → (typeOf w ≡ type) × (detectorOf w ≡ detector) × (channelNumber w ≡ c)
+parts-of-code type detector c w e d h =
+    let r : w / 1000 ≡ type * 1000 + detector = omega arith in
     (omega arith, rw r (omega arith), omega arith)
 
 -- From type, number and analysis name to a code, and back to them.
-pub name-leads-back : (kind detector : ℕ) (name : List ℕ) (w : ℕ) → codeAnswer kind detector name ≡ accepted (counts (w ∷ []))
-    → (x : Channel) × (channelOf w ≡ some x) × (x .analysis ≡ name) × (typeOf w ≡ kind) × (detectorOf w ≡ detector)
+pub name-leads-back : (type detector : ℕ) (name : List ℕ) (w : ℕ) → codeAnswer type detector name ≡ accepted (counts (w ∷ []))
+    → (x : Channel) × (channelOf w ≡ some x) × (x .analysis ≡ name) × (typeOf w ≡ type) × (detectorOf w ≡ detector)
 unfolding codeAnswer
-name-leads-back kind detector name w e =
-    let (x, f, d, q) = code-from kind detector w (called kind name) e in
-    let (y, g, n) = name-leads kind name x f in
-    let (k, r, m) = parts-of-code kind detector (x .channel) w (sym q) d (omega (arith, number-small kind (x .channel) y g)) in
+name-leads-back type detector name w e =
+    let (x, f, d, q) = code-from type detector w (called type name) e in
+    let (y, g, n) = name-leads type name x f in
+    let (k, r, m) = parts-of-code type detector (x .channel) w (sym q) d (omega (arith, number-small type (x .channel) y g)) in
     (y, rw (k, m) g, n, k, r)
 
 -- ---- a channel code, said without names
 
 -- The two calls, one after the other: what Code answers for a name is a code for which Channel answers that name; what Channel answers for a code
 -- leads Code back to it.
-pub code-named-back : (kind detector : ℕ) (name : List ℕ) (w : ℕ) → codeAnswer kind detector name ≡ accepted (counts (w ∷ []))
+pub code-named-back : (type detector : ℕ) (name : List ℕ) (w : ℕ) → codeAnswer type detector name ≡ accepted (counts (w ∷ []))
     → (cold : List ℕ)
-    × (channelAnswer w ≡ record { number = 0; place = 0; kind = kind; detector = detector; analysis = nameOf name; cold = nameOf cold })
+    × (channelAnswer w ≡ record { number = 0; place = 0; «detector_type» = type; detector = detector; analysis = nameOf name; cold = nameOf cold })
 unfolding channelAnswer
-code-named-back kind detector name w e =
-    let (x, f, n, k, d) = name-leads-back kind detector name w e in
-    (x .cold, rw f (λ i. record { number = 0; place = 0; kind = k i; detector = d i; analysis = nameOf (n i); cold = nameOf (x .cold) }))
+code-named-back type detector name w e =
+    let (x, f, n, k, d) = name-leads-back type detector name w e in
+    (x .cold, rw f (λ i. record { number = 0; place = 0; «detector_type» = k i; detector = d i; analysis = nameOf (n i); cold = nameOf (x .cold) }))
 
 -- Code answers a code, or 10 at 0.
-pub code-given : (kind detector : ℕ) (name : List ℕ)
-    → ((w : ℕ) × (codeAnswer kind detector name ≡ accepted (counts (w ∷ [])))) ⊎ (codeAnswer kind detector name ≡ refused 10 0)
+pub code-given : (type detector : ℕ) (name : List ℕ)
+    → ((w : ℕ) × (codeAnswer type detector name ≡ accepted (counts (w ∷ [])))) ⊎ (codeAnswer type detector name ≡ refused 10 0)
 unfolding codeAnswer
-code-given kind detector name = go (called kind name)
+code-given type detector name = go (called type name)
   where
     limited : (t : Bool) (w : ℕ) → ((v : ℕ) × (cond t (accepted (counts (w ∷ []))) (refused 10 0) ≡ accepted (counts (v ∷ []))))
         ⊎ (cond t (accepted (counts (w ∷ []))) (refused 10 0) ≡ refused 10 0)
     limited true w = inl (w, refl)
     limited false w = inr refl
 
-    go : (o : Option Channel) → ((w : ℕ) × (codeGiven kind detector o ≡ accepted (counts (w ∷ [])))) ⊎ (codeGiven kind detector o ≡ refused 10 0)
+    go : (o : Option Channel) → ((w : ℕ) × (codeGiven type detector o ≡ accepted (counts (w ∷ [])))) ⊎ (codeGiven type detector o ≡ refused 10 0)
     go none = inr refl
-    go (some c) = limited (leb detector 999) (codeFrom kind detector (c .channel))
+    go (some c) = limited (leb detector 999) (codeFrom type detector (c .channel))
 
 pub channel-coded-back : (w : ℕ) → channelAnswer w .number ≡ 0
     → (name : List ℕ) × (channelAnswer w .analysis ≡ nameOf name)
-    × (codeAnswer (channelAnswer w .kind) (channelAnswer w .detector) name ≡ accepted (counts (w ∷ [])))
+    × (codeAnswer (channelAnswer w .«detector_type») (channelAnswer w .detector) name ≡ accepted (counts (w ∷ [])))
 unfolding channelAnswer
 channel-coded-back w e = go (channelOf w) refl e
   where
     go : (o : Option Channel) → channelOf w ≡ o → channelGiven w o .number ≡ 0
         → (name : List ℕ) × (channelGiven w o .analysis ≡ nameOf name)
-        × (codeAnswer (channelGiven w o .kind) (channelGiven w o .detector) name ≡ accepted (counts (w ∷ [])))
+        × (codeAnswer (channelGiven w o .«detector_type») (channelGiven w o .detector) name ≡ accepted (counts (w ∷ [])))
     go none f z = absurd (omega arith)
     go (some x) f z = (x .analysis, refl, code-leads-back w x f)
 
--- A line of document 01: these detector types have the channels from `low` to `high`.
-pub record Line : Type 0 where
-  pub types : List ℕ
-  pub low : ℕ
-  pub high : ℕ
+abbrev onLine : List ChannelLine → ℕ → ℕ → Bool
+onLine [] type c = false
+onLine (l ∷ ls) type c = (among type (l .types) && (leb (l .low) c && leb c (l .high))) || onLine ls type c
 
-abbrev pub line : List ℕ → ℕ → ℕ → Line
-line ts a b = record { types = ts; low = a; high = b }
-
--- Type `kind` has channel c on one of the lines.
-abbrev pub Listed : List Line → ℕ → ℕ → Type 0
-Listed [] kind c = ⊥
-Listed (l ∷ ls) kind c = (OneOf (l .types) kind × ((l .low ≤ c) × (c ≤ l .high))) ⊎ Listed ls kind c
-
--- All channels; the charge channels; the phonon channels.
-abbrev pub channelLines : List Line
-channelLines =
-    line (1 ∷ []) 1 4 ∷
-    line (3 ∷ []) 0 0 ∷
-    line (2 ∷ 4 ∷ 5 ∷ 6 ∷ []) 0 5 ∷
-    line (7 ∷ []) 0 2 ∷
-    line (10 ∷ 11 ∷ []) 0 11 ∷ []
-
-abbrev pub chargeLines : List Line
-chargeLines =
-    line (1 ∷ []) 1 2 ∷
-    line (2 ∷ 4 ∷ 5 ∷ 6 ∷ []) 0 1 ∷
-    line (7 ∷ []) 0 0 ∷
-    line (10 ∷ 11 ∷ []) 0 1 ∷
-    line (10 ∷ 11 ∷ []) 6 7 ∷ []
-
-abbrev pub phononLines : List Line
-phononLines =
-    line (1 ∷ []) 3 4 ∷
-    line (2 ∷ 4 ∷ 5 ∷ 6 ∷ []) 2 5 ∷
-    line (7 ∷ []) 1 2 ∷
-    line (10 ∷ 11 ∷ []) 2 5 ∷
-    line (10 ∷ 11 ∷ []) 8 11 ∷ []
-
--- w is a code in decimal: type, number 0 to 999 and a channel of these lines, three digits each.
-abbrev pub CodeOf : List Line → ℕ → Type 0
-CodeOf ls w =
-    (kind : ℕ) × (detector : ℕ) × (c : ℕ)
-    × (w ≡ kind * 1000000 + detector * 1000 + c) × (detector ≤ 999) × Listed ls kind c
-
-abbrev onLine : List Line → ℕ → ℕ → Bool
-onLine [] kind c = false
-onLine (l ∷ ls) kind c = (among kind (l .types) && (leb (l .low) c && leb c (l .high))) || onLine ls kind c
-
-on-line-tells : (ls : List Line) (kind c : ℕ) → Tells (onLine ls kind c) (Listed ls kind c)
-on-line-tells [] kind c = (λ e. absurd (false≢true e), λ h. absurd h)
-on-line-tells (l ∷ ls) kind c =
-    either-tells (both-tell (among-tells (l .types) kind) (both-tell (le-tells (l .low) c) (le-tells c (l .high)))) (on-line-tells ls kind c)
+on-line-tells : (ls : List ChannelLine) (type c : ℕ) → Tells (onLine ls type c) (Listed ls type c)
+on-line-tells [] type c = (λ e. absurd (false≢true e), λ h. absurd h)
+on-line-tells (l ∷ ls) type c =
+    either-tells (both-tell (among-tells (l .types) type) (both-tell (le-tells (l .low) c) (le-tells c (l .high)))) (on-line-tells ls type c)
 
 -- No line goes past type 11 or channel 11.
-abbrev bounded : List Line → Bool
+abbrev bounded : List ChannelLine → Bool
 bounded [] = true
 bounded (l ∷ ls) = upTo 11 (l .types) && (leb (l .high) 11 && bounded ls)
 
-line-small : (ls : List Line) (k c : ℕ) → bounded ls ≡ true → Listed ls k c → (k ≤ 11) × (c ≤ 11)
+line-small : (ls : List ChannelLine) (k c : ℕ) → bounded ls ≡ true → Listed ls k c → (k ≤ 11) × (c ≤ 11)
 line-small [] k c t h = absurd h
 line-small (l ∷ ls) k c t h =
     let s = and-eq-true-iff (upTo 11 (l .types)) (leb (l .high) 11 && bounded ls) .0 t in
@@ -287,11 +243,11 @@ line-small (l ∷ ls) k c t h =
     ⊎-elim (λ g. (one-up-to 11 (l .types) k (s .0) (g .0), omega (arith, leb-true (l .high) 11 (u .0)))) (line-small ls k c (u .1)) h
 
 -- The lines and a test of the listed channel agree at type k and channel c.
-abbrev agrees : List Line → (Option Channel → Bool) → ℕ → ℕ → Bool
+abbrev agrees : List ChannelLine → (Option Channel → Bool) → ℕ → ℕ → Bool
 agrees ls test k c = Bool·beq (onLine ls k c) (test (numbered k c))
 
 -- A test of the listed channel, which agrees with the lines at every type and channel up to 11, picks the codes of those lines.
-module _ (ls : List Line) (test : Option Channel → Bool) (nothing : test none ≡ false) (small : bounded ls ≡ true)
+module _ (ls : List ChannelLine) (test : Option Channel → Bool) (nothing : test none ≡ false) (small : bounded ls ≡ true)
     (agree : allPairs (agrees ls test) 12 ≡ true) where
   agree-at : (k c : ℕ) → (k ≤ 11) × (c ≤ 11) → onLine ls k c ≡ test (numbered k c)
   agree-at k c h =
@@ -307,25 +263,25 @@ module _ (ls : List Line) (test : Option Channel → Bool) (nothing : test none 
     λ h. sym (agree-at k c (line-small ls k c small h)) ∙ on-line-tells ls k c .1 h,
   )
 
-  codes-tell : (w : ℕ) → Tells (test (channelOf w)) (CodeOf ls w)
+  codes-tell : (w : ℕ) → Tells (test (channelOf w)) (CodeListed ls w)
   codes-tell w = (
     λ e. (typeOf w, detectorOf w, channelNumber w, omega arith, omega arith, lines-tell (typeOf w) (channelNumber w) .0 e),
     λ h.
-        let (kind, detector, c, e, d, l) = h in
-        let (k, r, m) = parts-of-code kind detector c w e d (omega (arith, line-small ls kind c small l)) in
-        rw (k, m) (lines-tell kind c .1 l),
+        let (type, detector, c, e, d, l) = h in
+        let (k, r, m) = parts-of-code type detector c w e d (omega (arith, line-small ls type c small l)) in
+        rw (k, m) (lines-tell type c .1 l),
   )
 
--- A code is named, or names a charge or a phonon channel, exactly where document 01's lines have it.
-pub code-is-listed : (w : ℕ) → (named w ≡ true) ↔ CodeOf channelLines w
+-- A code is named, or names a charge or a phonon channel, exactly where a line of the list has it.
+pub code-is-listed : (w : ℕ) → (namesChannel w ≡ true) ↔ CodeListed channelLines w
 unfolding computing
 code-is-listed = codes-tell channelLines isSome refl refl refl
 
-pub charge-code-is-listed : (w : ℕ) → (chargeNamed w ≡ true) ↔ CodeOf chargeLines w
+pub charge-code-is-listed : (w : ℕ) → (namesCharge w ≡ true) ↔ CodeListed chargeLines w
 unfolding computing
 charge-code-is-listed = codes-tell chargeLines (beginsWith "Q") refl refl refl
 
-pub phonon-code-is-listed : (w : ℕ) → (phononNamed w ≡ true) ↔ CodeOf phononLines w
+pub phonon-code-is-listed : (w : ℕ) → (namesPhonon w ≡ true) ↔ CodeListed phononLines w
 unfolding computing
 phonon-code-is-listed = codes-tell phononLines (beginsWith "P") refl refl refl
 
@@ -359,14 +315,6 @@ names-fit k c x e =
     let s = of-picked (λ l y. short (y .analysis) && short (y .cold)) refl k (λ y. eqb (y .channel) c) x e in
     let u = and-eq-true-iff (short (x .analysis)) (short (x .cold)) .0 (s .1) in
     (short-holds (x .analysis) (u .0), short-holds (x .cold) (u .1))
-
--- The last byte of channel c's analysis name, its side in an iZIP; the sides of channels 0 to 11.
-abbrev pub sideOf : Option Channel → ℕ
-sideOf none = 0
-sideOf (some x) = getD (x .analysis) (length (x .analysis) - 1) 0
-
-abbrev pub sides : ℕ → List ℕ
-sides kind = map (λ (c : ℕ). sideOf (numbered kind c)) (0 ∷ 1 ∷ 2 ∷ 3 ∷ 4 ∷ 5 ∷ 6 ∷ 7 ∷ 8 ∷ 9 ∷ 10 ∷ 11 ∷ [])
 
 -- The sides of class I, type 10, and of class II, type 11: the same channel may have another side.
 pub side-is-listed : (sides 10 ≡ ascii "111211222122") × (sides 11 ≡ ascii "112121221212")

@@ -139,7 +139,7 @@ named-so (r ∷ rs) t w = go (isLine r k c) refl (named-so rs (s .1) w)
           λ i. record {
             number = 0;
             place = 0;
-            kind = sym x i;
+            «detector_type» = sym x i;
             detector = detectorOf w;
             analysis = answerFor r 0 .analysis;
             cold = answerFor r 0 .cold;

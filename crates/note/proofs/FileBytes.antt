@@ -12,12 +12,12 @@ use Rattle.note.specs.Events.{Container, containerBytes, eventsBytes}
 use Rattle.note.specs.Files.{File, orderIn, versionOf, configurationOf, eventsOf, headerBytes, fileBytes}
 
 -- A record or entry: kind word, length of the body, body. A container: first word, length of its contents, contents.
-pub record-bytes : (o : Order) (r : Record) → recordBytes o r ≡ words o (r .kind ∷ length (r .body) ∷ []) ++ r .body
+pub record-bytes : (o : Order) (r : Record) → recordBytes o r ≡ words o (r .word ∷ length (r .body) ∷ []) ++ r .body
 unfolding puts
 record-bytes o r = simp (append-assoc, append-nil)
 
 pub container-bytes : (o : Order) (c : Container)
-    → containerBytes o c ≡ words o (c .kind ∷ length (recordsBytes o (c .body)) ∷ []) ++ recordsBytes o (c .body)
+    → containerBytes o c ≡ words o (c .word ∷ length (recordsBytes o (c .body)) ∷ []) ++ recordsBytes o (c .body)
 unfolding puts
 container-bytes o c = simp (append-assoc, append-nil)
 

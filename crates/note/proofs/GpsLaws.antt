@@ -19,6 +19,7 @@ use Rattle.theory.proofs.TestLaws.{holds-at}
 use Rattle.theory.proofs.WordLaws.{word-fits, puts-fill, length-puts}
 use Rattle.note.specs.Words.{word, words}
 use Rattle.note.specs.Gps.{Gps, areDigits, decimal, bcd, gpsOf, gpsWords, gpsBytes, isLeap, daysOfYear, gpsFault, gpsTests, gpsRule}
+use Rattle.note.specs.Rules.{spell, DecimalDigits, Spelled, leapsBefore}
 use Rattle.note.proofs.FieldLaws.{read, words-read, number-at}
 use Rattle.note.proofs.Sweep.{all-at}
 use Rattle.note.proofs.Computing.{computing}
@@ -95,18 +96,7 @@ digits-split n m w = subst (λ (t : Bool). (t ≡ true) ↔ ((areDigits n w ≡ 
         let q : w / 16 / 16 ^ n ≡ w / 16 ^ suc n = rw pow-succ' (div-div-eq-div-mul w 16 (16 ^ n)) in
         rw (suc-add, split n m (w / 16), q) (sym (and-assoc (leb (w % 16) 9) (areDigits n (w / 16)) (areDigits m (w / 16 ^ suc n))))
 
--- BCD said a second time: n digits, each at most 9, that spell the word to the base 16 and the number to the base 10.
-abbrev pub spell : ℕ → List ℕ → ℕ
-spell base [] = 0
-spell base (d ∷ ds) = spell base ds * base + d
-
-abbrev pub Digits : List ℕ → Type 0
-Digits [] = Unit {0}
-Digits (d ∷ ds) = (d ≤ 9) × Digits ds
-
-abbrev pub Spelled : ℕ → ℕ → ℕ → Type 0
-Spelled n w v = (ds : List ℕ) × (length ds ≡ n) × Digits ds × (w % 16 ^ n ≡ spell 16 ds) × (v ≡ spell 10 ds)
-
+-- BCD said a second time: the digits of a word and of its number are the same.
 is-spelled : (n w : ℕ) → areDigits n w ≡ true → Spelled n w (decimal n w)
 unfolding areDigits decimal
 is-spelled zero w h = ([], refl, tt, rw (pow-zero, mod-one), refl)
@@ -115,7 +105,7 @@ is-spelled (suc n) w h =
     let (ds, l, small, e, f) = is-spelled n (w / 16) (s .1) in
     (w % 16 ∷ ds, ap suc l, (leb-true (w % 16) 9 (s .0), small), rw (mod-digit n w, e), rw f)
 
-spelled-is : (ds : List ℕ) (w : ℕ) → Digits ds → w % 16 ^ length ds ≡ spell 16 ds
+spelled-is : (ds : List ℕ) (w : ℕ) → DecimalDigits ds → w % 16 ^ length ds ≡ spell 16 ds
     → (areDigits (length ds) w ≡ true) × (decimal (length ds) w ≡ spell 10 ds)
 unfolding areDigits decimal
 spelled-is [] w small e = (refl, refl)
@@ -135,10 +125,6 @@ digits-are-decimal n w v = (λ h. subst (Spelled n w) (h .1) (is-spelled n w (h 
         (rw (← l) s, rw (← l) (g ∙ sym f))
 
 -- ---- the Gregorian day
-
--- The leap years before year y, from year 0 on, counted by division alone.
-abbrev pub leapsBefore : ℕ → ℕ
-leapsBefore y = (y + 3) / 4 - (y + 99) / 100 + (y + 399) / 400
 
 -- A year has 365 days, and one more for each leap year from it to the next.
 pub leap-years-counted : (y : ℕ) → y ≤ 9999 → daysOfYear y ≡ 365 + (leapsBefore (y + 1) - leapsBefore y)

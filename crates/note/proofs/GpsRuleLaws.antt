@@ -11,37 +11,12 @@ use native.Mathlib.Nat.{zero-add, suc-add, pow-zero, pow-suc, pow-succ', div-one
 use lib.Dec.{leb, eqb}
 use lib.ListN.{length}
 use Rattle.theory.specs.declared.Order.{Order}
-use Rattle.note.specs.Asked.{asks, fine, Divides}
 use Rattle.note.specs.Words.{word}
 use Rattle.note.specs.Gps.{Gps, areDigits, decimal, gpsOf, isLeap, daysOfYear, gpsFault, gpsRule}
+use Rattle.note.specs.Rules.{Leap, DayOfYear, GpsMeans, GpsAsked}
 use Rattle.note.proofs.BoolLaws.{Tells, both-tell, either-tells, le-tells, eq-tells}
 use Rattle.note.proofs.AskedLaws.{Gives, no-more, asked, asked-too, said-so, asked-of-part, divides-tells, not-tells}
-use Rattle.note.proofs.GpsLaws.{Spelled, digits-are-decimal, digits-split, digits-above, decimal-above, decimal-fits}
-
--- ---- what is asked
-
--- A Gregorian leap year.
-abbrev pub Leap : ℕ → Type 0
-Leap y = Divides 4 y × ((Divides 100 y → ⊥) ⊎ Divides 400 y)
-
-abbrev pub DayOfYear : ℕ → ℕ → Type 0
-DayOfYear y d = (1 ≤ d) × ((d ≤ 365) ⊎ ((d ≡ 366) × Leap y))
-
--- The words are the digits yyyydddd; a status digit, a zero digit, hhmmss; tenths. And these numbers are a time.
-pub record GpsMeans (o : Order) (b : List ℕ) (f : Gps) : Type 0 where
-  pub date : Spelled 8 (word o 0 b) (f .year * 10000 + f .day)
-  pub time : (low : ℕ) × (word o 4 b ≡ f .status * 16 ^ 7 + low) × (low < 16 ^ 6)
-      × Spelled 6 low (f .hour * 10000 + f .minute * 100 + f .second)
-  pub part : Spelled 8 (word o 8 b) (f .tenths)
-  pub day : DayOfYear (f .year) (f .day)
-  pub status : f .status ≤ 15
-  pub hour : f .hour ≤ 23
-  pub minute : f .minute ≤ 59
-  pub second : f .second ≤ 59
-  pub tenths : f .tenths < 10000000
-
-abbrev pub GpsAsked : Order → List ℕ → ℕ → Type 0
-GpsAsked o b = asks (length b ≡ 12) 6 (asks ((f : Gps) × GpsMeans o b f) 10 fine)
+use Rattle.note.proofs.GpsLaws.{digits-are-decimal, digits-split, digits-above, decimal-above, decimal-fits}
 
 -- ---- the tests
 

@@ -15,13 +15,14 @@ use Rattle.theory.specs.Words.{Bytes, wordsAt}
 use Rattle.theory.proofs.TestLaws.{first-at, first-passes, holds-at, unless-holds, equal-passed, equal-passes, most-passed, most-passes}
 use Rattle.theory.proofs.WordLaws.{words-of-puts, puts-of-words, length-puts, word-past}
 use Rattle.note.specs.Words.{word, words, greatestSigned}
-use Rattle.note.specs.History.{Section, History, widthAt, widthOf, after, triggerAt, sectionOf, historyOf}
+use Rattle.note.specs.History.{Section, History, widthAt, widthOf, endAt, triggerAt, sectionOf, historyOf}
 use Rattle.note.specs.History.{sectionBytes, historyBytes, isWidth, sectionRule, historyRule, sectionFault, historyFault}
+use Rattle.note.specs.Rules.{Fills}
 use Rattle.note.proofs.FieldLaws.{number-at}
 
 -- ---- a section without a fault
 
--- "nvt is 0 exactly when nvw is 0 .. ntw is 6 when ntt is positive, and 0 when ntt is 0."
+-- What a width may be (FORMAT 5.3): a veto section has no times exactly where it has no width; a trigger section has both, six wide, or neither.
 abbrev pub Width : Bool → ℕ → ℕ → Type 0
 Width false times width = (times ≡ 0) ↔ (width ≡ 0)
 Width true times width = ((times ≡ 0) × (width ≡ 0)) ⊎ ((0 < times) × (width ≡ 6))
@@ -71,9 +72,9 @@ module _ (trigger : Bool) (s : Section) where
 -- ---- a section at place p of a body
 
 -- The rule at p is the rule of the section read there, where its masks end within the body.
-module _ (o : Order) (trigger : Bool) (p : ℕ) (b : List ℕ) (room : after o p b ≤ length b) where
+module _ (o : Order) (trigger : Bool) (p : ℕ) (b : List ℕ) (room : endAt o p b ≤ length b) where
   rule-whole : sectionRule o trigger p b ≡ 0 → Whole trigger (sectionOf o p b)
-  unfolding sectionRule sectionOf after widthAt
+  unfolding sectionRule sectionOf endAt widthAt
   rule-whole e =
       let l : (n q : ℕ) → q + n ≤ length b → length (take n (drop q b)) ≡ n =
       λ n q h. length-take-le n (drop q b) (omega (arith, length-drop q b)) in
@@ -86,17 +87,17 @@ module _ (o : Order) (trigger : Bool) (p : ℕ) (b : List ℕ) (room : after o p
       }
 
   whole-rule : Whole trigger (sectionOf o p b) → sectionRule o trigger p b ≡ 0
-  unfolding sectionRule sectionOf after widthAt
+  unfolding sectionRule sectionOf endAt widthAt
   whole-rule h =
       let counted : p + 4 ≤ length b = omega arith in
       let wide : p + 4 + 4 * word o p b + 4 ≤ length b = omega arith in
       let widths = unless-holds _ 10 (means-width trigger (word o p b) (widthOf o p b) (h .widths)) in
       first-passes _ (most-passes 6 counted, (most-passes 10 (h .count), (most-passes 6 wide, (most-passes 10 (h .width), (widths, tt)))))
 
--- Written again it restores its bytes.
-section-restored : (o : Order) (p : ℕ) (b : List ℕ) → after o p b ≤ length b → Bytes b
-    → sectionBytes o (sectionOf o p b) ++ drop (after o p b) b ≡ drop p b
-unfolding sectionBytes sectionOf after widthOf widthAt wordsAt
+-- Draft again it restores its bytes.
+section-restored : (o : Order) (p : ℕ) (b : List ℕ) → endAt o p b ≤ length b → Bytes b
+    → sectionBytes o (sectionOf o p b) ++ drop (endAt o p b) b ≡ drop p b
+unfolding sectionBytes sectionOf endAt widthOf widthAt wordsAt
 section-restored o p b room h =
     let one : (q : ℕ) → q + 4 ≤ length b → words o (word o q b ∷ []) ++ drop (q + 4) b ≡ drop q b = λ q l. puts-of-words o 4 1 q b h l in
     let part : (q n : ℕ) → take n (drop q b) ++ drop (q + n) b ≡ drop q b =
@@ -124,8 +125,8 @@ module _ (o : Order) (trigger : Bool) (s : Section) (h : Whole trigger s) where
   section-size = simp length-append (omega (arith, length-puts o 4 (s .count ∷ []), length-puts o 4 (s .width ∷ [])))
 
   module _ (p : ℕ) (b pre rest : List ℕ) (l : length pre ≡ p) (e : b ≡ pre ++ (sectionBytes o s ++ rest)) where
-    section-read : (sectionOf o p b ≡ s) × (after o p b ≡ p + length (sectionBytes o s))
-    unfolding sectionBytes sectionOf after widthOf widthAt
+    section-read : (sectionOf o p b ≡ s) × (endAt o p b ≡ p + length (sectionBytes o s))
+    unfolding sectionBytes sectionOf endAt widthOf widthAt
     section-read =
         let c : List ℕ = words o (s .count ∷ []) in
         let w : List ℕ = words o (s .width ∷ []) in
@@ -149,15 +150,15 @@ module _ (o : Order) (trigger : Bool) (s : Section) (h : Whole trigger s) where
 
 -- ---- the whole body
 
-after-past : (o : Order) (p : ℕ) (b : List ℕ) → p ≤ after o p b
-unfolding after widthAt
+after-past : (o : Order) (p : ℕ) (b : List ℕ) → p ≤ endAt o p b
+unfolding endAt widthAt
 after-past o p b = omega arith
 
 -- In an accepted body both sections have room, and the second ends with the body.
-pub history-ends : (o : Order) (b : List ℕ) → historyRule o b ≡ 0 → (triggerAt o b ≤ length b) × (length b ≡ after o (triggerAt o b) b)
+pub history-ends : (o : Order) (b : List ℕ) → historyRule o b ≡ 0 → (triggerAt o b ≤ length b) × (length b ≡ endAt o (triggerAt o b) b)
 unfolding historyRule
 history-ends o b e =
-    let end : length b ≡ after o (triggerAt o b) b = equal-passed (length b) (after o (triggerAt o b) b) 5 (first-at _ e 4) in
+    let end : length b ≡ endAt o (triggerAt o b) b = equal-passed (length b) (endAt o (triggerAt o b) b) 5 (first-at _ e 4) in
     (omega (arith, after-past o (triggerAt o b) b), end)
 
 -- An accepted body is its fields, written.
@@ -165,7 +166,7 @@ pub history-restored : (o : Order) (b : List ℕ) → Bytes b → historyRule o 
 unfolding historyBytes historyOf
 history-restored o b h e =
     let (first, end) = history-ends o b e in
-    let past : length b ≤ after o (triggerAt o b) b = omega arith in
+    let past : length b ≤ endAt o (triggerAt o b) b = omega arith in
     let second : sectionBytes o (sectionOf o (triggerAt o b) b) ++ [] ≡ drop (triggerAt o b) b =
     rw (← drop-of-length-le b past) (section-restored o (triggerAt o b) b (omega arith) h) in
     ap (λ (r : List ℕ). sectionBytes o (sectionOf o 0 b) ++ r) (sym (append-nil _) ∙ second) ∙ section-restored o 0 b first h
@@ -198,31 +199,13 @@ history-read-back o f e =
     let st = section-size o true (f .trigger) t in
     let least : 16 ≤ length b = omega arith in
     let fours : length b % 4 ≡ 0 = omega arith in
-    let end : length b ≡ after o (triggerAt o b) b = omega arith in
+    let end : length b ≡ endAt o (triggerAt o b) b = omega arith in
     let first : sectionRule o false 0 b ≡ 0 = whole-rule o false 0 b (omega arith) (rw (veto .0) v) in
     let second : sectionRule o true (triggerAt o b) b ≡ 0 = whole-rule o true (triggerAt o b) b (omega arith) (rw (trigger .0) t) in
     let rule : historyRule o b ≡ 0 = first-passes _ (most-passes 6 least, (equal-passes 6 fours, (first, (second, (equal-passes 6 end, tt))))) in
     (rule, λ i. record { veto = veto .0 i; trigger = trigger .0 i })
 
 -- ---- the rule said a second time
-
--- A body that is a veto section and a trigger section and nothing else.
-pub record Fills (o : Order) (b : List ℕ) : Type 0 where
-  pub nvt : ℕ
-  pub nvw : ℕ
-  pub ntt : ℕ
-  pub ntw : ℕ
-  pub vetoTimes : List ℕ
-  pub vetoMasks : List ℕ
-  pub triggerTimes : List ℕ
-  pub triggerMasks : List ℕ
-  pub filled : b ≡ words o (nvt ∷ []) ++ (vetoTimes ++ (words o (nvw ∷ []) ++ (vetoMasks
-      ++ (words o (ntt ∷ []) ++ (triggerTimes ++ (words o (ntw ∷ []) ++ triggerMasks))))))
-  pub lengths : (length vetoTimes ≡ 4 * nvt) × (length vetoMasks ≡ 4 * (nvt * nvw))
-      × (length triggerTimes ≡ 4 * ntt) × (length triggerMasks ≡ 4 * (ntt * ntw))
-  pub counts : (nvt ≤ 0x7FFFFFFF) × (nvw ≤ 0x7FFFFFFF) × (ntt ≤ 0x7FFFFFFF) × (ntw ≤ 0x7FFFFFFF)
-  pub missing : (nvt ≡ 0) ↔ (nvw ≡ 0)
-  pub six : ((ntt ≡ 0) × (ntw ≡ 0)) ⊎ ((0 < ntt) × (ntw ≡ 6))
 
 accepted-fills : (o : Order) (b : List ℕ) → Bytes b → historyRule o b ≡ 0 → Fills o b
 unfolding historyRule historyBytes historyOf sectionBytes

@@ -1,3 +1,4 @@
+pub mod FaultLaws
 pub mod Computing
 pub mod Examples
 pub mod AnswerLaws

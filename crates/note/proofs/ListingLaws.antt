@@ -16,6 +16,7 @@ use Rattle.theory.specs.Layout.{Row, row}
 use Rattle.note.specs.Files.{File, readFile}
 use Rattle.note.specs.Rows.{rowsOf, rowNumbers}
 use Rattle.note.specs.Listing.{rowLines, linesGiven, listing, digitsOf, decimalText, lineText, linesText, listingText}
+use Rattle.note.specs.Spelling.{digitsRead, DigitBytes, NoZeroInFront}
 
 -- ---- the two ways to have digits
 
@@ -89,26 +90,11 @@ decimal-more n h =
 
 -- ---- what they are read as
 
--- Digits read as a number, behind others that were read as v.
-abbrev pub digitsRead : ℕ → List ℕ → ℕ
-digitsRead v [] = v
-digitsRead v (d ∷ ds) = digitsRead (v * 10 + (d - 48)) ds
-
--- Each is a digit's byte.
-abbrev pub AreDigits : List ℕ → Type 0
-AreDigits [] = Unit {0}
-AreDigits (d ∷ ds) = ((48 ≤ d) × (d ≤ 57)) × AreDigits ds
-
--- There is a digit, and a zero in front stands alone.
-abbrev pub NoZeroInFront : List ℕ → Type 0
-NoZeroInFront [] = ⊥
-NoZeroInFront (d ∷ ds) = d ≡ 48 → ds ≡ []
-
 read-last : (v : ℕ) (ds : List ℕ) (d : ℕ) → digitsRead v (ds ++ (d ∷ [])) ≡ digitsRead v ds * 10 + (d - 48)
 read-last v [] d = refl
 read-last v (x ∷ ds) d = read-last (v * 10 + (x - 48)) ds d
 
-digits-last : (ds : List ℕ) (d : ℕ) → AreDigits ds → 48 ≤ d → d ≤ 57 → AreDigits (ds ++ (d ∷ []))
+digits-last : (ds : List ℕ) (d : ℕ) → DigitBytes ds → 48 ≤ d → d ≤ 57 → DigitBytes (ds ++ (d ∷ []))
 digits-last [] d a l h = ((l, h), tt)
 digits-last (x ∷ ds) d a l h = (a .0, digits-last ds d (a .1) l h)
 
@@ -117,10 +103,10 @@ decimal-read = by-tenths (λ n. digitsRead 0 (decimalText n) ≡ n)
     (λ n h. ap (digitsRead 0) (decimal-one n h) ∙ omega arith)
     (λ n h i. ap (digitsRead 0) (decimal-more n h) ∙ read-last 0 (decimalText (n / 10)) (48 + n % 10) ∙ omega (arith, i))
 
-decimal-digits : (n : ℕ) → AreDigits (decimalText n)
-decimal-digits = by-tenths (λ n. AreDigits (decimalText n))
-    (λ n h. subst AreDigits (sym (decimal-one n h)) ((omega arith, omega arith), tt))
-    (λ n h i. subst AreDigits (sym (decimal-more n h)) (digits-last (decimalText (n / 10)) (48 + n % 10) i (omega arith) (omega arith)))
+decimal-digits : (n : ℕ) → DigitBytes (decimalText n)
+decimal-digits = by-tenths (λ n. DigitBytes (decimalText n))
+    (λ n h. subst DigitBytes (sym (decimal-one n h)) ((omega arith, omega arith), tt))
+    (λ n h i. subst DigitBytes (sym (decimal-more n h)) (digits-last (decimalText (n / 10)) (48 + n % 10) i (omega arith) (omega arith)))
 
 -- A digit that is no zero stands in front.
 abbrev Leads : List ℕ → Type 0
@@ -149,10 +135,10 @@ decimal-front n = by-tenths NoFront
     NoFront m = NoZeroInFront (decimalText m)
 
 -- A number's text: digits, with no zero in front, that are read as the number ..
-pub decimal-spells : (n : ℕ) → (digitsRead 0 (decimalText n) ≡ n) × AreDigits (decimalText n) × NoZeroInFront (decimalText n)
+pub decimal-spells : (n : ℕ) → (digitsRead 0 (decimalText n) ≡ n) × DigitBytes (decimalText n) × NoZeroInFront (decimalText n)
 decimal-spells n = (decimal-read n, decimal-digits n, decimal-front n)
 
-digits-behind : (ds : List ℕ) (v : ℕ) → 1 ≤ v → AreDigits ds → decimalText v ++ ds ≡ decimalText (digitsRead v ds)
+digits-behind : (ds : List ℕ) (v : ℕ) → 1 ≤ v → DigitBytes ds → decimalText v ++ ds ≡ decimalText (digitsRead v ds)
 digits-behind [] v p a = append-nil (decimalText v)
 digits-behind (d ∷ ds) v p a =
     let next : ℕ = v * 10 + (d - 48) in
@@ -162,7 +148,7 @@ digits-behind (d ∷ ds) v p a =
     sym (append-assoc (decimalText v) (d ∷ []) ds) ∙ ap (λ (l : List ℕ). l ++ ds) (sym text) ∙ digits-behind ds next (omega arith) (a .1)
 
 -- .. and any such digits are the text of the number that they are read as.
-pub one-spelling : (ds : List ℕ) → AreDigits ds → NoZeroInFront ds → ds ≡ decimalText (digitsRead 0 ds)
+pub one-spelling : (ds : List ℕ) → DigitBytes ds → NoZeroInFront ds → ds ≡ decimalText (digitsRead 0 ds)
 one-spelling [] a z = absurd z
 one-spelling (d ∷ ds) a z = way (eqb d 48) refl
   where
@@ -197,7 +183,7 @@ decimal-short = by-tenths Short one more
 
 -- ---- which files are listed
 
--- "Up to 16,384 bytes; longer gives 1."
+-- An input of 16,384 bytes or fewer is listed; a longer one is 1.
 pub listing-within : (bs : List ℕ) → length bs ≤ 16384 → listing bs ≡ linesGiven bs (readFile bs)
 unfolding listing
 listing-within bs h = let test : leb (length bs) listingLimit ≡ true = le-leb (length bs) listingLimit (omega arith) in rw test

@@ -16,11 +16,12 @@ use Rattle.note.specs.Phonon.{Phonon, phononBytes}
 use Rattle.note.specs.Charge.{Charge, chargeBytes}
 use Rattle.note.specs.Administrative.{Administrative, administrativeBytes}
 use Rattle.note.specs.Trace.{Trace, traceBytes}
-use Rattle.note.specs.History.{Section, History, sectionBytes, historyBytes}
+use Rattle.note.specs.History.{History, sectionBytes, historyBytes}
 use Rattle.note.specs.Gps.{Gps, bcd, gpsBytes}
 use Rattle.note.specs.Trigger.{Trigger, triggerBytes}
 use Rattle.note.specs.Tlb.{Tlb, tlbBytes}
 use Rattle.note.specs.Calls.{hundredth}
+use Rattle.note.specs.Places.{sectionParts}
 use Rattle.note.specs.declared.RecordAnswer.the-variants as Record
 use Rattle.note.specs.declared.SettingAnswer.the-variants as Setting
 use Rattle.note.specs.declared.CodeAnswer.the-variants as Code
@@ -83,10 +84,7 @@ module _ (o : Order) (f : Administrative) where
   unfolding givenRecord
   administrative-answer = refl
 
--- A section of a history: its count, its times, its width, its masks. The veto section stands first.
-abbrev pub sectionParts : Order → Section → List ℕ
-sectionParts o s = words o (s .count ∷ []) ++ (s .times ++ (words o (s .width ∷ []) ++ s .masks))
-
+-- A history's two sections; the veto section stands first.
 pub history-words : (o : Order) (f : History) → historyBytes o f ≡ sectionParts o (f .veto) ++ sectionParts o (f .trigger)
 unfolding historyBytes sectionBytes
 history-words o f = refl

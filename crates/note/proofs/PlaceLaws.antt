@@ -9,33 +9,27 @@ use native.Mathlib.Omega.{arith}
 use native.Mathlib.Decide.{decLe}
 use lib.Dec.{eqb}
 use borrow.Author.Tests.{eqb-true, eqb-false, ne-eqb}
+use Rattle.note.specs.Asked.{OneOf}
 use Rattle.note.specs.EventKinds.{IsEntryKind, IsRecordKind, occurs, MayFollow}
 use Rattle.note.specs.Records.{Seen, entryKinds, recordKinds, entry, event, alone, isKind, isPlaced, isAllowed, noted}
-use Rattle.note.proofs.BoolLaws.{Tells, both-tell, either-tells, OneOf, among-tells}
+use Rattle.note.specs.Readings.{hasKind, seenAfter}
+use Rattle.note.proofs.BoolLaws.{Tells, both-tell, either-tells, among-tells}
 
--- k is among the kinds.
-abbrev has : ℕ → List ℕ → Bool
-has k [] = false
-has k (x ∷ xs) = eqb x k || has k xs
-
--- What is kept in mind after records of these kinds, the latest first.
-abbrev pub seenOf : List ℕ → Seen
-seenOf ks = record { administrative = has 0x02 ks; history = has 0x21 ks; gps = has 0x60 ks; trigger = has 0x80 ks; tlb = has 0x81 ks }
-
-pub one-more-seen : (ks : List ℕ) (k : ℕ) → noted (seenOf ks) k ≡ seenOf (k ∷ ks)
+-- One record more, kept in mind, is one kind more in front.
+pub one-more-seen : (ks : List ℕ) (k : ℕ) → noted (seenAfter ks) k ≡ seenAfter (k ∷ ks)
 unfolding noted
 one-more-seen ks k = refl
 
-has-tells : (k : ℕ) (ks : List ℕ) → Tells (has k ks) (1 ≤ occurs k ks)
+has-tells : (k : ℕ) (ks : List ℕ) → Tells (hasKind k ks) (1 ≤ occurs k ks)
 has-tells k [] = (λ e. absurd (false≢true e), λ h. absurd (omega arith))
 has-tells k (x ∷ xs) = go (eqb x k) (has-tells k xs)
   where
-    go : (t : Bool) → Tells (has k xs) (1 ≤ occurs k xs) → Tells (t || has k xs) (1 ≤ cond t 1 0 + occurs k xs)
+    go : (t : Bool) → Tells (hasKind k xs) (1 ≤ occurs k xs) → Tells (t || hasKind k xs) (1 ≤ cond t 1 0 + occurs k xs)
     go true rest = (λ e. omega arith, λ h. refl)
     go false rest = (λ e. let l = rest .0 e in omega arith, λ h. rest .1 (omega arith))
 
-hasn't-tells : (k : ℕ) (ks : List ℕ) → Tells (not (has k ks)) (occurs k ks ≡ 0)
-hasn't-tells k ks = go (has k ks) (has-tells k ks)
+hasn't-tells : (k : ℕ) (ks : List ℕ) → Tells (not (hasKind k ks)) (occurs k ks ≡ 0)
+hasn't-tells k ks = go (hasKind k ks) (has-tells k ks)
   where
     go : (t : Bool) → Tells t (1 ≤ occurs k ks) → Tells (not t) (occurs k ks ≡ 0)
     go true told = (λ e. absurd (false≢true e), λ h. absurd (let l = told .0 refl in omega arith))
@@ -70,12 +64,12 @@ all-kinds-exact k =
 -- A record is allowed after others exactly where it may follow them.
 module _ (before : List ℕ) where
   abbrev Right : ℕ → Type 0
-  Right k = Tells (isAllowed (event (seenOf before)) k) (MayFollow before k)
+  Right k = Tells (isAllowed (event (seenAfter before)) k) (MayFollow before k)
 
   -- A kind that isn't administrative and occurs once.
-  later : (k : ℕ) → k ≢ 0x02 → k ≢ 0x11 → Tells (has 0x02 before && not (has k before)) (MayFollow before k)
+  later : (k : ℕ) → k ≢ 0x02 → k ≢ 0x11 → Tells (hasKind 0x02 before && not (hasKind k before)) (MayFollow before k)
   later k a t =
-      let told : Tells (has 0x02 before && not (has k before)) ((1 ≤ occurs 0x02 before) × (occurs k before ≡ 0)) =
+      let told : Tells (hasKind 0x02 before && not (hasKind k before)) ((1 ≤ occurs 0x02 before) × (occurs k before ≡ 0)) =
       both-tell (has-tells 0x02 before) (hasn't-tells k before) in (
         λ e. let (l, z) = told .0 e in record { first = λ none. absurd (omega arith); once = λ d. z },
         λ m. told .1 (by-cases (decLe 1 (occurs 0x02 before)) (λ l. l) (λ g. absurd (a (m .first (omega arith)))), m .once t),
@@ -91,13 +85,13 @@ module _ (before : List ℕ) where
   trace-right : Right 0x11
   unfolding isAllowed isPlaced
   trace-right =
-      let told : Tells (has 0x02 before && true) ((1 ≤ occurs 0x02 before) × Unit {0}) =
+      let told : Tells (hasKind 0x02 before && true) ((1 ≤ occurs 0x02 before) × Unit {0}) =
       both-tell (has-tells 0x02 before) (λ e. tt, λ u. refl) in (
         λ e. let (l, u) = told .0 e in record { first = λ none. absurd (omega arith); once = λ d. absurd (d refl) },
         λ m. told .1 (by-cases (decLe 1 (occurs 0x02 before)) (λ l. l) (λ g. let z = m .first (omega arith) in absurd (omega arith)), tt),
       )
 
-  pub place-exact : (k : ℕ) → IsRecordKind k → (isAllowed (event (seenOf before)) k ≡ true) ↔ MayFollow before k
+  pub place-exact : (k : ℕ) → IsRecordKind k → (isAllowed (event (seenAfter before)) k ≡ true) ↔ MayFollow before k
   unfolding isAllowed isPlaced
   place-exact k h =
       let other : (x : ℕ) → k ≡ x → Right x → Right k = λ x e r. subst Right (sym e) r in

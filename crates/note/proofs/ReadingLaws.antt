@@ -1,44 +1,33 @@
--- "Within a structure": the order of what is asked of a header, of a record or entry, of a configuration and of an event, with the number
+-- The order within a structure: what is asked of a header, of a record or entry, of a configuration and of an event, with the number
 -- given at its first byte where something isn't so; else it is read on.
 -- The idea: a reader's chain of tests is one list, and each test tells its statement.
-use Prim.Native.Nat.{ℕ, zero, suc, _+_, _≤_}
+use Prim.Native.Nat.{ℕ, zero, suc, _+_}
 use mathlib.Core.Path.{_≡_, refl, sym, ap, _∙_, subst}
 use mathlib.Core.Logic.{_↔_, _⊎_, inl, inr, ⊎-elim}
 use mathlib.Core.Bool.{Bool, true}
 use mathlib.Core.List.{List, [], _∷_}
 use native.Mathlib.Omega.{arith}
 use lib.Dec.{leb, eqb}
-use lib.ListN.{length, take, drop}
+use lib.ListN.{length}
 use Rattle.theory.specs.declared.Order.{Order}
-use Rattle.theory.specs.Tests.{Res, ok, need, bind, unless, first}
-use Rattle.note.specs.Asked.{asks, fine, Answers}
+use Rattle.theory.specs.Tests.{ok, need, bind, unless, first}
+use Rattle.note.specs.Asked.{Answers}
 use Rattle.note.specs.EventKinds.{IsEntryKind, IsRecordKind, MayFollow}
 use Rattle.note.specs.Words.{word}
-use Rattle.note.specs.Records.{Record, Context, entry, event, alone, none, isKind, isAllowed, kindOf, recordRule, readRecord, readRecords}
-use Rattle.note.specs.Events.{Container, eventWordRule, readEvent}
+use Rattle.note.specs.Records.{Record, Seen, Context, entry, event, alone, unseen, isKind, isAllowed, kindOf, recordRule, readRecord}
+use Rattle.note.specs.Events.{eventWordRule, readEvent}
 use Rattle.note.specs.Files.{versionRule, readHeader, readConfiguration}
+use Rattle.note.specs.Rules.{PhononAsked, ChargeAsked, AdministrativeAsked, TraceAsked, HistoryAsked, GpsAsked, TriggerAsked, TlbAsked, RuleAsked}
+use Rattle.note.specs.Readings.{seenAfter, bodyOf, RecordAsked, recordRead, VersionParts, HeaderAsked, contentsRead, ConfigurationAsked, EventParts, EventOwnAsked}
 use Rattle.note.proofs.BoolLaws.{Tells, le-tells, eq-tells}
 use Rattle.note.proofs.AskedLaws.{Gives, no-more, asked, asked-where, gives-alone, gate, last-gate, answers}
-use Rattle.note.proofs.RuleLaws.{PhononAsked, ChargeAsked, AdministrativeAsked, TraceAsked, HistoryAsked, TriggerAsked, TlbAsked}
 use Rattle.note.proofs.RuleLaws.{phonon-rule-exact, charge-rule-exact, administrative-rule-exact, trace-rule-exact}
 use Rattle.note.proofs.RuleLaws.{history-rule-exact, trigger-rule-exact, tlb-rule-exact}
-use Rattle.note.proofs.GpsRuleLaws.{GpsAsked, gps-rule-exact}
-use Rattle.note.proofs.WordRuleLaws.{EventParts, EventAsked, word-gives, VersionParts, VersionAsked, version-gives}
-use Rattle.note.proofs.PlaceLaws.{seenOf, entry-kinds-exact, record-kinds-exact, all-kinds-exact, place-exact}
+use Rattle.note.proofs.GpsRuleLaws.{gps-rule-exact}
+use Rattle.note.proofs.WordRuleLaws.{word-gives, version-gives}
+use Rattle.note.proofs.PlaceLaws.{entry-kinds-exact, record-kinds-exact, all-kinds-exact, place-exact}
 
 -- ---- a record or an entry
-
--- What is asked of a body, by its kind word.
-abbrev pub RuleAsked : Order → ℕ → List ℕ → ℕ → Type 0
-RuleAsked o k b c =
-    ((k ≡ 0x00010001) × PhononAsked o b c)
-    ⊎ (((k ≡ 0x00010002) × ChargeAsked o b c)
-    ⊎ (((k ≡ 0x02) × AdministrativeAsked o b c)
-    ⊎ (((k ≡ 0x11) × TraceAsked o b c)
-    ⊎ (((k ≡ 0x21) × HistoryAsked o b c)
-    ⊎ (((k ≡ 0x60) × GpsAsked o b c)
-    ⊎ (((k ≡ 0x80) × TriggerAsked o b c)
-    ⊎ ((k ≡ 0x81) × TlbAsked o b c)))))))
 
 module _ (o : Order) (k : ℕ) (b : List ℕ) (c : ℕ) where
   -- A kind word stands for its number, and its rule gives what is asked.
@@ -98,22 +87,6 @@ module _ (o : Order) (k : ℕ) (b : List ℕ) (c : ℕ) where
         λ g. tlb (g .0) .1 (g .1)))))))),
   )
 
--- A record or entry at the front of bs, of a kind that is allowed here (5) and placed as it may (9): its body is what its length says.
-abbrev pub bodyOf : Order → List ℕ → List ℕ
-bodyOf o bs = take (word o 4 bs) (drop 8 bs)
-
-abbrev pub RecordAsked : Order → (ℕ → Type 0) → (ℕ → Type 0) → List ℕ → ℕ → Type 0
-RecordAsked o Allowed Placed bs =
-    asks (8 ≤ length bs) 2 (
-    asks (Allowed (word o 0 bs)) 5 (
-    asks (8 + word o 4 bs ≤ length bs) 2 (
-    asks (Placed (word o 0 bs)) 9 (
-    RuleAsked o (word o 0 bs) (bodyOf o bs)))))
-
--- What is read then.
-abbrev pub recordRead : Order → List ℕ → Res Record
-recordRead o bs = ok (record { kind = word o 0 bs; body = bodyOf o bs })
-
 -- In any context whose two tests tell these.
 module _ (o : Order) (c : Context) (Allowed Placed : ℕ → Type 0) (kinds : (k : ℕ) → Tells (isKind c k) (Allowed k))
     (places : (k : ℕ) → Allowed k → Tells (isAllowed c k) (Placed k)) (listed : (k : ℕ) → Allowed k → IsEntryKind k ⊎ IsRecordKind k) where
@@ -136,8 +109,8 @@ module _ (o : Order) (c : Context) (Allowed Placed : ℕ → Type 0) (kinds : (k
 
   -- A body's fault is the record's.
   body-need : (n at k : ℕ) (b : List ℕ)
-      → bind {B = Record} (need n at (ok b)) (λ x. ok (record { kind = k; body = x }))
-      ≡ need (first (n ∷ [])) at (ok (record { kind = k; body = b }))
+      → bind {B = Record} (need n at (ok b)) (λ x. ok (record { word = k; body = x }))
+      ≡ need (first (n ∷ [])) at (ok (record { word = k; body = b }))
   unfolding first
   body-need zero at k b = refl
   body-need (suc n) at k b = refl
@@ -157,9 +130,10 @@ unfolding isAllowed
 entry-answers o = record-answers o entry IsEntryKind (λ k. Unit {0}) entry-kinds-exact (λ k a. (λ e. tt, λ u. refl)) (λ k a. inl a)
 
 pub record-in-event-answers : (o : Order) (before : List ℕ) (at : ℕ) (bs : List ℕ)
-    → Answers (readRecord o (event (seenOf before)) at bs) at (RecordAsked o IsRecordKind (MayFollow before) bs) (recordRead o bs)
+    → Answers (readRecord o (event (seenAfter before)) at bs) at (RecordAsked o IsRecordKind (MayFollow before) bs) (recordRead o bs)
 record-in-event-answers o before =
-    record-answers o (event (seenOf before)) IsRecordKind (MayFollow before) (record-kinds-exact (seenOf before)) (place-exact before) (λ k a. inr a)
+    let seen : Seen = seenAfter before in
+    record-answers o (event seen) IsRecordKind (MayFollow before) (record-kinds-exact seen) (place-exact before) (λ k a. inr a)
 
 pub record-alone-answers : (o : Order) (at : ℕ) (bs : List ℕ)
     → Answers (readRecord o alone at bs) at (RecordAsked o (λ k. IsEntryKind k ⊎ IsRecordKind k) (λ k. Unit {0}) bs) (recordRead o bs)
@@ -169,45 +143,24 @@ record-alone-answers o =
 
 -- ---- the header and the containers
 
--- The header: its mark, and a version word whose parts are these.
-abbrev pub HeaderAsked : Order → ℕ → ℕ → List ℕ → ℕ → Type 0
-HeaderAsked o major minor bs = asks (8 ≤ length bs) 2 (asks (word o 0 bs ≡ 0x01020304) 3 (VersionAsked major minor))
-
 pub header-answers : (o : Order) (at : ℕ) (bs : List ℕ) (daqMajor daqMinor major minor : ℕ) → VersionParts (word o 4 bs) daqMajor daqMinor major minor
-    → Answers (readHeader o tt at bs) at (HeaderAsked o major minor bs) (ok (word o 4 bs))
+    → Answers (readHeader o at bs) at (HeaderAsked o major minor bs) (ok (word o 4 bs))
 unfolding readHeader
 header-answers o at bs daqMajor daqMinor major minor p =
     answers (_ ∷ _ ∷ _ ∷ []) (
     asked (le-tells 8 (length bs)) (asked (eq-tells (word o 0 bs) 0x01020304) (version-gives (word o 4 bs) daqMajor daqMinor major minor p))) (
     gate _ at _ _ (gate _ at _ _ (last-gate (versionRule (word o 4 bs)) at (ok (word o 4 bs)))))
 
--- A container's contents, read in their context from behind its eight bytes on.
-abbrev pub contentsRead : Order → Context → ℕ → List ℕ → Res Container
-contentsRead o c at bs = bind (readRecords o c (at + 8) (bodyOf o bs)) (λ rs. ok (record { kind = word o 0 bs; body = rs }))
-
-abbrev pub ConfigurationAsked : Order → List ℕ → ℕ → Type 0
-ConfigurationAsked o bs = asks (8 ≤ length bs) 2 (asks (word o 0 bs ≡ 0x00010000) 5 (asks (8 + word o 4 bs ≤ length bs) 2 fine))
-
 pub configuration-answers : (o : Order) (at : ℕ) (bs : List ℕ)
-    → Answers (readConfiguration o tt at bs) at (ConfigurationAsked o bs) (contentsRead o entry at bs)
+    → Answers (readConfiguration o at bs) at (ConfigurationAsked o bs) (contentsRead o entry at bs)
 unfolding readConfiguration
 configuration-answers o at bs =
     answers (_ ∷ _ ∷ _ ∷ []) (
     asked (le-tells 8 (length bs)) (asked (eq-tells (word o 0 bs) 0x00010000) (asked (le-tells (8 + word o 4 bs) (length bs)) no-more))) (
     gate _ at _ _ (gate _ at _ _ (last-gate _ at (contentsRead o entry at bs))))
 
--- An event, its first word having these parts: room, 0xA980, class, category and type, its length against the rest, an empty one.
-abbrev pub EventOwnAsked : Order → ℕ → ℕ → ℕ → ℕ → List ℕ → ℕ → Type 0
-EventOwnAsked o mark class category type bs =
-    asks (8 ≤ length bs) 2 (
-    asks (mark ≡ 0xA980) 5 (
-    EventAsked class category type (
-    asks (8 + word o 4 bs ≤ length bs) 2 (
-    asks (1 ≤ word o 4 bs) 9
-    fine))))
-
 pub event-answers : (o : Order) (at : ℕ) (bs : List ℕ) (mark class category type : ℕ) → EventParts (word o 0 bs) mark class category type
-    → Answers (readEvent o tt at bs) at (EventOwnAsked o mark class category type bs) (contentsRead o (event none) at bs)
+    → Answers (readEvent o at bs) at (EventOwnAsked o mark class category type bs) (contentsRead o (event unseen) at bs)
 unfolding readEvent
 event-answers o at bs mark class category type p =
     answers (_ ∷ _ ∷ _ ∷ _ ∷ []) (
@@ -215,4 +168,4 @@ event-answers o at bs mark class category type p =
     word-gives (word o 0 bs) mark class category type p (
     asked (le-tells (8 + word o 4 bs) (length bs)) (
     asked (le-tells 1 (word o 4 bs)) no-more)))) (
-    gate _ at _ _ (gate _ at _ _ (gate _ at _ _ (last-gate _ at (contentsRead o (event none) at bs)))))
+    gate _ at _ _ (gate _ at _ _ (gate _ at _ _ (last-gate _ at (contentsRead o (event unseen) at bs)))))

@@ -1,53 +1,41 @@
--- The rule of each kind said a second time: what is asked of a body's words, by their places, in order, and the number that is given where
--- it isn't so. Literal numbers, and no test of the definitions.
+-- The rule of each kind said a second time: of what is asked of a body's words (specs/Rules), the first that isn't so gives its number.
 -- The idea: each test of a rule tells its statement, so the list of tests gives what is asked.
-use Prim.Native.Nat.{ℕ, _+_, _*_, _^_, _≤_, _<_}
+use Prim.Native.Nat.{ℕ, _+_, _*_}
 use mathlib.Core.Path.{_≡_, refl}
-use mathlib.Core.Logic.{_↔_, _⊎_, _≢_}
+use mathlib.Core.Logic.{_↔_, _≢_}
 use mathlib.Core.Bool.{Bool, true, false}
 use mathlib.Core.List.{List, [], _∷_, _++_}
 use native.Mathlib.Omega.{arith}
 use lib.ListN.{length}
 use Rattle.theory.specs.declared.Order.{Order}
-use Rattle.note.specs.Asked.{asks, fine, Divides}
 use Rattle.note.specs.Words.{word}
 use Rattle.note.specs.Phonon.{phononFault, phononRule}
 use Rattle.note.specs.Charge.{chargeFault, chargeRule}
 use Rattle.note.specs.Administrative.{administrativeFault, administrativeRule}
 use Rattle.note.specs.Trace.{countFault, bookkeepingRule, timebaseRule, samplesRule, traceRule}
-use Rattle.note.specs.History.{widthAt, widthOf, after, isWidth, sectionTests, sectionRule, historyRule}
+use Rattle.note.specs.History.{widthAt, widthOf, endAt, isWidth, sectionTests, sectionRule, historyRule}
 use Rattle.note.specs.Trigger.{triggerRule}
 use Rattle.note.specs.Tlb.{tlbOf, tlbFault, tlbRule}
+use Rattle.note.specs.Places.{timesIn, widthIn, sectionEnd}
+use Rattle.note.specs.Rules.{PhononAsked, ChargeAsked, AdministrativeAsked, TraceAsked, SectionAsked, HistoryAsked, TriggerAsked, TlbAsked}
 use Rattle.note.proofs.BoolLaws.{Tells, both-tell, le-tells, eq-tells}
 use Rattle.note.proofs.AskedLaws.{Gives, no-more, asked, asked-of-part, divides-tells}
-use Rattle.note.proofs.ChannelLaws.{channelLines, phononLines, chargeLines, CodeOf}
 use Rattle.note.proofs.ChannelLaws.{code-is-listed, phonon-code-is-listed, charge-code-is-listed}
 use Rattle.note.proofs.HistoryLaws.{Width, width-means, means-width}
-use Rattle.note.proofs.SeriesLaws.{SeriesDate, ClockTime, series-is-date, clock-is-time}
+use Rattle.note.proofs.SeriesLaws.{series-is-date, clock-is-time}
 use Rattle.note.proofs.TlbLaws.{tower-word}
 
 -- ---- the entries
 
--- 44 bytes, whose first word names a phonon channel.
-abbrev pub PhononAsked : Order → List ℕ → ℕ → Type 0
-PhononAsked o b = asks (length b ≡ 44) 6 (asks (CodeOf phononLines (word o 0 b)) 10 fine)
-
 pub phonon-rule-exact : (o : Order) (b : List ℕ) (c : ℕ) → (phononRule o b ≡ c) ↔ PhononAsked o b c
 unfolding phononRule phononFault
 phonon-rule-exact o b = asked (eq-tells (length b) 44) (asked (phonon-code-is-listed (word o 0 b)) no-more) .exactly
-
--- 32 bytes, whose first word names a charge channel.
-abbrev pub ChargeAsked : Order → List ℕ → ℕ → Type 0
-ChargeAsked o b = asks (length b ≡ 32) 6 (asks (CodeOf chargeLines (word o 0 b)) 10 fine)
 
 pub charge-rule-exact : (o : Order) (b : List ℕ) (c : ℕ) → (chargeRule o b ≡ c) ↔ ChargeAsked o b c
 unfolding chargeRule chargeFault
 charge-rule-exact o b = asked (eq-tells (length b) 32) (asked (charge-code-is-listed (word o 0 b)) no-more) .exactly
 
 -- ---- administrative
-
-abbrev pub AdministrativeAsked : Order → List ℕ → ℕ → Type 0
-AdministrativeAsked o b = asks (length b ≡ 24) 6 (asks (SeriesDate (word o 0 b)) 10 (asks (ClockTime (word o 4 b)) 10 fine))
 
 pub administrative-rule-exact : (o : Order) (b : List ℕ) (c : ℕ) → (administrativeRule o b ≡ c) ↔ AdministrativeAsked o b c
 unfolding administrativeRule administrativeFault
@@ -56,24 +44,6 @@ administrative-rule-exact o b =
     (asked (series-is-date (word o 0 b)) (asked (clock-is-time (word o 4 b)) no-more))) .exactly
 
 -- ---- trace
-
-abbrev pub TraceAsked : Order → List ℕ → ℕ → Type 0
-TraceAsked o b =
-    asks (48 ≤ length b) 6 (
-    asks (word o 0 b ≡ 0x11) 5 (
-    asks (word o 4 b ≡ 12) 6 (
-    asks ((1 ≤ word o 12 b) × (word o 12 b ≤ 8)) 10 (
-    asks (CodeOf channelLines (word o 16 b)) 10 (
-    asks (word o 20 b ≡ 0x12) 5 (
-    asks (word o 24 b ≡ 12) 6 (
-    asks (1 ≤ word o 32 b) 10 (
-    asks (word o 40 b ≡ 0x13) 5 (
-    asks (Divides 2 (word o 44 b)) 11 (
-    asks (2 ≤ word o 44 b) 11 (
-    asks (word o 44 b ≤ 32768) 11 (
-    asks (word o 36 b ≡ word o 44 b) 11 (
-    asks (length b ≡ 48 + 2 * word o 44 b) 6
-    fine)))))))))))))
 
 pub trace-rule-exact : (o : Order) (b : List ℕ) (c : ℕ) → (traceRule o b ≡ c) ↔ TraceAsked o b c
 unfolding traceRule bookkeepingRule timebaseRule samplesRule countFault
@@ -100,41 +70,6 @@ trace-rule-exact o b =
 
 -- ---- history
 
--- A section whose count stands at the place p of the body: n times behind it, then its width w, then n x w masks; and where it ends.
-abbrev pub timesIn : Order → ℕ → List ℕ → ℕ
-timesIn o p b = word o p b
-
-abbrev pub widthIn : Order → ℕ → List ℕ → ℕ
-widthIn o p b = word o (p + 4 + 4 * timesIn o p b) b
-
-abbrev pub sectionEnd : Order → ℕ → List ℕ → ℕ
-sectionEnd o p b = p + 4 + 4 * timesIn o p b + 4 + 4 * (timesIn o p b * widthIn o p b)
-
--- Each count has its word within the body and isn't negative, and the width is one for that many times.
-abbrev pub SectionAsked : Order → (ℕ → ℕ → Type 0) → ℕ → List ℕ → (ℕ → Type 0) → ℕ → Type 0
-SectionAsked o Widths p b rest =
-    asks (p + 4 ≤ length b) 6 (
-    asks (timesIn o p b ≤ 0x7FFFFFFF) 10 (
-    asks (p + 4 + 4 * timesIn o p b + 4 ≤ length b) 6 (
-    asks (widthIn o p b ≤ 0x7FFFFFFF) 10 (
-    asks (Widths (timesIn o p b) (widthIn o p b)) 10
-    rest))))
-
-abbrev pub VetoWidth : ℕ → ℕ → Type 0
-VetoWidth n w = (n ≡ 0) ↔ (w ≡ 0)
-
-abbrev pub TriggerWidth : ℕ → ℕ → Type 0
-TriggerWidth n w = ((n ≡ 0) × (w ≡ 0)) ⊎ ((0 < n) × (w ≡ 6))
-
-abbrev pub HistoryAsked : Order → List ℕ → ℕ → Type 0
-HistoryAsked o b =
-    asks (16 ≤ length b) 6 (
-    asks (Divides 4 (length b)) 6 (
-    SectionAsked o VetoWidth 0 b (
-    SectionAsked o TriggerWidth (sectionEnd o 0 b) b (
-    asks (length b ≡ sectionEnd o (sectionEnd o 0 b) b) 6
-    fine))))
-
 pub width-tells : (trigger : Bool) (n w : ℕ) → Tells (isWidth trigger n w) (Width trigger n w)
 width-tells trigger n w = (width-means trigger n w, means-width trigger n w)
 
@@ -150,7 +85,7 @@ section-gives o trigger p b ds rest given =
     given))))
 
 pub history-rule-exact : (o : Order) (b : List ℕ) (c : ℕ) → (historyRule o b ≡ c) ↔ HistoryAsked o b c
-unfolding historyRule sectionRule after widthAt widthOf
+unfolding historyRule sectionRule endAt widthAt widthOf
 history-rule-exact o b =
     asked (le-tells 16 (length b)) (
     asked (divides-tells 4 (length b)) (
@@ -161,27 +96,9 @@ history-rule-exact o b =
 
 -- ---- trigger and TLB
 
-abbrev pub TriggerAsked : Order → List ℕ → ℕ → Type 0
-TriggerAsked o b = asks (length b ≡ 28) 6 (asks (word o 0 b ≡ 0) 10 fine)
-
 pub trigger-rule-exact : (o : Order) (b : List ℕ) (c : ℕ) → (triggerRule o b ≡ c) ↔ TriggerAsked o b c
 unfolding triggerRule
 trigger-rule-exact o b = asked (eq-tells (length b) 28) (asked (eq-tells (word o 0 b) 0) no-more) .exactly
-
--- Zero, or tower i above a mask of 24 bits.
-abbrev pub TowerWord : ℕ → ℕ → Type 0
-TowerWord i w = (w ≡ 0) ⊎ ((m : ℕ) × (m < 2 ^ 24) × (w ≡ i * 2 ^ 24 + m))
-
-abbrev pub TlbAsked : Order → List ℕ → ℕ → Type 0
-TlbAsked o b =
-    asks (length b ≡ 24) 6 (
-    asks (TowerWord 1 (word o 0 b)) 10 (
-    asks (TowerWord 2 (word o 4 b)) 10 (
-    asks (TowerWord 3 (word o 8 b)) 10 (
-    asks (TowerWord 4 (word o 12 b)) 10 (
-    asks (TowerWord 5 (word o 16 b)) 10 (
-    asks (TowerWord 6 (word o 20 b)) 10
-    fine))))))
 
 pub tlb-rule-exact : (o : Order) (b : List ℕ) (c : ℕ) → (tlbRule o b ≡ c) ↔ TlbAsked o b c
 unfolding tlbRule tlbFault tlbOf

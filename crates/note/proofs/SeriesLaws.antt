@@ -10,15 +10,13 @@ use native.Mathlib.Decide.{decLe}
 use lib.Dec.{leb, eqb}
 use lib.ListN.{getD, List·getD-eq-default}
 use borrow.Author.Tests.{eqb-true, eqb-false}
+use Rattle.note.specs.Asked.{OneOf}
 use Rattle.note.specs.Administrative.{locations, daysOfMonth, daysIn, isSeries, isClock}
-use Rattle.note.proofs.BoolLaws.{Tells, both-tell, either-tells, le-tells, eq-tells, OneOf, among-tells, one-up-to}
+use Rattle.note.specs.Series.{ClockTime, sites, Location, DateExists, SeriesDate}
+use Rattle.note.proofs.BoolLaws.{Tells, both-tell, either-tells, le-tells, eq-tells, among-tells, one-up-to}
 use Rattle.note.proofs.Sweep.{all-at}
 
 -- ---- HHMM
-
--- w reads hhmm in decimal, a time of day.
-abbrev pub ClockTime : ℕ → Type 0
-ClockTime w = (hh : ℕ) × (mm : ℕ) × (w ≡ hh * 100 + mm) × (hh ≤ 23) × (mm ≤ 59)
 
 -- A word is a series clock exactly where it is a time of day.
 pub clock-is-time : (w : ℕ) → (isClock w ≡ true) ↔ ClockTime w
@@ -30,30 +28,6 @@ clock-is-time w =
     )
 
 -- ---- LLYYMMDD
-
--- A location: one of six numbers, by itself or plus 50.
-abbrev pub sites : List ℕ
-sites = 0 ∷ 1 ∷ 2 ∷ 3 ∷ 6 ∷ 7 ∷ []
-
-abbrev pub Location : ℕ → Type 0
-Location ll = (b : ℕ) × OneOf sites b × ((ll ≡ b) ⊎ (ll ≡ b + 50))
-
--- Day dd is not past the end of month mm of the year yy: the months have 31 and 30 days in turn, where the seventh and the eighth
--- both have 31; the second has 28, and 29 where 4 divides yy.
-abbrev pub InMonth : ℕ → ℕ → ℕ → Type 0
-InMonth yy mm dd =
-    ((mm ≢ 2) × (dd ≤ 30 + (mm + mm / 8) % 2))
-    ⊎ ((mm ≡ 2) × ((dd ≤ 28) ⊎ ((dd ≡ 29) × ((q : ℕ) × (yy ≡ 4 * q)))))
-
--- There is such a day.
-abbrev pub DateExists : ℕ → ℕ → ℕ → Type 0
-DateExists yy mm dd = (1 ≤ mm) × (mm ≤ 12) × (1 ≤ dd) × InMonth yy mm dd
-
--- w reads llyymmdd in decimal, a location and a day that exists.
-abbrev pub SeriesDate : ℕ → Type 0
-SeriesDate w =
-    (ll : ℕ) × (yy : ℕ) × (mm : ℕ) × (dd : ℕ)
-    × (w ≡ ll * 1000000 + yy * 10000 + mm * 100 + dd) × Location ll × (yy ≤ 99) × DateExists yy mm dd
 
 -- The list of locations is the six and the six plus 50.
 one-of-append : (xs ys : List ℕ) (n : ℕ) → OneOf (xs ++ ys) n ↔ (OneOf xs n ⊎ OneOf ys n)

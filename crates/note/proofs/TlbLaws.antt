@@ -8,6 +8,7 @@ use native.Mathlib.Omega.{arith}
 use native.Mathlib.Nat.{one-le-pow, mod-lt, div-add-mod'}
 use lib.Arith.{digits-div}
 use Rattle.note.specs.Tlb.{isTower, zipSet}
+use Rattle.note.specs.Rules.{BitSet}
 use Rattle.note.proofs.BoolLaws.{Tells, both-tell, either-tells, le-tells, eq-tells}
 
 -- Word i is zero, or i above a mask of 24 bits.
@@ -18,10 +19,6 @@ tower-word i w =
       λ e. ⊎-elim inl (λ h. inr (w % 16777216, omega arith, omega arith)) (t .0 e),
       λ s. t .1 (⊎-elim inl (λ h. let (m, l, e) = h in inr (omega arith)) s),
     )
-
--- The binary digit of w that has the weight p is 1.
-abbrev pub BitSet : ℕ → ℕ → Type 0
-BitSet p w = (q : ℕ) × (r : ℕ) × (w ≡ (2 * q + 1) * p + r) × (r < p)
 
 -- ZIP z, from 1 to 24, is set exactly where the digit of the weight 2 ^ (z - 1) is.
 pub zip-is-bit : (w z : ℕ) → (zipSet w z ≡ true) ↔ ((1 ≤ z) × (z ≤ 24) × BitSet (2 ^ (z - 1)) w)

@@ -138,7 +138,7 @@ module _ (o : Order) (b : List ℕ) (i v : ℕ) (h : 48 ≤ i) where
   trace-blind = rw (length-set b i v, stays 0, stays 1, stays 3, stays 4, stays 5, stays 6, stays 8, stays 9, stays 10, stays 11)
 
   pub trace-row-blind : (traceKind .one o (set b i v) ≡ traceKind .one o b) × (traceKind .two o (set b i v) ≡ traceKind .two o b)
-  unfolding wordsAt
+  unfolding traceOf wordsAt
   trace-row-blind = (stays 4, stays 11)
 
   pub trace-values-blind : (place : ℕ) → traceKind .values o place (set b i v) ≡ traceKind .values o place b

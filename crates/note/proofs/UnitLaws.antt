@@ -19,6 +19,7 @@ use mir.Syntax.{w32}
 use mir.Facts.{sfits-toZ}
 use Rattle.theory.specs.Words.{Fits}
 use Rattle.note.specs.Words.{signed}
+use Rattle.note.specs.Sizes.{isNegative}
 use Rattle.note.specs.Calls.{hundredth}
 
 pub hundred-bits : ofBits binary64 4636737291354636288 ≡ fin false 25 (pos 2)
@@ -33,10 +34,6 @@ hundred-int = refl
 pub zero-is-plus-zero : hundredth (signed 0) ≡ fin false 0 (pos 0)
 unfolding hundredth div ofInt
 zero-is-plus-zero = refl
-
-abbrev pub negative : ℤ → Bool
-negative (pos n) = false
-negative (negsuc n) = true
 
 like : (t : Bool) → Ieee.unlike t false ≡ t
 like true = refl
@@ -56,7 +53,7 @@ div-whole (fin t m e) s n v =
     ∙ round-same binary64 s u (100 * d) n 100 (Nat.mul-pos (omega arith) (down-pos e)) (omega arith) h
 
 -- the quotient is rounded once: the cast before it is exact
-rounded : (z : ℤ) → mag z < 2 ^ 31 → hundredth z ≡ round binary64 (negative z) (natAbs z) 100
+rounded : (z : ℤ) → mag z < 2 ^ 31 → hundredth z ≡ round binary64 (isNegative z) (natAbs z) 100
 unfolding hundredth ofInt
 rounded (pos n) h = rw hundred-int (div-whole _ false n (round-whole binary64 false n (omega arith)))
 rounded (negsuc n) h = rw hundred-int (div-whole _ true (suc n) (round-whole binary64 true (suc n) (omega arith)))
@@ -77,12 +74,12 @@ quarter s k h =
 bounded : (w : ℕ) → Fits 4 w → mag (signed w) < 2 ^ 31
 bounded w h = sfits-toZ {w = w32} (record { fits = h }) .sfits
 
-pub rounded-once : (w : ℕ) → Fits 4 w → hundredth (signed w) ≡ round binary64 (negative (signed w)) (natAbs (signed w)) 100
+pub rounded-once : (w : ℕ) → Fits 4 w → hundredth (signed w) ≡ round binary64 (isNegative (signed w)) (natAbs (signed w)) 100
 rounded-once w h = rounded (signed w) (bounded w h)
 
 pub quarters-exact : (w k : ℕ) → Fits 4 w → natAbs (signed w) ≡ 25 * k
-    → HasValue (hundredth (signed w)) (negative (signed w)) (natAbs (signed w)) 100
+    → HasValue (hundredth (signed w)) (isNegative (signed w)) (natAbs (signed w)) 100
 quarters-exact w k h e =
     let z : ℤ = signed w in
     let l : natAbs z ≤ 2 ^ 31 = natAbs-le z (bounded w h) in
-    rw (rounded-once w h, e) (quarter (negative z) k (omega arith))
+    rw (rounded-once w h, e) (quarter (isNegative z) k (omega arith))

@@ -1,6 +1,6 @@
 -- The first word of an event and the version word, said a second time: by the parts that they are put together from.
 -- The idea: a word is the sum of its parts in one way only, so the parts that the rules take by division are these.
-use Prim.Native.Nat.{ℕ, _+_, _*_, _/_, _%_, _≤_, _<_}
+use Prim.Native.Nat.{ℕ, _+_, _*_, _/_, _%_, _<_}
 use mathlib.Core.Path.{_≡_, refl, ap₂, _∙_}
 use mathlib.Core.Logic.{_↔_}
 use mathlib.Core.List.{List, [], _∷_}
@@ -9,17 +9,11 @@ use lib.Dec.{eqb}
 use Rattle.note.specs.Asked.{asks, fine}
 use Rattle.note.specs.Events.{classOf, categoryOf, eventTypeOf, eventWord, eventFault, eventWordRule}
 use Rattle.note.specs.Files.{versionWord, versionRule}
-use Rattle.note.proofs.BoolLaws.{Tells, OneOf, among-tells, le-tells, eq-tells}
+use Rattle.note.specs.Readings.{VersionParts, VersionAsked, EventParts, EventAsked}
+use Rattle.note.proofs.BoolLaws.{Tells, among-tells, le-tells, eq-tells}
 use Rattle.note.proofs.AskedLaws.{Gives, no-more, asked, asked-of-part, alone-gives, not-tells}
 
 -- ---- an event's first word
-
--- A word of 32 bits as 16 bits, a class of 4, a category of 4 and a type of 8.
-pub record EventParts (w mark class category type : ℕ) : Type 0 where
-  pub sum : w ≡ mark * 0x10000 + class * 0x1000 + category * 0x100 + type
-  pub class-bits : class < 16
-  pub category-bits : category < 16
-  pub type-bits : type < 256
 
 -- Every word has these parts, and an event that is closed with a class, a category and a type has these.
 pub event-parts : (w : ℕ) → (mark : ℕ) × (class : ℕ) × (category : ℕ) × (type : ℕ) × EventParts w mark class category type
@@ -36,15 +30,6 @@ event-parts w =
 pub closed-parts : (class category type : ℕ) → class < 16 → category < 16 → type < 256
     → EventParts (eventWord class category type) 0xA980 class category type
 closed-parts class category type c k t = record { sum = refl; class-bits = c; category-bits = k; type-bits = t }
-
--- What is asked of class, category and type before the rest: 7 for each that isn't admitted, then 8 for type 7.
-abbrev pub EventAsked : ℕ → ℕ → ℕ → (ℕ → Type 0) → ℕ → Type 0
-EventAsked class category type rest =
-    asks (OneOf (0 ∷ 2 ∷ []) class) 7 (
-    asks (OneOf (0 ∷ 1 ∷ 6 ∷ []) category) 7 (
-    asks (type ≤ 10) 7 (
-    asks (type ≡ 7 → ⊥) 8
-    rest)))
 
 pub event-gives : (class category type : ℕ) {ds : List ℕ} {rest : ℕ → Type 0} → Gives ds rest
     → Gives (eventFault class category type ∷ ds) (EventAsked class category type rest)
@@ -82,13 +67,6 @@ module _ (w mark class category type : ℕ) (p : EventParts w mark class categor
 
 -- ---- the version word
 
--- A word of 32 bits as DAQ major, DAQ minor, format major and format minor, a byte each, from the highest down.
-pub record VersionParts (v daqMajor daqMinor major minor : ℕ) : Type 0 where
-  pub sum : v ≡ daqMajor * 0x1000000 + daqMinor * 0x10000 + major * 0x100 + minor
-  pub daq-minor-byte : daqMinor < 256
-  pub major-byte : major < 256
-  pub minor-byte : minor < 256
-
 pub version-parts : (v : ℕ) → (daqMajor : ℕ) × (daqMinor : ℕ) × (major : ℕ) × (minor : ℕ) × VersionParts v daqMajor daqMinor major minor
 version-parts v =
     let a : v / 256 / 256 ≡ v / 65536 = omega arith in
@@ -103,10 +81,6 @@ version-parts v =
 -- The header's writer writes the DAQ bytes and format 2.0.
 pub written-version : (daqMajor daqMinor : ℕ) → daqMinor < 256 → VersionParts (versionWord daqMajor daqMinor) daqMajor daqMinor 2 0
 written-version daqMajor daqMinor h = record { sum = omega arith; daq-minor-byte = h; major-byte = omega arith; minor-byte = omega arith }
-
--- The DAQ bytes are free; a format other than 2.0 gives 4.
-abbrev pub VersionAsked : ℕ → ℕ → ℕ → Type 0
-VersionAsked major minor = asks ((major ≡ 2) × (minor ≡ 0)) 4 fine
 
 format-tells : (v daqMajor daqMinor major minor : ℕ) → VersionParts v daqMajor daqMinor major minor
     → Tells (eqb (v % 65536) 0x0200) ((major ≡ 2) × (minor ≡ 0))

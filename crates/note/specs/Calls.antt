@@ -1,4 +1,5 @@
--- Document 01, 'Rows and calls': Record, Setting, Samples, a sample by number, Find.
+-- The calls that ask for one thing. Record, Setting, Samples and a sample by number start from what is read at the place asked as if nothing stood
+-- around it, Find from the whole file. Each definition takes what was read, and says what is given for it.
 use Prim.Native.Nat.{ℕ, _+_, _-_}
 use mathlib.Core.Bool.{Bool, cond, _&&_}
 use mathlib.Core.List.{List, [], _∷_, _++_}
@@ -8,6 +9,7 @@ use lib.IntN.{ℤ, pos}
 use lib.ListN.{length, take, drop}
 use Rattle.theory.specs.declared.Order.{Order}
 use Rattle.theory.specs.Tests.{Res, ok, bad, need, unless}
+use Rattle.note.specs.Faults.{tooLarge, wrongKind, wrongCount}
 use Rattle.note.specs.Limits.{fileLimit}
 use Rattle.note.specs.Words.{word}
 use Rattle.note.specs.Answers.{Value, whole, float, Given, accepted, refused, count, counts, wholes}
@@ -19,24 +21,25 @@ use Rattle.note.specs.Records.{Record, recordSize, alone, readRecord, ki
 use Rattle.note.specs.Events.{Container, containerSize}
 use Rattle.note.specs.Files.{File, orderIn, configurationOf, eventsOf, readFile}
 
--- "Record: reads one record or entry at a given place, with the whole lent bytes as its parent and no event rules." Past the end
--- there are no bytes, so 2 at that very place.
+-- FORMAT 8.5: what is read at a place: its parent is all that is lent, and nothing is asked that only an event asks. Over the limit 1 at 0; past
+-- the end there are no bytes, so 2 at that very place.
 unfoldable pub recordFound : Order → List ℕ → ℕ → Res Record
-recordFound o bs place = need (unless (leb (length bs) fileLimit) 1) 0 (readRecord o alone place (drop place bs))
+recordFound o bs place = need (unless (leb (length bs) fileLimit) tooLarge) 0 (readRecord o alone place (drop place bs))
 
--- "The answer is one of eight kinds with its fields, or a refusal."
+-- FORMAT 8.5: Record's answer: the row kind and the kind's values; or the refusal.
 abbrev pub recordGiven : Order → ℕ → Res Record → Given
 recordGiven o place (bad c p) = refused c p
-recordGiven o place (ok r) = accepted (count (kindOf (r .kind) .row) ∷ kindOf (r .kind) .values o place (r .body))
+recordGiven o place (ok r) = accepted (count (kindOf (r .word) .row) ∷ kindOf (r .word) .values o place (r .body))
 
 unfoldable pub recordAt : Order → List ℕ → ℕ → Given
 recordAt o bs place = recordGiven o place (recordFound o bs place)
 
--- "Each x100 word is turned into a 64-bit float and divided by 100, rounded once."
+-- FORMAT 8.6: a word stored times 100 in working units: the quotient by 100 as a 64-bit float, with a single rounding.
 unfoldable pub hundredth : ℤ → Float
 hundredth z = div binary64 (ofInt binary64 z) (ofInt binary64 (pos 100))
 
--- "An entry is also offered in working units, as a phonon or a charge setting": "the rest stay whole numbers".
+-- FORMAT 8.6: an entry's words in working units: of a phonon entry gain, both biases and lockpoint, of a charge entry the gain; any other word
+-- stays the whole number that it was.
 unfoldable pub phononSetting : Phonon → List Value
 phononSetting f =
     whole (f .code) ∷ whole (f .tower) ∷
@@ -49,23 +52,23 @@ chargeSetting f =
     float (hundredth (f .gain)) ∷
     wholes (f .bias ∷ f .rtfOffset ∷ f .deltaT ∷ f .t0 ∷ f .traceLength ∷ [])
 
--- "It is asked by place, with Record's refusals, then 5 there for another kind."
+-- FORMAT 8.6: Setting's answer: after Record's refusals 5, at the place, for a record of an event.
 abbrev pub settingGiven : Order → ℕ → Res Record → Given
 settingGiven o place (bad c p) = refused c p
 settingGiven o place (ok r) =
-    cond (eqb (r .kind) (phononKind .word)) (accepted (count (phononKind .row) ∷ phononSetting (phononOf o (r .body))))
-    (cond (eqb (r .kind) (chargeKind .word)) (accepted (count (chargeKind .row) ∷ chargeSetting (chargeOf o (r .body))))
-    (refused 5 place))
+    cond (eqb (r .word) (phononKind .word)) (accepted (count (phononKind .row) ∷ phononSetting (phononOf o (r .body))))
+    (cond (eqb (r .word) (chargeKind .word)) (accepted (count (chargeKind .row) ∷ chargeSetting (chargeOf o (r .body))))
+    (refused wrongKind place))
 
 unfoldable pub settingAt : Order → List ℕ → ℕ → Given
 settingAt o bs place = settingGiven o place (recordFound o bs place)
 
--- A trace, among records.
+-- FORMAT 8.7: a trace, among records.
 abbrev pub isTrace : Record → Bool
-isTrace r = eqb (r .kind) (traceKind .word)
+isTrace r = eqb (r .word) (traceKind .word)
 
--- "Samples: for a place where Record finds a trace, the part of the caller's own file that holds the samples; otherwise an empty
--- part": where the part starts and how many bytes it has.
+-- FORMAT 8.7: where the samples of a trace found at the place start in the lent bytes, and how many bytes they are; none where no trace is found.
+-- Then those bytes.
 abbrev pub partGiven : ℕ → Res Record → ℕ × ℕ
 partGiven place (bad c p) = (0, 0)
 partGiven place (ok r) = cond (isTrace r) (place + 56, length (r .body) - 48) (0, 0)
@@ -76,28 +79,30 @@ samplesPart o bs place = partGiven place (recordFound o bs place)
 unfoldable pub samplesAt : Order → List ℕ → ℕ → List ℕ
 samplesAt o bs place = take (samplesPart o bs place .1) (drop (samplesPart o bs place .0) bs)
 
--- "A sample by number, from 1: Record's refusal, 5 for another kind, 11 for a number out of range, at the place asked."
+-- FORMAT 8.7: sample k, from 1: after Record's refusals, at the place, 5 for what is no trace and 11 for a k that isn't 1 to n.
 abbrev pub sampleGiven : Order → ℕ → ℕ → Res Record → Given
 sampleGiven o place k (bad c p) = refused c p
 sampleGiven o place k (ok r) =
     cond (isTrace r)
-    (cond (leb 1 k && leb k (traceOf o (r .body) .n)) (accepted (counts (sampleIn o (traceOf o (r .body) .samples) k ∷ []))) (refused 11 place))
-    (refused 5 place)
+    (cond (leb 1 k && leb k (traceOf o (r .body) .n))
+    (accepted (counts (sampleIn o (traceOf o (r .body) .samples) k ∷ [])))
+    (refused wrongCount place))
+    (refused wrongKind place)
 
 unfoldable pub sampleAt : Order → List ℕ → ℕ → ℕ → Given
 sampleAt o bs place k = sampleGiven o place k (recordFound o bs place)
 
--- A trace of a file: the number that its event carries, its code, its place.
+-- FORMAT 8.8: a trace of a file: the number that its event carries, its code, its place.
 pub record TraceAt : Type 0 where
   pub number : ℕ
   pub code : ℕ
   pub place : ℕ
 
--- One more in front of the others, or not.
+-- FORMAT 8.8: one more in front of the others, or not.
 abbrev pub keptIf : Bool → TraceAt → List TraceAt → List TraceAt
 keptIf keep t ts = cond keep (t ∷ ts) ts
 
--- The traces among an event's records from the place `at` on; among events; of a file. An event carries the number of its
+-- FORMAT 8.8: the traces among an event's records from the place `at` on; among events; of a file. An event carries the number of its
 -- administrative record, which is its first.
 unfoldable pub tracesIn : Order → ℕ → ℕ → List Record → List TraceAt
 tracesIn o number at [] = []
@@ -115,8 +120,8 @@ tracesFrom o at (e ∷ es) = tracesIn o (eventNumber o (e .body)) (at + 8) (e .b
 unfoldable pub tracesOf : File → List TraceAt
 tracesOf f = tracesFrom (orderIn f) (8 + containerSize (orderIn f) (configurationOf f)) (eventsOf f)
 
--- "Find: for an accepted file, the place of the first trace in file order whose event carries that number and whose code is that
--- code; or nothing. A refused file gives its refusal."
+-- FORMAT 8.8: Find: of the file's traces, in order, the place of the first with that number and that code; no value where there is none. A file
+-- that is refused gives its refusal.
 abbrev pub matches : ℕ → ℕ → TraceAt → Bool
 matches number code t = eqb (t .number) number && eqb (t .code) code
 

@@ -1,18 +1,22 @@
--- Document 01, 'Words and nesting': the file header, the configuration, and the file.
+-- The file: a header, one configuration, events to the end. The header is two words and no structure: it has no length word. The order of a file's
+-- words is part of what is read, and every definition that reads words is handed it; in this format it is little-endian.
 use Prim.Native.Nat.{ℕ, _+_, _*_, _/_, _%_}
 use mathlib.Core.List.{List, _++_}
 use lib.Dec.{leb, eqb}
-use lib.ListN.{length}
+use lib.ListN.{length, drop}
 use Rattle.theory.specs.declared.Order.{Order}
 use Rattle.theory.specs.declared.Order.the-variants.{Little}
 use Rattle.theory.specs.Tests.{Res, ok, need, bind, unless}
-use Rattle.theory.specs.Structures.{readStructure, readPair, readWords, wordsBytes}
+use Rattle.theory.specs.Words.{put}
+use Rattle.theory.specs.Structures.{readStructure}
 use Rattle.note.specs.Limits.{fileLimit}
+use Rattle.note.specs.Words.{word}
+use Rattle.note.specs.Faults.{tooLarge, tooShort, notAFile, wrongFormat, wrongKind}
 use Rattle.note.specs.Records.{entry, readRecords}
 use Rattle.note.specs.Events.{Container, containerBytes, containerSize, readEvents, eventsBytes}
 
--- "File header, 8 bytes, no length word: 0x01020304, then DAQ major, DAQ minor, format major, format minor from the highest byte
--- down. Format must be 2.0; the DAQ bytes are free."
+-- FORMAT 6.4: the header: a first word that is always the same, or 3; a version word, with the two bytes of the DAQ version above, major first,
+-- which may be anything, and the format below them, 2.0, or 4.
 abbrev pub fileMark : ℕ
 fileMark = 0x01020304
 
@@ -29,28 +33,32 @@ abbrev pub daqMinorOf : ℕ → ℕ
 daqMinorOf v = v / 65536 % 256
 
 abbrev pub versionRule : ℕ → ℕ
-versionRule v = unless (eqb (v % 65536) format) 4
+versionRule v = unless (eqb (v % 65536) format) wrongFormat
 
-unfoldable pub readHeader : Order → Unit {0} → ℕ → List ℕ → Res ℕ
-readHeader o = readWords o fileMark 3 versionRule
+unfoldable pub readHeader : Order → ℕ → List ℕ → Res ℕ
+readHeader o at bs =
+    need (unless (leb 8 (length bs)) tooShort) at (
+    need (unless (eqb (word o 0 bs) fileMark) notAFile) at (
+    need (versionRule (word o 4 bs)) at (
+    ok (word o 4 bs))))
 
 abbrev pub headerBytes : Order → ℕ → List ℕ
-headerBytes o v = wordsBytes o fileMark 3 versionRule v
+headerBytes o v = put o 4 fileMark ++ put o 4 v
 
--- "Configuration, kind 0x00010000, exactly one, at byte 8, possibly with no entries (house)."
+-- FORMAT 6.3: the configuration, behind the header: its kind word, or 5; its entries, of which there may be none.
 abbrev pub configurationWord : ℕ
 configurationWord = 0x00010000
 
-abbrev pub configurationHead : Unit {0} → ℕ → ℕ
-configurationHead s w = unless (eqb w configurationWord) 5
+abbrev pub configurationRule : ℕ → ℕ
+configurationRule w = unless (eqb w configurationWord) wrongKind
 
-abbrev pub configurationLate : Unit {0} → ℕ → ℕ → ℕ
-configurationLate s w n = 0
+abbrev pub configurationLate : ℕ → ℕ → ℕ
+configurationLate w n = 0
 
-unfoldable pub readConfiguration : Order → Unit {0} → ℕ → List ℕ → Res Container
-readConfiguration o = readStructure o configurationHead configurationLate (λ s at bs. readRecords o entry (at + 8) bs)
+unfoldable pub readConfiguration : Order → ℕ → List ℕ → Res Container
+readConfiguration o at bs = readStructure o tooShort configurationRule configurationLate (λ w at bs. readRecords o entry (at + 8) bs) at bs
 
--- A file: the version word, the configuration, the events.
+-- FORMAT 6.5: a file: the order of its words; the version word, the configuration, the events.
 abbrev pub Parts : Type 0
 Parts = ℕ × (Container × List Container)
 
@@ -69,23 +77,24 @@ configurationOf f = f .1 .1 .0
 abbrev pub eventsOf : File → List Container
 eventsOf f = f .1 .1 .1
 
--- Its bytes.
+-- FORMAT 6.5: its bytes.
 abbrev pub fileBytes : File → List ℕ
 fileBytes f =
     headerBytes (orderIn f) (versionOf f)
     ++ (containerBytes (orderIn f) (configurationOf f) ++ eventsBytes (orderIn f) (eventsOf f))
 
--- Header, configuration and events, the first fault in file order.
+-- FORMAT 2.2, 6.5: header, configuration and events, each from where the one before it ends; the first that is refused is the file's refusal.
 unfoldable pub readParts : Order → List ℕ → Res Parts
 readParts o bs =
-    readPair (λ s v. tt) (λ v. 8) (readHeader o)
-    (readPair (λ s c. tt) (containerSize o) (readConfiguration o) (readEvents o))
-    tt 0 bs
+    bind (readHeader o 0 bs) (λ v.
+    bind (readConfiguration o 8 (drop 8 bs)) (λ c.
+    bind (readEvents o (8 + containerSize o c) (drop (8 + containerSize o c) bs)) (λ es.
+    ok (v, (c, es)))))
 
--- "All words are 32 bits, little-endian."
+-- FORMAT 1.2: the order of the words in these bytes: always little-endian.
 unfoldable pub orderOf : List ℕ → Order
 orderOf bs = Little
 
--- 1: "lent file .. over the limit; place 0".
+-- FORMAT 1.1, 6.5: a file longer than the limit is 1 at 0, whatever stands in it.
 unfoldable pub readFile : List ℕ → Res File
-readFile bs = need (unless (leb (length bs) fileLimit) 1) 0 (bind (readParts (orderOf bs) bs) (λ p. ok (orderOf bs, p)))
+readFile bs = need (unless (leb (length bs) fileLimit) tooLarge) 0 (bind (readParts (orderOf bs) bs) (λ p. ok (orderOf bs, p)))

@@ -1,4 +1,6 @@
--- Document 01, 'The six records': history, kind 0x21: a veto section and a trigger section, each of times and masks.
+-- The history: kind 0x21, a body of two sections, veto and trigger: a count of times, the times, a width, and so many masks for each time. No word
+-- says where a list starts: that follows from the counts before it, and so the rule goes through the body count by count. The times are signed
+-- words that no rule bounds, and so are the masks, as plain words.
 use Prim.Native.Nat.{ℕ, _+_, _*_, _%_}
 use mathlib.Core.Bool.{Bool, true, false, not, cond}
 use mathlib.Core.List.{List, [], _∷_, _++_}
@@ -6,11 +8,12 @@ use lib.Dec.{leb, eqb}
 use lib.ListN.{length, take, drop}
 use Rattle.theory.specs.declared.Order.{Order}
 use Rattle.theory.specs.Tests.{unless, first}
+use Rattle.note.specs.Faults.{wrongLength, wrongField}
 use Rattle.note.specs.Words.{word, words, greatestSigned}
 use Rattle.note.specs.Answers.{counts}
 use Rattle.note.specs.Kinds.{Kind}
 
--- "nvt; nvt signed times; nvw; nvt x nvw masks": a count of times, the times, the width, the masks; lists are the bytes as they stand.
+-- FORMAT 5.3: a section: how many times (nvt, ntt), the times, how many masks for each (nvw, ntw), the masks. Lists are the bytes as they stand.
 pub record Section : Type 0 where
   pub count : ℕ
   pub times : List ℕ
@@ -21,19 +24,19 @@ pub record History : Type 0 where
   pub veto : Section
   pub trigger : Section
 
--- A section whose count stands at place p of the body: where its width stands, its width, and the place after its masks.
+-- FORMAT 5.3: a section whose count stands at place p of the body: where its width stands, its width, and the place after its masks.
 unfoldable pub widthAt : Order → ℕ → List ℕ → ℕ
 widthAt o p b = p + 4 + 4 * word o p b
 
 unfoldable pub widthOf : Order → ℕ → List ℕ → ℕ
 widthOf o p b = word o (widthAt o p b) b
 
-unfoldable pub after : Order → ℕ → List ℕ → ℕ
-after o p b = widthAt o p b + 4 + 4 * (word o p b * widthOf o p b)
+unfoldable pub endAt : Order → ℕ → List ℕ → ℕ
+endAt o p b = widthAt o p b + 4 + 4 * (word o p b * widthOf o p b)
 
--- The trigger section stands after the veto section.
+-- FORMAT 5.3: the trigger section stands after the veto section.
 abbrev pub triggerAt : Order → List ℕ → ℕ
-triggerAt o b = after o 0 b
+triggerAt o b = endAt o 0 b
 
 unfoldable pub sectionOf : Order → ℕ → List ℕ → Section
 sectionOf o p b = record {
@@ -43,7 +46,7 @@ sectionOf o p b = record {
   masks = take (4 * (word o p b * widthOf o p b)) (drop (widthAt o p b + 4) b);
 }
 
--- The fields of a body, and the body of fields.
+-- FORMAT 5.3: the fields of a body, and the body of fields.
 unfoldable pub historyOf : Order → List ℕ → History
 historyOf o b = record { veto = sectionOf o 0 b; trigger = sectionOf o (triggerAt o b) b }
 
@@ -53,64 +56,67 @@ sectionBytes o s = words o (s .count ∷ []) ++ (s .times ++ (words o (s .width 
 unfoldable pub historyBytes : Order → History → List ℕ
 historyBytes o h = sectionBytes o (h .veto) ++ sectionBytes o (h .trigger)
 
--- "Counts are signed and not negative."
+-- FORMAT 5.3: a count is signed, and one below 0 is 10.
 abbrev pub notNegative : ℕ → ℕ
-notNegative n = unless (leb n greatestSigned) 10
+notNegative n = unless (leb n greatestSigned) wrongField
 
--- "nvt is 0 exactly when nvw is 0: the section is missing. ntw is 6 when ntt is positive, and 0 when ntt is 0."
+-- FORMAT 5.3: the width that goes with so many times: 0 with none, which makes the section a missing one; with some, any but 0 in the veto section
+-- (false), and 6 in the trigger section (true).
 unfoldable pub isWidth : Bool → ℕ → ℕ → Bool
 isWidth false times width = cond (eqb times 0) (eqb width 0) (not (eqb width 0))
 isWidth true times width = cond (eqb times 0) (eqb width 0) (eqb width 6)
 
--- "Each count in order, 10 if negative or against the missing rule; a needed word past the end .. is 6." The first argument says
--- whether it is the trigger section.
+-- FORMAT 5.3: a section's tests: its count of times, then its width: within the body, or 6; not negative, or 10; last the width for those times, or
+-- 10. The Bool says whether it is the trigger section.
 abbrev pub sectionTests : Order → Bool → ℕ → List ℕ → List ℕ
 sectionTests o trigger p b =
-    unless (leb (p + 4) (length b)) 6 ∷
+    unless (leb (p + 4) (length b)) wrongLength ∷
     notNegative (word o p b) ∷
-    unless (leb (widthAt o p b + 4) (length b)) 6 ∷
+    unless (leb (widthAt o p b + 4) (length b)) wrongLength ∷
     notNegative (widthOf o p b) ∷
-    unless (isWidth trigger (word o p b) (widthOf o p b)) 10 ∷ []
+    unless (isWidth trigger (word o p b) (widthOf o p b)) wrongField ∷ []
 
 unfoldable pub sectionRule : Order → Bool → ℕ → List ℕ → ℕ
 sectionRule o trigger p b = first (sectionTests o trigger p b)
 
--- "Length below 16 or no multiple of 4 is 6"; the sections; "words left over" or masks past the end are 6.
+-- FORMAT 5.3: the tests: 16 bytes at the least, and whole words, or 6; both sections; at the end exactly the bytes that the counts ask for, or 6.
 abbrev pub historyTests : Order → List ℕ → List ℕ
 historyTests o b =
-    unless (leb 16 (length b)) 6 ∷
-    unless (eqb (length b % 4) 0) 6 ∷
+    unless (leb 16 (length b)) wrongLength ∷
+    unless (eqb (length b % 4) 0) wrongLength ∷
     sectionRule o false 0 b ∷
     sectionRule o true (triggerAt o b) b ∷
-    unless (eqb (length b) (after o (triggerAt o b) b)) 6 ∷ []
+    unless (eqb (length b) (endAt o (triggerAt o b) b)) wrongLength ∷ []
 
 unfoldable pub historyRule : Order → List ℕ → ℕ
 historyRule o b = first (historyTests o b)
 
--- A writer's faults, in word order: each count, and its list handed over as a part of bytes, 6 where its size isn't its count's.
+-- FORMAT 5.3, 9.2: what the writer tests, in the same order: each count and, behind it, the part of bytes that holds its list, 6 where that has
+-- another size.
 unfoldable pub sectionFault : Bool → Section → ℕ
 sectionFault trigger s = first (
     notNegative (s .count) ∷
-    unless (eqb (length (s .times)) (4 * s .count)) 6 ∷
+    unless (eqb (length (s .times)) (4 * s .count)) wrongLength ∷
     notNegative (s .width) ∷
-    unless (isWidth trigger (s .count) (s .width)) 10 ∷
-    unless (eqb (length (s .masks)) (4 * (s .count * s .width))) 6 ∷ [])
+    unless (isWidth trigger (s .count) (s .width)) wrongField ∷
+    unless (eqb (length (s .masks)) (4 * (s .count * s .width))) wrongLength ∷ [])
 
 unfoldable pub historyFault : History → ℕ
 historyFault h = first (sectionFault false (h .veto) ∷ sectionFault true (h .trigger) ∷ [])
 
--- "The answer gives the counts and where each list starts": places in the lent bytes, the body standing at `from`.
+-- FORMAT 5.3, 8.5: what Record answers of a section, the body standing at `from`: each count, and behind it the place in the lent bytes at which its
+-- list starts. The list of a missing section starts there too, and is empty.
 unfoldable pub sectionValues : Order → ℕ → ℕ → List ℕ → List ℕ
 sectionValues o from p b = word o p b ∷ (from + (p + 4)) ∷ widthOf o p b ∷ (from + (widthAt o p b + 4)) ∷ []
 
--- Row kind 8: nvt, ntt.
+-- FORMAT 5.3, 7.2: row kind 8; its values are both counts of times.
 abbrev pub historyKind : Kind
 historyKind = record {
   word = 0x21;
   row = 8;
   rule = historyRule;
-  one = λ o. word o 0;
-  two = λ o b. word o (triggerAt o b) b;
+  one = λ o b. historyOf o b .veto .count;
+  two = λ o b. historyOf o b .trigger .count;
   values = λ o place b. counts (sectionValues o (place + 8) 0 b ++ sectionValues o (place + 8) (triggerAt o b) b);
   again = λ o b. historyBytes o (historyOf o b);
 }

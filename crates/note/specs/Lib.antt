@@ -1,5 +1,6 @@
 pub mod Limits
 pub mod Words
+pub mod Faults
 pub mod Answers
 pub mod Channels
 pub mod Kinds
@@ -15,13 +16,19 @@ pub mod Records
 pub mod Events
 pub mod Files
 pub mod Rows
+pub mod Visitor
 pub mod Calls
 pub mod Listing
 pub mod Writers
 pub mod Examples
 pub mod Slips
 pub mod Asked
-pub mod EventKinds
 pub mod ChannelTable
+pub mod Series
+pub mod Places
+pub mod Rules
+pub mod EventKinds
+pub mod Readings
 pub mod CallAnswers
+pub mod Spelling
 pub mod Sizes

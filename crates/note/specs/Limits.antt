@@ -1,21 +1,21 @@
--- Document 01, 'Covered and left to others' and 'Rows and calls': the limits, each named once.
+-- The limits of this format, each named once: a definition that uses one says by its name which limit it means.
 use Prim.Native.Nat.{ℕ}
 
--- "A lent file or output is at most 16,777,216 bytes."
+-- FORMAT 1.1: the most bytes of a lent file and of an output, 2^24.
 abbrev pub fileLimit : ℕ
 fileLimit = 16777216
 
--- "A trace has 2 to 32,768 samples."
+-- FORMAT 1.1: the fewest and the most samples of a trace.
 abbrev pub fewestSamples : ℕ
 fewestSamples = 2
 
 abbrev pub mostSamples : ℕ
 mostSamples = 32768
 
--- "A row is six 32-bit numbers."
+-- FORMAT 7.1: how many numbers a row is.
 abbrev pub rowWidth : ℕ
 rowWidth = 6
 
--- "The listing program reads standard input (up to 16,384 bytes; longer gives 1)."
+-- FORMAT 1.1, 8.9: the most bytes that the listing program takes, 2^14.
 abbrev pub listingLimit : ℕ
 listingLimit = 16384

@@ -1,4 +1,4 @@
--- Document 01, 'Rows and calls': the listing program's lines, as numbers; then their text, as bytes.
+-- What the listing program prints, in two steps: lines of numbers, which the examples are held against; then their text, byte by byte.
 use Prim.Native.Nat.{ℕ, zero, suc, _+_, _/_, _%_}
 use mathlib.Core.Bool.{cond}
 use mathlib.Core.List.{List, [], _∷_, _++_}
@@ -10,47 +10,47 @@ use Rattle.note.specs.Limits.{listingLimit}
 use Rattle.note.specs.Files.{File, readFile}
 use Rattle.note.specs.Rows.{rowsOf, rowNumbers}
 
--- "Then each row's number and six values": the lines of rows, the first of which has the number i.
+-- FORMAT 8.9: the lines of rows, the first of which has the number i: a row's number, then its six.
 unfoldable pub rowLines : ℕ → List Row → List (List ℕ)
 rowLines i [] = []
 rowLines i (r ∷ rs) = (i ∷ rowNumbers r) ∷ rowLines (i + 1) rs
 
--- "It prints answer, count, place; then each row's number and six values .. Refused: the first line only."
+-- FORMAT 8.9: a line of Table's number, count and place; of an accepted file the lines of its rows behind it.
 abbrev pub linesGiven : List ℕ → Res File → List (List ℕ)
 linesGiven bs (bad c p) = (c ∷ 0 ∷ p ∷ []) ∷ []
 linesGiven bs (ok f) = (0 ∷ length (rowsOf f) ∷ length bs ∷ []) ∷ rowLines 1 (rowsOf f)
 
--- "Reads standard input (up to 16,384 bytes; longer gives 1)."
+-- FORMAT 8.9: an input over the listing's limit is refused with 1.
 unfoldable pub listing : List ℕ → List (List ℕ)
 listing bs = cond (leb (length bs) listingLimit) (linesGiven bs (readFile bs)) ((1 ∷ 0 ∷ 0 ∷ []) ∷ [])
 
--- "In decimal", without a sign: the digits of a number's tenth and then its last, 48 being the digit 0; none at 0, so that no zero stands in
--- front. The first argument only bounds the steps: a number has no more digits than it counts.
+-- FORMAT 8.9: decimal digits, without a sign: those of a number's tenth and then its last, 48 being the digit 0; none at 0, so that no zero stands
+-- in front. The first argument only bounds the steps: a number has no more digits than it counts.
 unfoldable pub digitsOf : ℕ → ℕ → List ℕ
 digitsOf zero n = []
 digitsOf (suc f) zero = []
 digitsOf (suc f) (suc n) = digitsOf f (suc n / 10) ++ ((48 + suc n % 10) ∷ [])
 
--- A number's text; 0 is one digit too.
+-- FORMAT 8.9: a number's text; 0 is one digit too.
 unfoldable pub decimalText : ℕ → List ℕ
 decimalText zero = 48 ∷ []
 decimalText (suc n) = digitsOf (suc n) (suc n)
 
--- "One blank between" (32): what stands behind a number, by the numbers that follow it; behind the last the line's end (10).
+-- FORMAT 8.9: what stands behind a number, by the numbers that follow it: a blank (32); behind the last the line's end (10).
 abbrev pub separator : List ℕ → ℕ
 separator [] = 10
 separator (n ∷ ns) = 32
 
--- A line of numbers.
+-- FORMAT 8.9: a line of numbers.
 unfoldable pub lineText : List ℕ → List ℕ
 lineText [] = []
 lineText (n ∷ ns) = decimalText n ++ (separator ns ∷ lineText ns)
 
--- Lines one after the other.
+-- FORMAT 8.9: lines one after the other.
 unfoldable pub linesText : List (List ℕ) → List ℕ
 linesText [] = []
 linesText (l ∷ ls) = lineText l ++ linesText ls
 
--- All that the program prints of a file.
+-- FORMAT 8.9: all that the program prints of a file.
 unfoldable pub listingText : List ℕ → List ℕ
 listingText bs = linesText (listing bs)

@@ -1,4 +1,5 @@
--- Document 01, 'Words and nesting': the phonon entry, kind 0x00010001, length 44.
+-- The phonon entry: kind 0x00010001, a body of 44 bytes, eleven signed words. Like the file of every kind it has the fields, a body as fields and
+-- fields as a body, the rule, and last the kind that gathers them.
 use Prim.Native.Nat.{ℕ}
 use mathlib.Core.List.{List, [], _∷_, map}
 use lib.Dec.{eqb}
@@ -6,13 +7,13 @@ use lib.IntN.{ℤ}
 use lib.ListN.{length}
 use Rattle.theory.specs.declared.Order.{Order}
 use Rattle.theory.specs.Tests.{unless, first}
+use Rattle.note.specs.Faults.{wrongLength, wrongField}
 use Rattle.note.specs.Words.{word, words, signed, unsigned}
 use Rattle.note.specs.Answers.{wholes}
-use Rattle.note.specs.Channels.{phononNamed}
+use Rattle.note.specs.Channels.{namesPhonon}
 use Rattle.note.specs.Kinds.{Kind}
 
--- "Phonon words in order: detector code, tower, gain x100, QET bias x100, SQUID bias x100, lockpoint x100, RTF offset, variable
--- gain, delta t, T0, trace length." "All are signed."
+-- FORMAT 4.1: the fields, in the order of their words. Gain, both biases and lockpoint are stored times 100.
 pub record Phonon : Type 0 where
   pub code : ℤ
   pub tower : ℤ
@@ -32,7 +33,7 @@ phononWords f =
     f .gain ∷ f .qetBias ∷ f .squidBias ∷ f .lockpoint ∷
     f .rtfOffset ∷ f .variableGain ∷ f .deltaT ∷ f .t0 ∷ f .traceLength ∷ []
 
--- The fields of a body, and the body of fields.
+-- FORMAT 4.1: the fields of a body, and the body of fields.
 unfoldable pub phononOf : Order → List ℕ → Phonon
 phononOf o b = record {
   code = signed (word o 0 b);
@@ -51,24 +52,24 @@ phononOf o b = record {
 unfoldable pub phononBytes : Order → Phonon → List ℕ
 phononBytes o f = words o (map unsigned (phononWords f))
 
--- "The code must name a phonon channel"; "other words are free".
+-- FORMAT 4.1: the tests: 44 bytes, or 6; a code that names a phonon channel, or 10. No other word is tested.
 unfoldable pub phononFault : ℕ → ℕ
-phononFault code = unless (phononNamed code) 10
+phononFault code = unless (namesPhonon code) wrongField
 
 abbrev pub phononTests : Order → List ℕ → List ℕ
-phononTests o b = unless (eqb (length b) 44) 6 ∷ phononFault (word o 0 b) ∷ []
+phononTests o b = unless (eqb (length b) 44) wrongLength ∷ phononFault (word o 0 b) ∷ []
 
 unfoldable pub phononRule : Order → List ℕ → ℕ
 phononRule o b = first (phononTests o b)
 
--- Row kind 3: code, tower bits.
+-- FORMAT 4.1, 7.2: row kind 3; its values are the code and the tower's bits.
 abbrev pub phononKind : Kind
 phononKind = record {
   word = 0x00010001;
   row = 3;
   rule = phononRule;
-  one = λ o. word o 0;
-  two = λ o. word o 4;
+  one = λ o b. unsigned (phononOf o b .code);
+  two = λ o b. unsigned (phononOf o b .tower);
   values = λ o place b. wholes (phononWords (phononOf o b));
   again = λ o b. phononBytes o (phononOf o b);
 }

@@ -1,13 +1,14 @@
--- Document 01, 'Rows and calls': the rows of a file, Table's answer and buffer, the walker's yields. Last a visitor, which is no call of
--- that document: Table's rows from a given one on.
-use Prim.Native.Nat.{ℕ, _+_, _*_, _/_, _%_}
+-- The rows of a file, and the calls that give all of them: Table and the walker. Rows are the file's structures laid out from row 1 and byte 0
+-- (theory/specs/Layout). Each call is said of `rowsOf`, so that both give the same rows.
+use Prim.Native.Nat.{ℕ, _+_, _*_, _%_}
 use mathlib.Core.Bool.{Bool, cond, _||_}
 use mathlib.Core.List.{List, [], _∷_, _++_, map}
 use lib.Dec.{leb, eqb, ltb}
-use lib.ListN.{length, take, drop}
+use lib.ListN.{length, drop}
 use Rattle.theory.specs.declared.Order.{Order}
 use Rattle.theory.specs.Tests.{Res, ok, bad}
 use Rattle.theory.specs.Layout.{Row, Child, Node, single, box, rows, row}
+use Rattle.note.specs.Faults.{fewRows}
 use Rattle.note.specs.Limits.{rowWidth}
 use Rattle.note.specs.Answers.{Given, accepted, refused, counts}
 use Rattle.note.specs.Records.{Record, recordSize, kindOf}
@@ -15,17 +16,18 @@ use Rattle.note.specs.Events.{Container}
 use Rattle.note.specs.Files.{File, orderIn, versionOf, configurationOf, eventsOf, readFile}
 use Rattle.note.specs.declared.TableAnswer.{TableAnswer}
 
--- "3 phonon, 4 charge ..; 6 administrative ..": what the row of a record says before it has a place.
+-- FORMAT 7.2: what the row of a record or an entry says before it has a place: row kind and values are its kind's.
 unfoldable pub childOf : Order → Record → Child
 childOf o r =
-    record { kind = kindOf (r .kind) .row; size = recordSize r; one = kindOf (r .kind) .one o (r .body); two = kindOf (r .kind) .two o (r .body) }
+    record { kind = kindOf (r .word) .row; size = recordSize r; one = kindOf (r .word) .one o (r .body); two = kindOf (r .word) .two o (r .body) }
 
 abbrev pub childrenOf : Order → List Record → List Child
 childrenOf o rs = map (childOf o) rs
 
--- "1 header (version word, 0); 2 configuration (entries, 0); .. 5 event (low half of first word, records)."
+-- FORMAT 7.2: the other rows: an event's has kind 5, the low half of its first word and how many records it has; the header's kind 1, the version
+-- word and 0; the configuration's kind 2, how many entries it has, and 0.
 abbrev pub eventNode : Order → Container → Node
-eventNode o e = box 5 (e .kind % 65536) (length (e .body)) (childrenOf o (e .body))
+eventNode o e = box 5 (e .word % 65536) (length (e .body)) (childrenOf o (e .body))
 
 unfoldable pub nodesOf : File → List Node
 nodesOf f =
@@ -33,15 +35,15 @@ nodesOf f =
     ∷ box 2 (length (configurationOf f .body)) 0 (childrenOf (orderIn f) (configurationOf f .body))
     ∷ map (eventNode (orderIn f)) (eventsOf f)
 
--- "Rows stand in file order, a parent before its children": from row number 1 and byte 0 on.
+-- FORMAT 7.3: a file's rows, from row number 1 and byte 0 on: as the file has them, and a container before what it holds.
 unfoldable pub rowsOf : File → List Row
 rowsOf f = rows 1 0 (nodesOf f)
 
--- "A configuration's or an event's own bytes are its first eight; any other row owns its whole length."
+-- FORMAT 7.3: the rows of which eight bytes are their own: a configuration's and an event's.
 abbrev pub isBox : ℕ → Bool
 isBox k = eqb k 2 || eqb k 5
 
--- A row as numbers, and rows one after the other.
+-- FORMAT 7.1: a row as numbers, and rows one after the other.
 abbrev pub rowNumbers : Row → List ℕ
 rowNumbers r = r .kind ∷ r .start ∷ r .whole ∷ r .parent ∷ r .one ∷ r .two ∷ []
 
@@ -49,19 +51,19 @@ unfoldable pub flat : List Row → List ℕ
 flat [] = []
 flat (r ∷ rs) = rowNumbers r ++ flat rs
 
--- "Table: fills rows in a lent buffer; answers number, row count, place." 0 has the file's length as its place; 12 is "given last;
--- count is the rows needed, place the file's length"; "refusals other than 12 have count 0".
+-- FORMAT 8.2: Table's answer: the file's refusal with count 0; of an accepted file, whose rows are counted and whose length is the place, 0 where
+-- six numbers for each row are lent, else 12.
 abbrev pub fits : ℕ → List Row → Bool
 fits capacity rs = leb (rowWidth * length rs) capacity
 
 abbrev pub tableGiven : List ℕ → ℕ → Res File → TableAnswer
 tableGiven bs capacity (bad c p) = record { number = c; count = 0; place = p }
-tableGiven bs capacity (ok f) = record { number = cond (fits capacity (rowsOf f)) 0 12; count = length (rowsOf f); place = length bs }
+tableGiven bs capacity (ok f) = record { number = cond (fits capacity (rowsOf f)) 0 fewRows; count = length (rowsOf f); place = length bs }
 
 unfoldable pub tableAnswer : List ℕ → ℕ → TableAnswer
 tableAnswer bs capacity = tableGiven bs capacity (readFile bs)
 
--- The buffer afterwards: the rows, and "the rest of that buffer is unchanged"; on a refusal all of it.
+-- FORMAT 8.2: the buffer afterwards: the rows in front, and what stood behind them; all of what stood there under any other number than 0.
 abbrev pub tableFilled : List ℕ → Res File → List ℕ
 tableFilled old (bad c p) = old
 tableFilled old (ok f) = cond (fits (length old) (rowsOf f)) (flat (rowsOf f) ++ drop (rowWidth * length (rowsOf f)) old) old
@@ -69,32 +71,10 @@ tableFilled old (ok f) = cond (fits (length old) (rowsOf f)) (flat (rowsOf f) ++
 unfoldable pub tableBuffer : List ℕ → List ℕ → List ℕ
 tableBuffer bs old = tableFilled old (readFile bs)
 
--- "Walker: .. yields the table's rows one at a time; then the end, again and again. Over a refused file it yields that refusal each
--- time": its k-th yield, from 0.
+-- FORMAT 8.3: a walker's k-th yield, from 0: row k; behind the last row the end, as often as it is asked; of a refused file its refusal, always.
 abbrev pub yieldGiven : ℕ → Res File → Given
 yieldGiven k (bad c p) = refused c p
 yieldGiven k (ok f) = cond (ltb k (length (rowsOf f))) (accepted (counts (rowNumbers (row (rowsOf f) k)))) (accepted [])
 
 unfoldable pub yieldAt : List ℕ → ℕ → Given
 yieldAt bs k = yieldGiven k (readFile bs)
-
--- A visitor, for callers who hold no walker: its yields from the k-th on, from 0, as rows in a lent buffer, up to the last row or until
--- the buffer is full. It answers how many; 0 has the file's length as its place, as with Table, a refusal is the file's; the rest of
--- the buffer is unchanged.
-abbrev pub piece : ℕ → ℕ → List Row → List Row
-piece k capacity rs = take (capacity / rowWidth) (drop k rs)
-
-abbrev pub visitGiven : List ℕ → ℕ → ℕ → Res File → TableAnswer
-visitGiven bs k capacity (bad c p) = record { number = c; count = 0; place = p }
-visitGiven bs k capacity (ok f) = record { number = 0; count = length (piece k capacity (rowsOf f)); place = length bs }
-
-unfoldable pub visitAnswer : List ℕ → ℕ → ℕ → TableAnswer
-visitAnswer bs k capacity = visitGiven bs k capacity (readFile bs)
-
-abbrev pub visitFilled : ℕ → List ℕ → Res File → List ℕ
-visitFilled k old (bad c p) = old
-visitFilled k old (ok f) =
-    flat (piece k (length old) (rowsOf f)) ++ drop (rowWidth * length (piece k (length old) (rowsOf f))) old
-
-unfoldable pub visitBuffer : List ℕ → ℕ → List ℕ → List ℕ
-visitBuffer bs k old = visitFilled k old (readFile bs)

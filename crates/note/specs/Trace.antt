@@ -1,4 +1,5 @@
--- Document 01, 'The six records': trace, kind 0x11, length 48 + 2n. Its rule looks at the first 48 bytes and the length alone.
+-- The trace: kind 0x11, a body of 48 + 2n bytes: three inner blocks with kind words of their own, and n samples. Its rule looks at the first 48
+-- bytes and at the length alone, so that no sample can make a file wrong.
 use Prim.Native.Nat.{ℕ, _+_, _-_, _*_, _/_, _%_}
 use mathlib.Core.Bool.{cond, _&&_}
 use mathlib.Core.List.{List, [], _∷_, _++_}
@@ -10,14 +11,15 @@ use mir.Syntax.{w32}
 use Rattle.theory.specs.declared.Order.{Order}
 use Rattle.theory.specs.Words.{Fits}
 use Rattle.theory.specs.Tests.{unless, first}
+use Rattle.note.specs.Faults.{wrongKind, wrongLength, wrongField, wrongCount}
 use Rattle.note.specs.Limits.{fewestSamples, mostSamples}
 use Rattle.note.specs.Words.{word, words, signed, unsigned}
 use Rattle.note.specs.Answers.{whole, count}
-use Rattle.note.specs.Channels.{named}
+use Rattle.note.specs.Channels.{namesChannel}
 use Rattle.note.specs.Kinds.{Kind}
 
--- "0x11, 12, base address, digitizer channel (1 to 8), detector code; 0x12, 12, t0 (signed ns), delta t (ns, not 0, house), n;
--- 0x13, n again; samples": the samples are the bytes as they stand.
+-- FORMAT 5.2: the fields; t0, which is signed, and delta t are nanoseconds. Of the twelve words before the samples five are fixed, the inner kinds
+-- and lengths, and n stands twice. The samples are the bytes as they stand.
 pub record Trace : Type 0 where
   pub address : ℕ
   pub channel : ℕ
@@ -27,7 +29,7 @@ pub record Trace : Type 0 where
   pub n : ℕ
   pub samples : List ℕ
 
--- The fields fit their words.
+-- FORMAT 1.2, 5.2: the fields fit their words.
 pub record TraceFits (f : Trace) : Type 0 where
   pub address : Fits 4 (f .address)
   pub channel : Fits 4 (f .channel)
@@ -36,7 +38,7 @@ pub record TraceFits (f : Trace) : Type 0 where
   pub delta : Fits 4 (f .delta)
   pub n : Fits 4 (f .n)
 
--- The fields of a body, and the body of fields.
+-- FORMAT 5.2: the fields of a body, and the body of fields.
 unfoldable pub traceOf : Order → List ℕ → Trace
 traceOf o b = record {
   address = word o 8 b;
@@ -57,73 +59,74 @@ traceWords f =
 unfoldable pub traceBytes : Order → Trace → List ℕ
 traceBytes o f = words o (traceWords f) ++ f .samples
 
--- The faults of single words: digitizer channel; code; delta t; n ("n is even"; 2 to 32,768).
+-- FORMAT 5.2: the faults of single words: digitizer channels are 1 to 8, a code names a channel, delta t isn't 0, or 10; n is even and 2 to
+-- 32,768, or 11.
 abbrev pub channelFault : ℕ → ℕ
-channelFault c = unless (leb 1 c && leb c 8) 10
+channelFault c = unless (leb 1 c && leb c 8) wrongField
 
 abbrev pub codeFault : ℕ → ℕ
-codeFault w = unless (named w) 10
+codeFault w = unless (namesChannel w) wrongField
 
 abbrev pub deltaFault : ℕ → ℕ
-deltaFault d = unless (leb 1 d) 10
+deltaFault d = unless (leb 1 d) wrongField
 
 unfoldable pub countFault : ℕ → ℕ
-countFault n = first (unless (eqb (n % 2) 0) 11 ∷ unless (leb fewestSamples n) 11 ∷ unless (leb n mostSamples) 11 ∷ [])
+countFault n = first (unless (eqb (n % 2) 0) wrongCount ∷ unless (leb fewestSamples n) wrongCount ∷ unless (leb n mostSamples) wrongCount ∷ [])
 
--- The three inner blocks, words in order: "inner kind" 5, an inner length other than 12 is 6.
+-- FORMAT 5.2: the first two blocks, words in order: another inner kind is 5, an inner length other than 12 is 6.
 unfoldable pub bookkeepingRule : Order → List ℕ → ℕ
 bookkeepingRule o b = first (
-    unless (eqb (word o 0 b) 0x11) 5 ∷
-    unless (eqb (word o 4 b) 12) 6 ∷
+    unless (eqb (word o 0 b) 0x11) wrongKind ∷
+    unless (eqb (word o 4 b) 12) wrongLength ∷
     channelFault (word o 12 b) ∷
     codeFault (word o 16 b) ∷ [])
 
 unfoldable pub timebaseRule : Order → List ℕ → ℕ
 timebaseRule o b = first (
-    unless (eqb (word o 20 b) 0x12) 5 ∷
-    unless (eqb (word o 24 b) 12) 6 ∷
+    unless (eqb (word o 20 b) 0x12) wrongKind ∷
+    unless (eqb (word o 24 b) 12) wrongLength ∷
     deltaFault (word o 32 b) ∷ [])
 
--- "n at its second count": odd, too few, too many, or unlike the first count.
+-- FORMAT 5.2: the third block: its kind, or 5; n, which is tested here and not where it stands first; both counts alike, or 11.
 unfoldable pub samplesRule : Order → List ℕ → ℕ
 samplesRule o b = first (
-    unless (eqb (word o 40 b) 0x13) 5 ∷
+    unless (eqb (word o 40 b) 0x13) wrongKind ∷
     countFault (word o 44 b) ∷
-    unless (eqb (word o 36 b) (word o 44 b)) 11 ∷ [])
+    unless (eqb (word o 36 b) (word o 44 b)) wrongCount ∷ [])
 
--- "Trace: length below 48 is 6, then words in order, n at its second count, last the length against 48 + 2n."
+-- FORMAT 5.2: the tests: 48 bytes at the least, or 6; the three blocks; at the end 48 + 2n bytes, or 6.
 abbrev pub traceTests : Order → List ℕ → List ℕ
 traceTests o b =
-    unless (leb 48 (length b)) 6 ∷
+    unless (leb 48 (length b)) wrongLength ∷
     bookkeepingRule o b ∷
     timebaseRule o b ∷
     samplesRule o b ∷
-    unless (eqb (length b) (48 + 2 * word o 44 b)) 6 ∷ []
+    unless (eqb (length b) (48 + 2 * word o 44 b)) wrongLength ∷ []
 
 unfoldable pub traceRule : Order → List ℕ → ℕ
 traceRule o b = first (traceTests o b)
 
--- A writer's faults, in word order: the samples are handed over as a part of bytes, 6 where its size isn't 2n.
+-- FORMAT 5.2, 9.2: what the writer tests, in the same order: the fields, and last the part that holds the samples, which has 2n bytes, or 6.
 unfoldable pub traceFault : Trace → ℕ
 traceFault f = first (
     channelFault (f .channel) ∷
     codeFault (f .code) ∷
     deltaFault (f .delta) ∷
     countFault (f .n) ∷
-    unless (eqb (length (f .samples)) (2 * f .n)) 6 ∷ [])
+    unless (eqb (length (f .samples)) (2 * f .n)) wrongLength ∷ [])
 
--- Sample k of a part of samples, from 1: "The lower half of a word is the earlier sample."
+-- FORMAT 8.7: sample k of a part of samples, from 1: two to a word, an odd k in its lower half, an even k in its upper half.
 unfoldable pub sampleIn : Order → List ℕ → ℕ → ℕ
 sampleIn o part k = cond (eqb (k % 2) 1) (word o (4 * ((k - 1) / 2)) part % 65536) (word o (4 * ((k - 1) / 2)) part / 65536)
 
--- Row kind 7: code, n.
+-- FORMAT 5.2, 7.2: row kind 7; its values are the code and n.
 abbrev pub traceKind : Kind
 traceKind = record {
   word = 0x11;
   row = 7;
   rule = traceRule;
-  one = λ o. word o 16;
-  two = λ o. word o 44;
+  one = λ o b. traceOf o b .code;
+  two = λ o b. traceOf o b .n;
   values = λ o place b.
       let f : Trace = traceOf o b in
       count (f .address) ∷ count (f .channel) ∷ count (f .code) ∷ whole (f .t0) ∷ count (f .delta) ∷ count (f .n) ∷ [];

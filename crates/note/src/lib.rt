@@ -1,5 +1,68 @@
-// The answers that the calls give, as types; what each must hold is defined in specs/, in the order of document 01.
+// The answers that the calls give, as types; what each must hold is defined in specs/, in the order of FORMAT.
 // There is no function here.
+
+// The numbers that are given back (FORMAT 2.1), as specs/Faults has them.
+/// A lent file or output is over the limit.
+pub const TOO_LARGE: u32 = 1;
+
+/// Fewer than eight bytes are left for a structure, or its length passes what holds it.
+pub const TOO_SHORT: u32 = 2;
+
+/// The file's first word is another one.
+pub const NOT_A_FILE: u32 = 3;
+
+/// The version word says another format than 2.0.
+pub const WRONG_FORMAT: u32 = 4;
+
+/// A kind word, a trace's inner kind or the mark of an event isn't one of those allowed there.
+pub const WRONG_KIND: u32 = 5;
+
+/// A length is wrong for its kind or for its counts.
+pub const WRONG_LENGTH: u32 = 6;
+
+/// An event's class, category or type isn't admitted.
+pub const NOT_ADMITTED: u32 = 7;
+
+/// An event of type 7, a monitoring event.
+pub const MONITORING: u32 = 8;
+
+/// An event is empty, its first record isn't administrative, or a kind comes a second time.
+pub const MISPLACED: u32 = 9;
+
+/// A field is outside its rule.
+pub const WRONG_FIELD: u32 = 10;
+
+/// A trace's count of samples is outside its rule, or a sample's number is out of range.
+pub const WRONG_COUNT: u32 = 11;
+
+/// Table's rows don't fit the lent buffer.
+pub const FEW_ROWS: u32 = 12;
+
+/// What is to be written doesn't lie in the output.
+pub const NO_ROOM: u32 = 13;
+
+// The kinds of rows (FORMAT 7.2).
+pub const HEADER_ROW: u32 = 1;
+
+pub const CONFIGURATION_ROW: u32 = 2;
+
+pub const PHONON_ROW: u32 = 3;
+
+pub const CHARGE_ROW: u32 = 4;
+
+pub const EVENT_ROW: u32 = 5;
+
+pub const ADMINISTRATIVE_ROW: u32 = 6;
+
+pub const TRACE_ROW: u32 = 7;
+
+pub const HISTORY_ROW: u32 = 8;
+
+pub const GPS_ROW: u32 = 9;
+
+pub const TRIGGER_ROW: u32 = 10;
+
+pub const TLB_ROW: u32 = 11;
 
 /// Table: the number (0 accepted, 12 too few rows lent), the count of rows, the place.
 pub struct TableAnswer {
@@ -47,7 +110,7 @@ pub enum RecordAnswer {
         code: u32,
         t0: i32,
         delta_t: u32,
-        samples: u32,
+        n: u32,
     },
     History {
         veto_times: u32,
@@ -131,7 +194,7 @@ pub struct Name {
 pub struct ChannelAnswer {
     pub number: u32,
     pub place: usize,
-    pub kind: u32,
+    pub detector_type: u32,
     pub detector: u32,
     pub analysis: Name,
     pub cold: Name,

@@ -1,4 +1,4 @@
--- Demand 3, of what the calls give: one byte changed inside a trace's samples leaves the answers and buffers of Table and the visitor, the
+-- What the calls give after an edit: one byte changed inside a trace's samples leaves the answers and buffers of Table and the visitor, the
 -- walker's yields, Find's answers, and Record's and Setting's answers at each row as they were; of the samples it changes only the one that
 -- holds it, by that byte alone, and the bytes of Samples' part likewise.
 -- The idea: the edited file is accepted with the same rows, and Table, visitor, walker and Find look at nothing else of it; the rest is the
@@ -14,7 +14,8 @@ use Rattle.theory.specs.Layout.{Row, row}
 use Rattle.theory.proofs.WordLaws.{Bytes-set}
 use Rattle.note.specs.Answers.{accepted, counts}
 use Rattle.note.specs.Files.{File, orderOf, readFile}
-use Rattle.note.specs.Rows.{rowsOf, tableAnswer, tableBuffer, yieldAt, visitAnswer, visitBuffer}
+use Rattle.note.specs.Rows.{rowsOf, tableAnswer, tableBuffer, yieldAt}
+use Rattle.note.specs.Visitor.{visitAnswer, visitBuffer}
 use Rattle.note.specs.Calls.{recordAt, settingAt, samplesPart, samplesAt, sampleAt, firstMatch, findAt}
 use Rattle.demands.specs.Edited.{startOf, holder, SampleEdited, SameLists, Edited}
 use Rattle.demands.specs.RowTraces.{rowTraces}
@@ -28,7 +29,7 @@ use Rattle.promises.proofs.TablePromises.{table-has-rows, row-in-table}
 -- In an accepted file, row j is a trace, and byte i, inside its samples, becomes the byte x.
 module _ (bs : List ℕ) (f : File) (h : Bytes bs) (e : readFile bs ≡ ok f) {o : Order} {j i x : ℕ} (byte : x < 256)
     (d : Edited o bs f j i x) where
-  -- "still accepted, same rows": Table answers the same for every capacity and leaves the same in every buffer; the walker yields the
+  -- The file is accepted, with the same rows: Table answers the same for every capacity and leaves the same in every buffer; the walker yields the
   -- same, from every row on, and Find gives the same for every number and code.
   pub edit-keeps-answer : (capacity : ℕ) → tableAnswer (set bs i x) capacity ≡ tableAnswer bs capacity
   unfolding tableAnswer
@@ -63,7 +64,7 @@ table-row-is : (bs old : List ℕ) (given : tableAnswer bs (length old) .number 
     → (k : ℕ) → k < tableCount bs old → tableRow bs old k ≡ row (rowsOf f) k
 table-row-is bs old given f same k l = sym (row-in-table bs old given k l) ∙ ap (λ (rs : List Row). row rs k) same
 
--- Demand 3: in a file for which Table answers 0, a byte from the 57th of a trace's row in the buffer to its last, changed to any byte.
+-- In a file for which Table answers 0, a byte from the 57th of a trace's row in the buffer to its last, changed to any byte.
 pub edit-seen-by-calls : (bs old : List ℕ) (j i x : ℕ) → Bytes bs → SampleByte bs old j i x → EditedCalls bs old j i x
 edit-seen-by-calls bs old j i x h s =
     let (f, e, n, same) = table-has-rows bs old (s .answered) in

@@ -1,4 +1,4 @@
--- Demand 3, of what Table gives: the rows that stand in its buffer tile the file, lie each inside its one parent, say what stands at their
+-- What Table gives (FORMAT 8.2): the rows that stand in its buffer tile the file, lie each inside its one parent, say what stands at their
 -- starts and are at most an eighth of the length; the rest of the buffer is unchanged, and on a refusal all of it.
 -- The idea: the rows read back from the buffer are the rows of the file, of which the demands are proved.
 use mathlib.Core.Path.{_≡_, refl, sym, ap, ap₂, _∙_, subst}
@@ -87,7 +87,7 @@ given-zero bs capacity (ok f) g e = (f, refl, leb-true (rowWidth * length (rowsO
     passed true q = refl
     passed false q = absurd (omega arith)
 
--- 0 is "accepted; place is the file's length": exactly an accepted file whose rows fit in the buffer.
+-- 0 means an accepted file whose rows fit in the buffer, and nothing else; its place is the file's length.
 pub zero-means-accepted : (bs old : List ℕ) → tableAnswer bs (length old) .number ≡ 0
     → (f : File) × (readFile bs ≡ ok f) × (rowWidth * length (rowsOf f) ≤ length old)
 unfolding tableAnswer
@@ -152,7 +152,7 @@ buffer-keeps-length bs old = elim (ℕ-discrete (tableAnswer bs (length old) .nu
 
 -- Table has answered 0.
 module _ (bs old : List ℕ) (zero-given : tableAnswer bs (length old) .number ≡ 0) where
-  -- "The rest of that buffer is unchanged."
+  -- What lies behind the rows is as it was.
   pub rest-of-buffer-stays : drop (rowWidth * tableCount bs old) (tableBuffer bs old) ≡ drop (rowWidth * tableCount bs old) old
   rest-of-buffer-stays = let (f, e, room) = zero-means-accepted bs old zero-given in filled-rest bs old f e room
 
@@ -188,24 +188,24 @@ module _ (bs old : List ℕ) (zero-given : tableAnswer bs (length old) .number �
       subst (λ (r : Row). P (tableRows bs old) j r) here
       (subst (λ (rs : List Row). P rs j (row (rowsOf f) j)) (sym same) (known f e j (subst (λ (m : ℕ). j < m) n l)))
 
-  -- "Each child inside its one parent": a row of the buffer is a container that holds row j exactly where its number is row j's parent.
+  -- A row of the buffer is a container that holds row j exactly where its number is row j's parent.
   pub table-child-inside-parent : (j : ℕ) → j < tableCount bs old → OneParent isBox (tableRows bs old) (tableRow bs old j)
   table-child-inside-parent = of-table (λ rs j r. OneParent isBox rs r) (λ f e. rows-inside f)
 
   module _ (h : Bytes bs) where
-    -- "In row order the rows' own bytes run from the first byte to the last without gap or overlap."
+    -- The rows' own bytes, row by row, are all bytes of the file.
     pub table-tiles : Tiles isBox 0 (tableRows bs old) (length bs)
     table-tiles =
         let (f, e, n, same) = table-has-rows in
         subst (λ (rs : List Row). Tiles isBox 0 rs (length bs)) (sym same) (rows-tile-file bs f h e)
 
-    -- "Rows are never more than an eighth of the length."
+    -- Each row owns eight bytes at the least, so there are few.
     pub table-has-few-rows : 8 * tableCount bs old ≤ length bs
     table-has-few-rows =
         let (f, e, n, same) = table-has-rows in
         subst (λ (n : ℕ). 8 * n ≤ length bs) (sym n) (few-rows-in-file bs f h e)
 
-    -- "Every byte belongs to one row": to a row of the buffer, and to no other.
+    -- A byte is the own of a row of the buffer, and of no other row.
     pub byte-has-table-row : (i : ℕ) → i < length bs → (j : ℕ) × (j < tableCount bs old) × Owns isBox (tableRow bs old j) i
     byte-has-table-row i l =
         let (j, below, owns) = owner isBox 0 (length bs) (tableRows bs old) i table-tiles (omega arith) l in
@@ -219,7 +219,7 @@ module _ (bs old : List ℕ) (zero-given : tableAnswer bs (length old) .number �
         (subst (λ (r : Row). Owns isBox r i) (sym (row-in-table j lj)) oj)
         (subst (λ (r : Row). Owns isBox r i) (sym (row-in-table k lk)) ok′)
 
-    -- "A parent before its children": the parent's row number, from 1, is at most the number of rows before the child.
+    -- A parent stands first: its row number, from 1, is at most the number of rows before the child.
     pub table-parent-before : (j : ℕ) → j < tableCount bs old → tableRow bs old j .parent ≤ j
     table-parent-before = of-table (λ rs j r. r .parent ≤ j) (λ f e. parent-before-child bs f h e)
 

@@ -12,7 +12,8 @@ use lib.Seq.{getD-take, getD-drop, drop-at}
 use Rattle.theory.specs.Tests.{Res, ok, bad}
 use Rattle.theory.specs.Layout.{Row, noRow, row}
 use Rattle.note.specs.Files.{File, readFile}
-use Rattle.note.specs.Rows.{rowsOf, flat, piece, visitAnswer, visitBuffer}
+use Rattle.note.specs.Rows.{rowsOf, flat}
+use Rattle.note.specs.Visitor.{rowsVisited, visitAnswer, visitBuffer}
 use Rattle.note.specs.declared.TableAnswer.{TableAnswer}
 use Rattle.note.proofs.FlatLaws.{length-flat}
 use Rattle.promises.specs.Buffers.{rowAt, visitCount}
@@ -30,7 +31,7 @@ visit-refused bs k c p capacity old e = (rw e, rw e)
 module _ (bs : List ℕ) (k : ℕ) (old : List ℕ) (f : File) (e : readFile bs ≡ ok f) where
   -- The rows that are laid, and what stands behind their numbers.
   abbrev laid : List Row
-  laid = piece k (length old) (rowsOf f)
+  laid = rowsVisited k (length old) (rowsOf f)
 
   abbrev behind : List ℕ
   behind = drop (6 * length laid) old

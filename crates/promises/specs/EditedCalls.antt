@@ -1,18 +1,19 @@
--- Document 01, 'Rows and calls', under the third demand (demands/specs/Edited): what the calls give after one byte is changed inside a
--- trace's samples.
+-- What the calls give after one byte is changed inside a trace's samples, in terms of a caller's buffer and answers alone. demands/specs/Edited says
+-- the same of the file that was read.
 use Prim.Native.Nat.{ℕ, _+_, _≤_, _<_}
 use mathlib.Core.Path.{_≡_}
 use mathlib.Core.Logic.{_≢_}
 use mathlib.Core.List.{List}
 use lib.ListN.{length, getD, set}
 use Rattle.note.specs.Files.{orderOf}
-use Rattle.note.specs.Rows.{tableAnswer, tableBuffer, yieldAt, visitAnswer, visitBuffer}
+use Rattle.note.specs.Rows.{tableAnswer, tableBuffer, yieldAt}
+use Rattle.note.specs.Visitor.{visitAnswer, visitBuffer}
 use Rattle.note.specs.Calls.{recordAt, settingAt, samplesPart, samplesAt, sampleAt, findAt}
 use Rattle.demands.specs.Edited.{holder, SampleEdited, SameLists}
 use Rattle.promises.specs.Buffers.{tableCount, tableRow}
 
--- Table has answered 0 for the bytes bs and the buffer old, and row j of the buffer is a trace; byte i is inside its samples, which
--- begin 56 bytes from its first byte, and x is a byte.
+-- FORMAT 5.2, 8.2: Table has answered 0 for the bytes bs and the buffer old, and row j of the buffer is a trace; byte i is inside its samples,
+-- which begin 56 bytes from its first byte, and x is a byte.
 pub record SampleByte (bs old : List ℕ) (j i x : ℕ) : Type 0 where
   pub answered : tableAnswer bs (length old) .number ≡ 0
   pub counted : j < tableCount bs old

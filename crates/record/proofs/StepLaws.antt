@@ -19,6 +19,8 @@ use Rattle.note.specs.Records.{Record, Context, isKind, isAllowed, recordRule, 
 use Rattle.record.specs.declared.Step.{Step}
 use Rattle.record.specs.declared.Step.the-variants.{Good, Bad}
 use Rattle.record.specs.Steps.{stepOf}
+use Rattle.note.specs.Faults.{tooShort}
+use Rattle.note.proofs.FaultLaws.{short-some}
 
 -- The body of a structure whose length word is n, as code cuts it out of its part.
 abbrev pub cutBody : ℕ → List ℕ → List ℕ
@@ -67,7 +69,7 @@ module _ {o : Order} {s : Context} {bs : List ℕ} {k n : ℕ} (a : Sized o s bs
   -- What is read then hangs on the record's place and its body alone.
   sized-reads : readRecord o s at bs
       ≡ need (unless (isAllowed s k) 9) at (bind {B = Record} (need (recordRule o k (take n (drop 8 bs))) at (ok (take n (drop 8 bs)))) (λ b.
-      ok (record { kind = k; body = b })))
+      ok (record { word = k; body = b })))
   unfolding readRecord
   sized-reads = rw (← a .named .kind-is, ← a .length-is, le-leb 8 (length bs) (a .named .room), a .named .known, le-leb (8 + n) (length bs) whole)
 
@@ -91,7 +93,7 @@ module _ {o : Order} {s : Context} {bs : List ℕ} {k n : ℕ} (a : Sized o s bs
 
 -- A good step: what was read, and what it shows.
 pub record Read (o : Order) (s : Context) (at : ℕ) (bs : List ℕ) (k n : ℕ) : Type 0 where
-  pub reads : readRecord o s at bs ≡ ok (record { kind = k; body = take n (drop 8 bs) })
+  pub reads : readRecord o s at bs ≡ ok (record { word = k; body = take n (drop 8 bs) })
   pub fits : 8 + n ≤ length bs
   pub size : length (take n (drop 8 bs)) ≡ n
   pub kind-is : k ≡ word o 0 bs
@@ -102,7 +104,7 @@ abbrev isGood : Step → Type 0
 isGood (Good k n) = Unit {0}
 isGood (Bad c p) = ⊥
 
-step-good : (r : Res Record) (k n : ℕ) → Good k n ≡ stepOf r → (a : Record) × (r ≡ ok a) × (a .kind ≡ k) × (length (a .body) ≡ n)
+step-good : (r : Res Record) (k n : ℕ) → Good k n ≡ stepOf r → (a : Record) × (r ≡ ok a) × (a .word ≡ k) × (length (a .body) ≡ n)
 unfolding stepOf
 step-good (ok a) k n e = (a, refl, cc, cc)
 step-good (bad c p) k n e = absurd (subst isGood e tt)
@@ -114,24 +116,24 @@ step-bad (bad c′ p′) c p e = cc
 
 -- A record that was read is the bytes at the front: its kind word, its length word, its body.
 pub read-shows : (o : Order) (s : Context) (at : ℕ) (bs : List ℕ) (a : Record) → readRecord o s at bs ≡ ok a
-    → Read o s at bs (word o 0 bs) (word o 4 bs) × (a ≡ record { kind = word o 0 bs; body = take (word o 4 bs) (drop 8 bs) })
+    → Read o s at bs (word o 0 bs) (word o 4 bs) × (a ≡ record { word = word o 0 bs; body = take (word o 4 bs) (drop 8 bs) })
 unfolding readRecord
 read-shows o s at bs a ea =
-    let shown = opens o recordHead recordLate (λ s at b. need (recordRule o (s .1) b) at (ok b)) s at bs a ea in
+    let shown = opens o tooShort short-some recordHead recordLate (λ s at b. need (recordRule o (s .1) b) at (ok b)) s at bs a ea in
     let m : ℕ = word o 4 bs in
     let b : List ℕ = take m (drop 8 bs) in
     let fits : 8 + m ≤ length bs = shown .fits in
     let (z, eb) = need-ok (recordRule o (word o 0 bs) b) at (ok b) (shown .body-is) in
     let same : b ≡ a .body = ok-inj eb in
     let size : length b ≡ m = length-take-le m (drop 8 bs) (omega (arith, length-drop 8 bs)) in
-    let along : _≡_ {A = Record} a (record { kind = word o 0 bs; body = b }) = λ i. record { kind = shown .kind-is i; body = sym same i } in
+    let along : _≡_ {A = Record} a (record { word = word o 0 bs; body = b }) = λ i. record { word = shown .kind-is i; body = sym same i } in
     (record { reads = ea ∙ ap ok along; fits = fits; size = size; kind-is = refl; length-is = refl; follows = z }, along)
 
 pub read-good : (o : Order) (s : Context) (at : ℕ) (bs : List ℕ) (k n : ℕ) → Good k n ≡ stepOf (readRecord o s at bs) → Read o s at bs k n
 read-good o s at bs k n e =
     let (a, ea, e1, e2) = step-good (readRecord o s at bs) k n e in
     let (r, is) = read-shows o s at bs a ea in
-    let k-is : word o 0 bs ≡ k = sym (ap (λ (x : Record). x .kind) is) ∙ e1 in
+    let k-is : word o 0 bs ≡ k = sym (ap (λ (x : Record). x .word) is) ∙ e1 in
     let n-is : word o 4 bs ≡ n = sym (r .size) ∙ sym (ap (λ (x : Record). length (x .body)) is) ∙ e2 in
     subst (λ (x : ℕ). Read o s at bs x n) k-is (subst (λ (y : ℕ). Read o s at bs (word o 0 bs) y) n-is r)
 

@@ -15,7 +15,7 @@ use Rattle.theory.proofs.TestLaws.{first-at, equal-passed}
 use Rattle.note.specs.Records.{Record, Context, recordsBytes, readRecords}
 use Rattle.note.specs.Events.{containerBytes, classOf, categoryOf, eventTypeOf, eventMark, eventWord, eventFault, eventWordRule}
 use Rattle.note.specs.Files.{configurationWord}
-use Rattle.note.specs.Writers.{written, closingBytes}
+use Rattle.note.specs.Writers.{outputAfter, closingBytes}
 use Rattle.demands.specs.Outputs.{Laid, HasRoom}
 use Rattle.demands.proofs.Bundles.{records, same-records}
 use Rattle.demands.proofs.OutputLaws.{put-laid, both-laid}
@@ -31,18 +31,18 @@ module _ (o : Order) (old mid : List ℕ) (place end w : ℕ) (room : HasRoom (l
 
   -- The two words.
   pub head-laid : Laid old mid place (place + 8) head
-  unfolding written
+  unfolding outputAfter
   head-laid =
       let fits : place + length head ≤ length old = omega (arith, head-size, room) in
-      let stored : mid ≡ written (ok end) old place head =
+      let stored : mid ≡ outputAfter (ok end) old place head =
       e ∙ sets-eq head old place fits ∙ append-assoc (take place old) head (drop (place + length head) old) in
       subst (λ (x : List ℕ). Laid old x place (place + 8) head) (sym stored)
-      (subst (λ (n : ℕ). Laid old (written (ok end) old place head) place n head) (ap (λ (n : ℕ). place + n) head-size)
+      (subst (λ (n : ℕ). Laid old (outputAfter (ok end) old place head) place n head) (ap (λ (n : ℕ). place + n) head-size)
       (put-laid old head place end fits))
 
   -- The contents behind them.
   pub container-copied : (c : Context) (inner new : List ℕ) (rs : List Record) → Bytes inner → readRecords o c (place + 8) inner ≡ ok rs
-      → Laid mid new (place + 8) end inner → Laid old new place end (containerBytes o (record { kind = w; body = rs }))
+      → Laid mid new (place + 8) end inner → Laid old new place end (containerBytes o (record { word = w; body = rs }))
   unfolding puts
   container-copied c inner new rs h reads l =
       let own : inner ≡ recordsBytes o rs = records o .sound c (place + 8) inner rs h (sym (same-records o c (place + 8) inner) ∙ reads) .0 in

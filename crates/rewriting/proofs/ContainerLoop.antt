@@ -26,13 +26,15 @@ use Rattle.rewriting.specs.Ready.{containerHead, containerLate, contents
 use Rattle.rewriting.proofs.CopyLoop as loop
 use Rattle.rewriting.proofs.CopyLoop.{Copying, Found, item-fits, here, next}
 use Rattle.rewriting.proofs.ContainerCopy.{head-laid, container-copied}
+use Rattle.note.specs.Faults.{tooShort}
+use Rattle.note.proofs.FaultLaws.{short-some}
 
 -- What stands in a container.
 abbrev contents : Order → Whole (Bool × ℕ) (List Record)
 contents o = inside (λ s. contentsIn (s .0)) (records o)
 
 abbrev pub containerItem : Order → Item Bool Container
-containerItem o = structure o containerHead containerLate (contents o) (λ s c. false)
+containerItem o = structure o tooShort short-some containerHead containerLate (contents o) (λ s c. false)
 
 pub same-containers : (o : Order) (first : Bool) (at : ℕ) (bs : List ℕ) → readContainers o first at bs ≡ whole (containerItem o) first at bs
 unfolding readContainers readContainer readRecords readRecord
@@ -55,8 +57,8 @@ module _ {o : Order} {old : List ℕ} {place : ℕ} {part out rest : List ℕ} {
   unfolding item
   reads = here (containerItem o) i l .reads-item
 
-  opened : Opened o containerHead containerLate (contents o .read) (i .state) at rest item
-  opened = opens o containerHead containerLate (contents o .read) (i .state) at rest item reads
+  opened : Opened o tooShort short-some containerHead containerLate (contents o .read) (i .state) at rest item
+  opened = opens o tooShort short-some containerHead containerLate (contents o .read) (i .state) at rest item reads
 
   pub container-fits : (m : ℕ) → m ≡ word o 4 rest → (8 + m ≤ length rest) × (at + (8 + m) ≤ fileLimit)
   container-fits = item-fits (containerItem o) i o (opened .fits)
@@ -89,8 +91,8 @@ module _ {o : Order} {old : List ℕ} {place : ℕ} {part out rest : List ℕ} {
       ∙ ap (readRecords o context (at + 8)) (cut (word o 4 rest) rest)
       ∙ same-records o context (at + 8) (take (word o 4 rest) (drop 8 rest)) ∙ opened i (f .more) .body-is
 
-  same : record { kind = w; body = own .body } ≡ own
-  same = λ j. record { kind = (f .kind-is ∙ sym (opened i (f .more) .kind-is)) j; body = own .body }
+  same : record { word = w; body = own .body } ≡ own
+  same = λ j. record { word = (f .kind-is ∙ sym (opened i (f .more) .kind-is)) j; body = own .body }
 
   -- Its two words have room, and its first word may begin a container.
   pub begin-ready : HasRoom (length out) at (at + (8 + m)) × Begins w
@@ -120,7 +122,8 @@ module _ {o : Order} {old : List ℕ} {place : ℕ} {part out rest : List ℕ} {
         → Copying (containerItem o) old place part new (behindOf (8 + m) rest) (at + (8 + m))
     unfolding item
     container-next new stands =
-        let written = length-is o containerHead containerLate (contents o) (i .state) at rest own (i .bytes) (reads i (f .more)) in
+        let written =
+        length-is o tooShort short-some containerHead containerLate (contents o) (i .state) at rest own (i .bytes) (reads i (f .more)) in
         let size : containerSize o own ≡ 8 + m = ap (λ (n : ℕ). 8 + n) (written ∙ sym (f .length-is)) in
         let end : at + 8 + length inner ≡ at + (8 + m) = omega (arith, inner-size) in
         next (containerItem o) i (f .more) (8 + m) size new

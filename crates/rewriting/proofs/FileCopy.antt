@@ -18,7 +18,7 @@ use Rattle.note.specs.Words.{word}
 use Rattle.note.specs.Records.{entry, recordsBytes}
 use Rattle.note.specs.Events.{Container, containerBytes, eventsBytes}
 use Rattle.note.specs.Files.{File, versionOf, configurationOf, eventsOf, format, versionWord, headerBytes, configurationWord, fileBytes}
-use Rattle.note.specs.Writers.{wrote, headerWrote, headerOutput}
+use Rattle.note.specs.Writers.{writerNext, headerNext, headerOutput}
 use Rattle.demands.specs.Valid.{Valid}
 use Rattle.demands.specs.Outputs.{Laid}
 use Rattle.demands.proofs.Bundles.{records-ok, events-ok}
@@ -49,8 +49,8 @@ module _ (o : Order) (bs old : List ℕ) (h : Bytes bs) (r : FileReady o bs (len
   -- The header, from the DAQ bytes of the version word.
   module _ (version major minor : ℕ) (ev : version ≡ word o 4 bs) (ea : major ≡ version / 16777216 % 256)
       (ei : minor ≡ version / 65536 % 256) where
-    header-granted : headerWrote old ≡ ok 8
-    unfolding headerWrote wrote
+    header-granted : headerNext old ≡ ok 8
+    unfolding headerNext writerNext
     header-granted = rw (le-leb (length old) fileLimit (r .limit), le-leb 8 (length old) (omega (arith, words-fit, r .room)))
 
     pub header-copied : (new : List ℕ) → new ≡ headerOutput o old major minor → Laid old new 0 8 (headerBytes o (versionOf tree))
@@ -74,7 +74,7 @@ module _ (o : Order) (bs old : List ℕ) (h : Bytes bs) (r : FileReady o bs (len
   containers-ok : Oks (containerItem o) true (conf ∷ eventsOf tree)
   containers-ok =
       let v = sound .1 in
-      let word-is : conf .kind ≡ configurationWord = v .configuration-word in (
+      let word-is : conf .word ≡ configurationWord = v .configuration-word in (
         record {
           head-ok = rw word-is;
           late-ok = refl;

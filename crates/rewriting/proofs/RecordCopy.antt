@@ -31,7 +31,7 @@ module _ {o : Order} {old : List ℕ} {place : ℕ} {part out rest : List ℕ} {
   abbrev body : List ℕ
   body = take (word o 4 rest) (drop 8 rest)
 
-  shown : Read o (i .state) at rest kind (word o 4 rest) × (here (recordItem o) i l .item ≡ record { kind = kind; body = body })
+  shown : Read o (i .state) at rest kind (word o 4 rest) × (here (recordItem o) i l .item ≡ record { word = kind; body = body })
   shown = read-shows o (i .state) at rest (here (recordItem o) i l .item) (same-record o (i .state) at rest ∙ here (recordItem o) i l .reads-item)
 
   pub record-fits : (m : ℕ) → m ≡ word o 4 rest → (8 + m ≤ length rest) × (at + (8 + m) ≤ fileLimit)
@@ -68,9 +68,9 @@ module _ {o : Order} {old : List ℕ} {place : ℕ} {part out rest : List ℕ} {
       → Copying (recordItem o) old place part new (behindOf (8 + m) rest) (at + (8 + m))
   copied-next new h =
       let item : Record = here (recordItem o) i (f .more) .item in
-      let own : Record = record { kind = kindOf k .word; body = cutBody m rest } in
+      let own : Record = record { word = kindOf k .word; body = cutBody m rest } in
       let is : own ≡ item =
-      (λ j. record { kind = (named o k (cutBody m rest) cut-follows ∙ f .kind-is) j; body = cut-is j }) ∙ sym (shown i (f .more) .1) in
+      (λ j. record { word = (named o k (cutBody m rest) cut-follows ∙ f .kind-is) j; body = cut-is j }) ∙ sym (shown i (f .more) .1) in
       let size : recordSize item ≡ 8 + m = ap recordSize (sym is) ∙ ap (λ (n : ℕ). 8 + n) cut-size in
       let end : at + (8 + length (cutBody m rest)) ≡ at + (8 + m) = ap (λ (n : ℕ). at + (8 + n)) cut-size in
       next (recordItem o) i (f .more) (8 + m) size new

@@ -11,7 +11,7 @@ use Rattle.theory.specs.Tests.{bad}
 use Rattle.note.specs.Limits.{fileLimit}
 use Rattle.note.specs.Answers.{Given, accepted, refused, counts}
 use Rattle.note.specs.Files.{orderOf, readFile}
-use Rattle.note.specs.Writers.{writerGiven, fileRewritten, rewritten, rewriteWrote, rewriteOutput}
+use Rattle.note.specs.Writers.{writerGiven, fileRewritten, rewritten, rewriteNext, rewriteOutput}
 use Rattle.demands.proofs.Follows.{file-sound}
 use Rattle.demands.proofs.OutputLaws.{laid-is, refusal-keeps}
 use Rattle.demands.proofs.RewriteLaws.{fields-restore, rewrite-restores}
@@ -24,18 +24,18 @@ use Rattle.rewriting.specs.Ready.{FileReady, Stands}
 module _ (bs old : List ℕ) where
   -- The answer and the output afterwards.
   abbrev Rewrites : Given → List ℕ → Type 0
-  Rewrites given new = (given ≡ writerGiven (rewriteWrote bs old)) × (new ≡ rewriteOutput bs old)
+  Rewrites given new = (given ≡ writerGiven (rewriteNext bs old)) × (new ≡ rewriteOutput bs old)
 
-  refuses : (c p : ℕ) → rewriteWrote bs old ≡ bad c p → Rewrites (refused c p) old
+  refuses : (c p : ℕ) → rewriteNext bs old ≡ bad c p → Rewrites (refused c p) old
   unfolding writerGiven rewriteOutput
-  refuses c p e = (rw e, sym (refusal-keeps (rewriteWrote bs old) old (rewritten (readFile bs)) 0 c p e))
+  refuses c p e = (rw e, sym (refusal-keeps (rewriteNext bs old) old (rewritten (readFile bs)) 0 c p e))
 
   pub over : fileLimit < length old → Rewrites (refused 1 0) old
-  unfolding rewriteWrote
+  unfolding rewriteNext
   over h = refuses 1 0 (rw (lt-leb (length old) fileLimit h))
 
   pub file-refuses : length old ≤ fileLimit → (c p : ℕ) → Bad c p ≡ fileRows (readFile bs) → Rewrites (refused c p) old
-  unfolding rewriteWrote
+  unfolding rewriteNext
   file-refuses limit c p e = refuses c p (rw (le-leb (length old) fileLimit limit, count-bad rowsOfFile e))
 
 -- An accepted file is ready to be written into n bytes, within the limit, that have room for it.
@@ -48,7 +48,7 @@ module _ {bs : List ℕ} (k : Checked bs) (old : List ℕ) (limit : length old �
   restored = let (is, valid) = file-sound bs (k .file) (k .bytes) (k .reads) in fields-restore (k .file) valid ∙ sym is
 
   pub no-room : length old < length bs → Rewrites bs old (refused 13 0) old
-  unfolding rewriteWrote
+  unfolding rewriteNext
   no-room l = refuses bs old 13 0 (rw (le-leb (length old) fileLimit limit, k .reads, restored, lt-leb (length bs) (length old) l))
 
   pub rewrites : length bs ≤ length old → (new : List ℕ) → Stands bs old 0 new → Rewrites bs old (accepted (counts (length bs ∷ []))) new

@@ -6,13 +6,17 @@ use closings::begin_event;
 use closings::write_header;
 use containers::CONFIGURATION;
 use containers::Count;
+use containers::HEADER;
 use containers::check;
 use copies::copy_record;
 use fields::category_of;
 use fields::class_of;
 use fields::event_type_of;
+use note::NO_ROOM;
+use note::TOO_LARGE;
 use note::WriterAnswer;
 use record::FILE_LIMIT;
+use record::FRONT;
 use words::is_big;
 use words::word_at;
 ghost use mathlib.Core.Path.{_≡_};
@@ -20,7 +24,7 @@ ghost use lib.ListN.{length};
 ghost use lib.Seq.{sets};
 ghost use Rattle.theory.specs.Words.{orderFrom};
 ghost use Rattle.note.specs.Answers.{givenWriter};
-ghost use Rattle.note.specs.Writers.{writerGiven, closingBytes, rewriteWrote, rewriteOutput};
+ghost use Rattle.note.specs.Writers.{writerGiven, closingBytes, rewriteNext, rewriteOutput};
 ghost use Rattle.demands.specs.Outputs.{HasRoom};
 ghost use Rattle.rewriting.specs.Ready.{Begins, RecordsReady, ContainersReady, FileReady, Stands};
 
@@ -32,8 +36,8 @@ fn copy_records(part: &[u8], out: &mut [u8], place: usize, big: bool)
     let mut rest = part;
     let mut at = place;
     while 0 < rest.len() {
-        let size = 8 + word_at(rest, 4, big) as usize;
-        copy_record(word_at(rest, 0, big), &rest[8..size], out, at, big);
+        let size = FRONT + word_at(rest, 4, big) as usize;
+        copy_record(word_at(rest, 0, big), &rest[FRONT..size], out, at, big);
         rest = &rest[size..];
         at = at + size;
     }
@@ -51,8 +55,8 @@ fn begin_container(out: &mut [u8], place: usize, end: usize, word: u32, big: boo
     }
     let class = class_of(word);
     let category = category_of(word);
-    let kind = event_type_of(word);
-    begin_event(out, place, end, class, category, kind, big);
+    let event_type = event_type_of(word);
+    begin_event(out, place, end, class, category, event_type, big);
 }
 
 // Writes again the containers that fill a part, the configuration and the events: each one's two words, then its contents. So the output is stored
@@ -65,10 +69,10 @@ fn copy_containers(part: &[u8], out: &mut [u8], place: usize, big: bool)
     let mut at = place;
     while 0 < rest.len() {
         let word = word_at(rest, 0, big);
-        let size = 8 + word_at(rest, 4, big) as usize;
+        let size = FRONT + word_at(rest, 4, big) as usize;
         let end = at + size;
         begin_container(out, at, end, word, big);
-        copy_records(&rest[8..size], out, at + 8, big);
+        copy_records(&rest[FRONT..size], out, at + FRONT, big);
         rest = &rest[size..];
         at = end;
     }
@@ -83,18 +87,18 @@ fn copy_file(file: &[u8], out: &mut [u8], big: bool)
     let major = ((version >> 24) & 255) as u8;
     let minor = ((version >> 16) & 255) as u8;
     write_header(out, major, minor, big);
-    copy_containers(&file[8..], out, 8, big);
+    copy_containers(&file[HEADER..], out, HEADER, big);
 }
 
-/// Rewrite: reads an accepted file's fields and writes them from byte 0 on; answers the next place. 1 for either buffer, the file's refusal,
-/// then 13 where the output has too little room; a refusal changes no byte.
+/// Rewrite: an accepted file's fields, read and written again from byte 0 on; answers the next place. Either buffer over the limit is 1, then comes
+/// the file's refusal, then 13 where the output has too little room; a refusal changes no byte (FORMAT 9.5).
 pub fn rewrite(file: &[u8], out: &mut [u8]) -> WriterAnswer
-    ensures answer { λ r. ⌜ givenWriter r ≡ writerGiven (rewriteWrote (now (file .entry)) (now (out .entry))) ⌝ }
+    ensures answer { λ r. ⌜ givenWriter r ≡ writerGiven (rewriteNext (now (file .entry)) (now (out .entry))) ⌝ }
     ensures output { λ _. ⌜ now (out .exit) ≡ rewriteOutput (now (file .entry)) (now (out .entry)) ⌝ }
 {
     if out.len() > FILE_LIMIT {
         return WriterAnswer::Refused {
-            number: 1,
+            number: TOO_LARGE,
             place: 0,
         };
     }
@@ -103,7 +107,7 @@ pub fn rewrite(file: &[u8], out: &mut [u8]) -> WriterAnswer
         Count::Good { count: _ } => {
             if out.len() < file.len() {
                 return WriterAnswer::Refused {
-                    number: 13,
+                    number: NO_ROOM,
                     place: 0,
                 };
             }

@@ -9,17 +9,20 @@ use lib.Dec.{leb, eqb}
 use lib.ListN.{length}
 use borrow.Author.Tests.{le-leb, leb-true, eq-eqb, ne-eqb, eqb-true}
 use Rattle.theory.specs.declared.Order.{Order}
-use Rattle.note.specs.Words.{word}
-use Rattle.note.specs.Phonon.{phononKind}
-use Rattle.note.specs.Charge.{chargeKind}
-use Rattle.note.specs.Administrative.{administrativeKind}
-use Rattle.note.specs.Trace.{traceKind}
-use Rattle.note.specs.History.{historyRule, triggerAt}
+use Rattle.theory.specs.Words.{Bytes}
+use Rattle.theory.proofs.WordLaws.{word-fits}
+use Rattle.note.specs.Words.{word, signed, unsigned}
+use Rattle.note.specs.Phonon.{phononKind, phononOf}
+use Rattle.note.specs.Charge.{chargeKind, chargeOf}
+use Rattle.note.specs.Administrative.{administrativeKind, administrativeOf}
+use Rattle.note.specs.Trace.{traceKind, traceOf}
+use Rattle.note.specs.History.{historyRule, triggerAt, sectionOf, historyOf}
 use Rattle.note.specs.Gps.{gpsKind}
-use Rattle.note.specs.Trigger.{triggerKind}
-use Rattle.note.specs.Tlb.{tlbKind}
+use Rattle.note.specs.Trigger.{triggerKind, triggerOf}
+use Rattle.note.specs.Tlb.{tlbKind, tlbOf}
 use Rattle.note.specs.Records.{kindOf, recordRule}
 use Rattle.note.proofs.KindCases.{kind-cases}
+use Rattle.note.proofs.SignedLaws.{signed-again}
 use Rattle.rules.proofs.LengthLaws.{long-enough}
 use Rattle.rows.specs.declared.Standing.{Standing}
 use Rattle.rows.specs.declared.Values.{Values}
@@ -69,7 +72,7 @@ module _ (o : Order) (k : ℕ) (b : List ℕ) {at : Standing} (is : at ≡ stand
 
     pub history-values : at .kind ≡ 8 → {x m y : ℕ} → x ≡ word o 0 b → m ≡ triggerAt o b → y ≡ word o m b
         → _≡_ {A = Values} (record { kind = at .kind; one = x; two = y }) (valuesOf o k b)
-    unfolding valuesOf standingOf
+    unfolding valuesOf standingOf historyOf sectionOf
     history-values e ex em ey =
         let (p, q) = kind-cases (λ w z. z .row ≡ 8 → (z .one o b ≡ word o 0 b) × (z .two o b ≡ word o (triggerAt o b) b)) k
         (λ e. absurd (omega arith)) (λ e. absurd (omega arith)) (λ e. absurd (omega arith)) (λ e. absurd (omega arith))
@@ -87,15 +90,21 @@ module _ (o : Order) (k : ℕ) (b : List ℕ) {at : Standing} (is : at ≡ stand
           let two : at .two + 4 ≤ length b = leb-true (at .two + 4) (length b) (sym (others-have n some) ∙ h) in
           (omega (arith, two, ordered k is .0), two)
 
-      pub others-values : {x y : ℕ} → x ≡ word o (at .one) b → y ≡ word o (at .two) b
+      -- An entry's words are signed, and its row has their bits.
+      same-bits : Bytes b → (p : ℕ) → p + 4 ≤ length b → unsigned (signed (word o p b)) ≡ word o p b
+      same-bits bytes p l = signed-again (word o p b) (word-fits o 4 p b bytes l)
+
+      pub others-values : Bytes b → {x y : ℕ} → x ≡ word o (at .one) b → y ≡ word o (at .two) b
           → _≡_ {A = Values} (record { kind = at .kind; one = x; two = y }) (valuesOf o k b)
-      unfolding valuesOf standingOf
-      others-values ex ey =
+      unfolding valuesOf standingOf phononOf chargeOf administrativeOf traceOf triggerOf tlbOf
+      others-values bytes ex ey =
           let (p, q) = kind-cases
-          (λ w z. (z .row ≡ 8 → ⊥) → (z .row ≡ 0 → ⊥)
+          (λ w z. (z .row ≡ 8 → ⊥) → (z .row ≡ 0 → ⊥) → twoAt (z .row) + 4 ≤ length b
           → (z .one o b ≡ word o (oneAt (z .row)) b) × (z .two o b ≡ word o (twoAt (z .row)) b)) k
-          (λ p q. (refl, refl)) (λ p q. (refl, refl)) (λ p q. (refl, refl)) (λ p q. (refl, refl))
-          (λ p q. absurd (p refl))
-          (λ p q. (refl, refl)) (λ p q. (refl, refl)) (λ p q. (refl, refl)) (λ p q. absurd (q refl))
-          (rw is at n) (rw is at some) in
+          (λ p q l. (same-bits bytes 0 (omega arith), same-bits bytes 4 (omega arith)))
+          (λ p q l. (same-bits bytes 0 (omega arith), same-bits bytes 4 (omega arith)))
+          (λ p q l. (refl, refl)) (λ p q l. (refl, refl))
+          (λ p q l. absurd (p refl))
+          (λ p q l. (refl, refl)) (λ p q l. (refl, refl)) (λ p q l. (refl, refl)) (λ p q l. absurd (q refl))
+          (rw is at n) (rw is at some) (rw is at (others-room .1)) in
           rw (ex, ey, is, p, q)

@@ -1,4 +1,4 @@
--- Rows in a lent buffer.
+-- Rows in a lent buffer: what storing some of them leaves of it.
 use Prim.Native.Nat.{ℕ, _*_}
 use mathlib.Core.List.{List}
 use lib.Seq.{sets}
@@ -11,6 +11,6 @@ use Rattle.rows.specs.declared.Row.{Row}
 unfoldable pub rowOf : Row → Layout.Row
 rowOf r = record { kind = r .kind; start = r .start; whole = r .whole; parent = r .parent; one = r .one; two = r .two }
 
--- A buffer with rows stored from the index n on.
+-- FORMAT 7.1: a buffer with rows stored from the index n on.
 unfoldable pub stored : List ℕ → ℕ → List Layout.Row → List ℕ
 stored old n rs = sets old (n * rowWidth) (flat rs)

@@ -1,4 +1,5 @@
--- A record's row kind and values, and where they stand in its body.
+-- A record's row kind and values, and where they stand in its body: the code finds two places for a kind and reads the words there, so that one
+-- function serves seven kinds; a history's second value stands where its counts put it.
 use Prim.Native.Nat.{ℕ, _+_}
 use mathlib.Core.Bool.{Bool, cond, not, _&&_}
 use mathlib.Core.List.{List}
@@ -10,11 +11,11 @@ use Rattle.note.specs.Records.{kindOf}
 use Rattle.rows.specs.declared.Values.{Values}
 use Rattle.rows.specs.declared.Standing.{Standing}
 
--- Row kind and values, from the kind word and the body.
+-- FORMAT 7.2: row kind and values, from the kind word and the body.
 unfoldable pub valuesOf : Order → ℕ → List ℕ → Values
 valuesOf o k b = record { kind = kindOf k .row; one = kindOf k .one o b; two = kindOf k .two o b }
 
--- Where the values stand in the body of a row kind, a history's second apart: that these are the note's words is proved
+-- FORMAT 7.2: where the values stand in the body of a row kind, a history's second apart: that these are the note's words is proved
 -- (proofs/ValueLaws.antt).
 abbrev pub oneAt : ℕ → ℕ
 oneAt row = cond (eqb row 6) 8 (cond (eqb row 7) 16 (cond (eqb row 10) 4 0))

@@ -1,8 +1,18 @@
 // Rows: a record's row kind and values out of its body, and a row's place in a lent buffer.
+use note::ADMINISTRATIVE_ROW;
+use note::CHARGE_ROW;
+use note::GPS_ROW;
+use note::HISTORY_ROW;
+use note::PHONON_ROW;
+use note::TLB_ROW;
+use note::TRACE_ROW;
+use note::TRIGGER_ROW;
 use rules::ADMINISTRATIVE;
 use rules::CHARGE;
+use rules::CODE_AT;
 use rules::GPS;
 use rules::HISTORY;
+use rules::N_AT;
 use rules::PHONON;
 use rules::TLB;
 use rules::TRACE;
@@ -23,6 +33,9 @@ ghost use Rattle.rows.specs.Values.{standingOf, hasValues, valuesOf};
 
 /// How many numbers a row has.
 pub const ROW_WIDTH: usize = 6;
+
+/// The header's length, and where the configuration begins, as rows say them.
+pub const HEADER_BYTES: u32 = 8;
 
 /// A row.
 pub struct Row {
@@ -49,47 +62,47 @@ pub struct Standing {
 }
 
 // Where the values of a kind's row stand.
-fn value_places(kind: u32) -> Standing
-    ensures { λ r. ⌜ r ≡ standingOf kind ⌝ }
+fn value_places(word: u32) -> Standing
+    ensures { λ r. ⌜ r ≡ standingOf word ⌝ }
 {
-    match kind {
+    match word {
         PHONON => Standing {
-            kind: 3,
+            kind: PHONON_ROW,
             one: 0,
             two: 4,
         },
         CHARGE => Standing {
-            kind: 4,
+            kind: CHARGE_ROW,
             one: 0,
             two: 4,
         },
         ADMINISTRATIVE => Standing {
-            kind: 6,
+            kind: ADMINISTRATIVE_ROW,
             one: 8,
             two: 12,
         },
         TRACE => Standing {
-            kind: 7,
-            one: 16,
-            two: 44,
+            kind: TRACE_ROW,
+            one: CODE_AT,
+            two: N_AT,
         },
         HISTORY => Standing {
-            kind: 8,
+            kind: HISTORY_ROW,
             one: 0,
             two: 4,
         },
         GPS => Standing {
-            kind: 9,
+            kind: GPS_ROW,
             one: 0,
             two: 4,
         },
         TRIGGER => Standing {
-            kind: 10,
+            kind: TRIGGER_ROW,
             one: 4,
             two: 8,
         },
         TLB => Standing {
-            kind: 11,
+            kind: TLB_ROW,
             one: 0,
             two: 4,
         },
@@ -102,12 +115,12 @@ fn value_places(kind: u32) -> Standing
 }
 
 /// Whether a kind's row has values, and a body holds the words that they are.
-pub fn has_values(kind: u32, b: &[u8], big: bool) -> bool
+pub fn has_values(word: u32, b: &[u8], big: bool) -> bool
     requires { ⌜ length (now b) < 0x100000000 ⌝ }
-    ensures { λ r. ⌜ r ≡ hasValues (orderFrom big) kind (now (b .entry)) ⌝ }
+    ensures { λ r. ⌜ r ≡ hasValues (orderFrom big) word (now (b .entry)) ⌝ }
 {
-    let s = value_places(kind);
-    if s.kind == 8 {
+    let s = value_places(word);
+    if s.kind == HISTORY_ROW {
         return history_rule(b, big) == 0;
     }
     if s.kind == 0 {
@@ -117,12 +130,12 @@ pub fn has_values(kind: u32, b: &[u8], big: bool) -> bool
 }
 
 /// A row's values, from a body that holds them.
-pub fn values_in(kind: u32, b: &[u8], big: bool) -> Values
-    requires { ⌜ (hasValues (orderFrom big) kind (now b) ≡ true) × (length (now b) < 0x100000000) ⌝ }
-    ensures { λ r. ⌜ r ≡ valuesOf (orderFrom big) kind (now (b .entry)) ⌝ }
+pub fn values_in(word: u32, b: &[u8], big: bool) -> Values
+    requires { ⌜ (hasValues (orderFrom big) word (now b) ≡ true) × (length (now b) < 0x100000000) ⌝ }
+    ensures { λ r. ⌜ r ≡ valuesOf (orderFrom big) word (now (b .entry)) ⌝ }
 {
-    let s = value_places(kind);
-    if s.kind == 8 {
+    let s = value_places(word);
+    if s.kind == HISTORY_ROW {
         let middle = section_end(0, b, big);
         return Values {
             kind: s.kind,

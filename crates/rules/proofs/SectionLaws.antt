@@ -10,7 +10,7 @@ use lib.ListN.{length}
 use Rattle.theory.specs.declared.Order.{Order}
 use Rattle.theory.proofs.TestLaws.{first-at, most-passed}
 use Rattle.note.specs.Words.{word}
-use Rattle.note.specs.History.{widthAt, widthOf, after, sectionTests, sectionRule}
+use Rattle.note.specs.History.{widthAt, widthOf, endAt, sectionTests, sectionRule}
 
 pub product : (n w : ℕ) → n ≤ 0x40000000 → w ≤ 0x7FFFFFFF → n * w ≤ 0x40000000 * 0x7FFFFFFF
 product n w h k = mul-le-mul h k
@@ -24,8 +24,8 @@ module _ (o : Order) (t : Bool) (p : ℕ) (b : List ℕ) (e : sectionRule o t p 
   unfolding sectionRule
   thin = most-passed (widthOf o p b) 0x7FFFFFFF 9 (first-at (sectionTests o t p b) e 3)
 
-  pub small : length b < 0x100000000 → after o p b ≤ 0x7FFFFFFFFFFFFFFF
-  unfolding after widthAt
+  pub small : length b < 0x100000000 → endAt o p b ≤ 0x7FFFFFFFFFFFFFFF
+  unfolding endAt widthAt
   small l =
       let r : p + 4 + 4 * word o p b + 4 ≤ length b = room in
       let q : word o p b * widthOf o p b ≤ 0x40000000 * 0x7FFFFFFF = product (word o p b) (widthOf o p b) (omega arith) thin in

@@ -1,7 +1,8 @@
-// The rules of the eight kinds: 0, or the number of the first test that fails, in document 01's order. Each takes a body's bytes.
+// The rules of the eight kinds: 0, or the number of the first test that fails, in the order of FORMAT 4, 5. Each takes a body's bytes.
 use channels::is_charge;
 use channels::is_named;
 use channels::is_phonon;
+use fields::GREATEST_SIGNED;
 use fields::administrative_fault;
 use fields::count_fault;
 use fields::decimal;
@@ -13,6 +14,10 @@ use fields::is_width;
 use fields::or_unless;
 use fields::tlb_fault;
 use fields::unless;
+use note::WRONG_COUNT;
+use note::WRONG_FIELD;
+use note::WRONG_KIND;
+use note::WRONG_LENGTH;
 use words::word_at;
 ghost use mathlib.Core.Path.{_≡_};
 ghost use Prim.Native.Nat.{_+_, _≤_, _<_};
@@ -22,7 +27,7 @@ ghost use Rattle.note.specs.Phonon.{phononFault, phononRule};
 ghost use Rattle.note.specs.Charge.{chargeFault, chargeRule};
 ghost use Rattle.note.specs.Administrative.{administrativeRule};
 ghost use Rattle.note.specs.Trace.{bookkeepingRule, timebaseRule, samplesRule, traceRule};
-ghost use Rattle.note.specs.History.{widthAt, widthOf, after, sectionRule, historyRule};
+ghost use Rattle.note.specs.History.{widthAt, widthOf, endAt, sectionRule, historyRule};
 ghost use Rattle.note.specs.Gps.{gpsRule};
 ghost use Rattle.note.specs.Trigger.{triggerRule};
 ghost use Rattle.note.specs.Tlb.{tlbRule};
@@ -45,26 +50,66 @@ pub const TRIGGER: u32 = 0x80;
 
 pub const TLB: u32 = 0x81;
 
+// The lengths of the bodies that have one length.
+const PHONON_LENGTH: usize = 44;
+
+const CHARGE_LENGTH: usize = 32;
+
+const ADMINISTRATIVE_LENGTH: usize = 24;
+
+const GPS_LENGTH: usize = 12;
+
+const TRIGGER_LENGTH: usize = 28;
+
+const TLB_LENGTH: usize = 24;
+
+// The kinds of a trace's three inner blocks, and the length of the first two.
+const BOOKKEEPING: u32 = 0x11;
+
+const TIMEBASE: u32 = 0x12;
+
+const SAMPLE_BLOCK: u32 = 0x13;
+
+const BLOCK_LENGTH: u32 = 12;
+
+/// Where the fields of a trace stand in its body: base address, digitizer channel, detector code, time of the first sample, time between two,
+/// the two counts of samples, the samples.
+pub const ADDRESS_AT: usize = 8;
+
+pub const CHANNEL_AT: usize = 12;
+
+pub const CODE_AT: usize = 16;
+
+pub const T0_AT: usize = 28;
+
+pub const DELTA_AT: usize = 32;
+
+const FIRST_N_AT: usize = 36;
+
+pub const N_AT: usize = 44;
+
+pub const SAMPLES_AT: usize = 48;
+
 /// The fault of a phonon entry's code.
 pub fn phonon_fault(code: u32) -> u32
     ensures { λ r. ⌜ r ≡ phononFault code ⌝ }
 {
-    unless(is_phonon(code), 10)
+    unless(is_phonon(code), WRONG_FIELD)
 }
 
 /// The fault of a charge entry's code.
 pub fn charge_fault(code: u32) -> u32
     ensures { λ r. ⌜ r ≡ chargeFault code ⌝ }
 {
-    unless(is_charge(code), 10)
+    unless(is_charge(code), WRONG_FIELD)
 }
 
 /// A phonon entry's rule.
 pub fn phonon_rule(b: &[u8], big: bool) -> u32
     ensures { λ r. ⌜ r ≡ phononRule (orderFrom big) (now (b .entry)) ⌝ }
 {
-    if b.len() != 44 {
-        return 6;
+    if b.len() != PHONON_LENGTH {
+        return WRONG_LENGTH;
     }
     phonon_fault(word_at(b, 0, big))
 }
@@ -73,8 +118,8 @@ pub fn phonon_rule(b: &[u8], big: bool) -> u32
 pub fn charge_rule(b: &[u8], big: bool) -> u32
     ensures { λ r. ⌜ r ≡ chargeRule (orderFrom big) (now (b .entry)) ⌝ }
 {
-    if b.len() != 32 {
-        return 6;
+    if b.len() != CHARGE_LENGTH {
+        return WRONG_LENGTH;
     }
     charge_fault(word_at(b, 0, big))
 }
@@ -83,8 +128,8 @@ pub fn charge_rule(b: &[u8], big: bool) -> u32
 pub fn administrative_rule(b: &[u8], big: bool) -> u32
     ensures { λ r. ⌜ r ≡ administrativeRule (orderFrom big) (now (b .entry)) ⌝ }
 {
-    if b.len() != 24 {
-        return 6;
+    if b.len() != ADMINISTRATIVE_LENGTH {
+        return WRONG_LENGTH;
     }
     administrative_fault(word_at(b, 0, big), word_at(b, 4, big))
 }
@@ -94,17 +139,17 @@ fn bookkeeping_rule(b: &[u8], big: bool) -> u32
     requires { ⌜ 48 ≤ length (now b) ⌝ }
     ensures { λ r. ⌜ r ≡ bookkeepingRule (orderFrom big) (now (b .entry)) ⌝ }
 {
-    if word_at(b, 0, big) != 0x11 {
-        return 5;
+    if word_at(b, 0, big) != BOOKKEEPING {
+        return WRONG_KIND;
     }
-    if word_at(b, 4, big) != 12 {
-        return 6;
+    if word_at(b, 4, big) != BLOCK_LENGTH {
+        return WRONG_LENGTH;
     }
-    if !is_channel(word_at(b, 12, big)) {
-        return 10;
+    if !is_channel(word_at(b, CHANNEL_AT, big)) {
+        return WRONG_FIELD;
     }
-    if !is_named(word_at(b, 16, big)) {
-        return 10;
+    if !is_named(word_at(b, CODE_AT, big)) {
+        return WRONG_FIELD;
     }
     0
 }
@@ -114,14 +159,14 @@ fn timebase_rule(b: &[u8], big: bool) -> u32
     requires { ⌜ 48 ≤ length (now b) ⌝ }
     ensures { λ r. ⌜ r ≡ timebaseRule (orderFrom big) (now (b .entry)) ⌝ }
 {
-    if word_at(b, 20, big) != 0x12 {
-        return 5;
+    if word_at(b, 20, big) != TIMEBASE {
+        return WRONG_KIND;
     }
-    if word_at(b, 24, big) != 12 {
-        return 6;
+    if word_at(b, 24, big) != BLOCK_LENGTH {
+        return WRONG_LENGTH;
     }
-    if word_at(b, 32, big) < 1 {
-        return 10;
+    if word_at(b, DELTA_AT, big) < 1 {
+        return WRONG_FIELD;
     }
     0
 }
@@ -131,16 +176,16 @@ fn samples_rule(b: &[u8], big: bool) -> u32
     requires { ⌜ 48 ≤ length (now b) ⌝ }
     ensures { λ r. ⌜ r ≡ samplesRule (orderFrom big) (now (b .entry)) ⌝ }
 {
-    if word_at(b, 40, big) != 0x13 {
-        return 5;
+    if word_at(b, 40, big) != SAMPLE_BLOCK {
+        return WRONG_KIND;
     }
-    let n = word_at(b, 44, big);
+    let n = word_at(b, N_AT, big);
     let count = count_fault(n);
     if count != 0 {
         return count;
     }
-    if word_at(b, 36, big) != n {
-        return 11;
+    if word_at(b, FIRST_N_AT, big) != n {
+        return WRONG_COUNT;
     }
     0
 }
@@ -149,8 +194,8 @@ fn samples_rule(b: &[u8], big: bool) -> u32
 pub fn trace_rule(b: &[u8], big: bool) -> u32
     ensures { λ r. ⌜ r ≡ traceRule (orderFrom big) (now (b .entry)) ⌝ }
 {
-    if b.len() < 48 {
-        return 6;
+    if b.len() < SAMPLES_AT {
+        return WRONG_LENGTH;
     }
     let bookkeeping = bookkeeping_rule(b, big);
     if bookkeeping != 0 {
@@ -164,8 +209,8 @@ pub fn trace_rule(b: &[u8], big: bool) -> u32
     if samples != 0 {
         return samples;
     }
-    if b.len() != 48 + 2 * word_at(b, 44, big) as usize {
-        return 6;
+    if b.len() != SAMPLES_AT + 2 * word_at(b, N_AT, big) as usize {
+        return WRONG_LENGTH;
     }
     0
 }
@@ -177,26 +222,26 @@ fn section_rule(trigger: bool, p: usize, b: &[u8], big: bool) -> u32
 {
     let room = b.len();
     if room < p + 4 {
-        return 6;
+        return WRONG_LENGTH;
     }
     let times = word_at(b, p, big);
-    if 0x7FFF_FFFF < times {
-        return 10;
+    if GREATEST_SIGNED < times {
+        return WRONG_FIELD;
     }
     let q = p + 4 + 4 * times as usize;
     if room < q + 4 {
-        return 6;
+        return WRONG_LENGTH;
     }
     let width = word_at(b, q, big);
-    let fault = unless(width <= 0x7FFF_FFFF, 10);
-    or_unless(fault, is_width(trigger, times, width), 10)
+    let fault = unless(width <= GREATEST_SIGNED, WRONG_FIELD);
+    or_unless(fault, is_width(trigger, times, width), WRONG_FIELD)
 }
 
 /// Where a section that follows its rule ends.
 pub fn section_end(p: usize, b: &[u8], big: bool) -> usize
     requires { ⌜ (widthAt (orderFrom big) p (now b) + 4 ≤ length (now b)) × (widthOf (orderFrom big) p (now b) ≤ 0x7FFFFFFF)
         × (length (now b) < 0x100000000) ⌝ }
-    ensures { λ r. ⌜ r ≡ after (orderFrom big) p (now (b .entry)) ⌝ }
+    ensures { λ r. ⌜ r ≡ endAt (orderFrom big) p (now (b .entry)) ⌝ }
 {
     let n = word_at(b, p, big) as usize;
     let q = p + 4 + 4 * n;
@@ -211,10 +256,10 @@ pub fn history_rule(b: &[u8], big: bool) -> u32
 {
     let room = b.len();
     if room < 16 {
-        return 6;
+        return WRONG_LENGTH;
     }
     if room % 4 != 0 {
-        return 6;
+        return WRONG_LENGTH;
     }
     let veto = section_rule(false, 0, b, big);
     if veto != 0 {
@@ -226,7 +271,7 @@ pub fn history_rule(b: &[u8], big: bool) -> u32
         return trigger;
     }
     if room != section_end(middle, b, big) {
-        return 6;
+        return WRONG_LENGTH;
     }
     0
 }
@@ -235,8 +280,8 @@ pub fn history_rule(b: &[u8], big: bool) -> u32
 pub fn gps_rule(b: &[u8], big: bool) -> u32
     ensures { λ r. ⌜ r ≡ gpsRule (orderFrom big) (now (b .entry)) ⌝ }
 {
-    if b.len() != 12 {
-        return 6;
+    if b.len() != GPS_LENGTH {
+        return WRONG_LENGTH;
     }
     let date = word_at(b, 0, big);
     let clock = word_at(b, 4, big);
@@ -258,11 +303,11 @@ pub fn gps_rule(b: &[u8], big: bool) -> u32
 pub fn trigger_rule(b: &[u8], big: bool) -> u32
     ensures { λ r. ⌜ r ≡ triggerRule (orderFrom big) (now (b .entry)) ⌝ }
 {
-    if b.len() != 28 {
-        return 6;
+    if b.len() != TRIGGER_LENGTH {
+        return WRONG_LENGTH;
     }
     if word_at(b, 0, big) != 0 {
-        return 10;
+        return WRONG_FIELD;
     }
     0
 }
@@ -271,8 +316,8 @@ pub fn trigger_rule(b: &[u8], big: bool) -> u32
 pub fn tlb_rule(b: &[u8], big: bool) -> u32
     ensures { λ r. ⌜ r ≡ tlbRule (orderFrom big) (now (b .entry)) ⌝ }
 {
-    if b.len() != 24 {
-        return 6;
+    if b.len() != TLB_LENGTH {
+        return WRONG_LENGTH;
     }
     tlb_fault(
         word_at(b, 0, big),
@@ -285,14 +330,14 @@ pub fn tlb_rule(b: &[u8], big: bool) -> u32
 }
 
 /// The rule of a kind word's kind; 5 for a word that names none. Most records are traces.
-pub fn rule(kind: u32, b: &[u8], big: bool) -> u32
+pub fn rule(word: u32, b: &[u8], big: bool) -> u32
     requires { ⌜ length (now b) < 0x100000000 ⌝ }
-    ensures { λ r. ⌜ r ≡ recordRule (orderFrom big) kind (now (b .entry)) ⌝ }
+    ensures { λ r. ⌜ r ≡ recordRule (orderFrom big) word (now (b .entry)) ⌝ }
 {
-    if kind == TRACE {
+    if word == TRACE {
         return trace_rule(b, big);
     }
-    match kind {
+    match word {
         PHONON => phonon_rule(b, big),
         CHARGE => charge_rule(b, big),
         ADMINISTRATIVE => administrative_rule(b, big),
@@ -300,6 +345,6 @@ pub fn rule(kind: u32, b: &[u8], big: bool) -> u32
         GPS => gps_rule(b, big),
         TRIGGER => trigger_rule(b, big),
         TLB => tlb_rule(b, big),
-        _ => 5,
+        _ => WRONG_KIND,
     }
 }

@@ -36,8 +36,8 @@ stands o bs place = go (recordFound o bs place) refl
     go : (r : Res Record) → recordFound o bs place ≡ r → Stands o bs place
     go (bad c p) e = empty o bs place (refused-part o bs place {c = c} {p = p} {s = stepOf (recordFound o bs place)} (ap stepOf e) refl)
     go (ok r) e =
-        let g : Found o bs place (r .kind) (length (r .body)) = good-found {s = stepOf (recordFound o bs place)} (ap stepOf e) refl in
-        elim (ℕ-discrete (r .kind) 0x11) [
+        let g : Found o bs place (r .word) (length (r .body)) = good-found {s = stepOf (recordFound o bs place)} (ap stepOf e) refl in
+        elim (ℕ-discrete (r .word) 0x11) [
           | yes t ↦ whole (trace-found g t)
           | no other ↦ empty o bs place (no-part g other)
         ]

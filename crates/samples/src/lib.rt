@@ -1,7 +1,11 @@
 // Samples and a sample by number, of the trace at a place of a file. Any file, any place and any number are taken.
 use answers::record_found;
 use note::SampleAnswer;
+use note::WRONG_COUNT;
+use note::WRONG_KIND;
+use record::FRONT;
 use record::Step;
+use rules::SAMPLES_AT;
 use words::word_at;
 ghost use mathlib.Core.Path.{_≡_};
 ghost use Prim.Native.Nat.{_+_, _-_, _*_, _/_, _≤_};
@@ -11,15 +15,18 @@ ghost use Rattle.note.specs.Answers.{givenSample};
 ghost use Rattle.note.specs.Trace.{sampleIn};
 ghost use Rattle.note.specs.Calls.{samplesPart, samplesAt, sampleAt};
 
-/// Samples: the part of the caller's own file that holds the samples of the trace at a place; empty where Record finds none.
+/// Where a trace's samples begin, from its first byte on: behind its two words and the 48 bytes of its body before them.
+pub const SAMPLES_FROM: usize = 56;
+
+/// Samples: of the lent file, the part that the samples of the trace at a place fill; empty where Record finds none.
 pub fn samples<'a>(file: &'a [u8], place: usize, big: bool) -> &'a [u8]
     ensures bytes { λ r. ⌜ now r ≡ samplesAt (orderFrom big) (now (file .entry)) place ⌝ }
     ensures own { λ r. ⌜ r .ptr ≡ (file .entry .ptr .0, samplesPart (orderFrom big) (now (file .entry)) place .0 + file .entry .ptr .1) ⌝ }
 {
     match record_found(file, place, big) {
-        Step::Good { kind, length } => {
-            if kind == rules::TRACE {
-                return &file[place + 56..place + 8 + length];
+        Step::Good { word, length } => {
+            if word == rules::TRACE {
+                return &file[place + SAMPLES_FROM..place + FRONT + length];
             }
             &file[0..0]
         }
@@ -30,7 +37,7 @@ pub fn samples<'a>(file: &'a [u8], place: usize, big: bool) -> &'a [u8]
     }
 }
 
-// The sample with a number from 1 on, of samples that have its word: the lower half of a word is the earlier sample.
+// The sample with a number from 1 on, of samples that have its word: of a word's two the lower half comes first.
 fn sample_of(part: &[u8], number: usize, big: bool) -> u16
     requires { ⌜ (1 ≤ number) × (4 * ((number - 1) / 2) + 4 ≤ length (now part)) ⌝ }
     ensures { λ r. ⌜ r ≡ sampleIn (orderFrom big) (now (part .entry)) number ⌝ }
@@ -48,18 +55,31 @@ pub fn sample(file: &[u8], place: usize, number: usize, big: bool) -> SampleAnsw
     ensures { λ r. ⌜ givenSample r ≡ sampleAt (orderFrom big) (now (file .entry)) place number ⌝ }
 {
     match record_found(file, place, big) {
-        Step::Good { kind, length } => {
-            if kind != rules::TRACE {
-                return SampleAnswer::Refused { number: 5, place };
+        Step::Good { word, length } => {
+            if word != rules::TRACE {
+                return SampleAnswer::Refused {
+                    number: WRONG_KIND,
+                    place,
+                };
             }
             if number < 1 {
-                return SampleAnswer::Refused { number: 11, place };
+                return SampleAnswer::Refused {
+                    number: WRONG_COUNT,
+                    place,
+                };
             }
-            if number > (length - 48) / 2 {
-                return SampleAnswer::Refused { number: 11, place };
+            if number > (length - SAMPLES_AT) / 2 {
+                return SampleAnswer::Refused {
+                    number: WRONG_COUNT,
+                    place,
+                };
             }
             SampleAnswer::Sample {
-                value: sample_of(&file[place + 56..place + 8 + length], number, big),
+                value: sample_of(
+                    &file[place + SAMPLES_FROM..place + FRONT + length],
+                    number,
+                    big,
+                ),
             }
         }
         Step::Bad {

@@ -20,9 +20,9 @@ record-length o r =
     let n : ℕ = length (r .body) in
     omega (
       arith,
-      length-append (put o 4 (r .kind)) (put o 4 n ++ r .body),
+      length-append (put o 4 (r .word)) (put o 4 n ++ r .body),
       length-append (put o 4 n) (r .body),
-      length-put o 4 (r .kind),
+      length-put o 4 (r .word),
       length-put o 4 n,
     )
 
@@ -31,9 +31,9 @@ unfolding puts
 two-words o kind n rest = simp (append-assoc, append-nil)
 
 -- Where no bytes stand behind a structure's words.
-pub structured-bare : (o : Order) (kind : ℕ) (ws : List ℕ) → structured o kind ws [] ≡ recordBytes o (record { kind = kind; body = words o ws })
+pub structured-bare : (o : Order) (kind : ℕ) (ws : List ℕ) → structured o kind ws [] ≡ recordBytes o (record { word = kind; body = words o ws })
 unfolding structured
-structured-bare o kind ws = ap (λ (b : List ℕ). recordBytes o (record { kind = kind; body = b })) (append-nil (words o ws))
+structured-bare o kind ws = ap (λ (b : List ℕ). recordBytes o (record { word = kind; body = b })) (append-nil (words o ws))
 
 module _ (o : Order) (kind : ℕ) (ws rest : List ℕ) where
   body-size : length (words o ws ++ rest) ≡ 4 * length ws + length rest
@@ -41,7 +41,7 @@ module _ (o : Order) (kind : ℕ) (ws rest : List ℕ) where
 
   pub structured-size : length (structured o kind ws rest) ≡ 8 + (4 * length ws + length rest)
   unfolding structured
-  structured-size = omega (arith, body-size, record-length o (record { kind = kind; body = words o ws ++ rest }))
+  structured-size = omega (arith, body-size, record-length o (record { word = kind; body = words o ws ++ rest }))
 
   pub structured-stored : (l : List ℕ) (n : ℕ) → n ≡ 4 * length ws + length rest
       → sets (sets (sets l 0 (words o (kind ∷ n ∷ []))) 8 (words o ws)) (8 + 4 * length ws) rest ≡ sets l 0 (structured o kind ws rest)

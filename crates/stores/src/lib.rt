@@ -1,5 +1,7 @@
 // What every writer does: it is admitted, or refused before the first store; then words and parts of bytes are stored as the note's files
 // have them.
+use note::NO_ROOM;
+use note::TOO_LARGE;
 use note::WriterAnswer;
 use record::FILE_LIMIT;
 use words::join;
@@ -12,18 +14,18 @@ ghost use Rattle.theory.specs.Words.{num, bytes, ordered, orderFrom};
 ghost use Rattle.theory.specs.Stores.{HasEach};
 ghost use Rattle.note.specs.Words.{words};
 ghost use Rattle.note.specs.Answers.{givenWriter};
-ghost use Rattle.note.specs.Writers.{wrote, writerGiven};
-ghost use Rattle.stores.specs.Writes.{Wrote};
-ghost use Rattle.stores.specs.Structures.{structured, structureWritten};
+ghost use Rattle.note.specs.Writers.{writerNext, writerGiven};
+ghost use Rattle.stores.specs.Writes.{WriterDid};
+ghost use Rattle.stores.specs.Structures.{structured, structureDraft};
 
 /// The answer of a writer of `size` bytes from a place on, over an output of `room` bytes: 1 for an output over the limit, the fault of the
 /// fields (0 for none), 13 for too little room, or the next place.
 pub fn admitted(room: usize, place: usize, fault: u32, size: usize) -> WriterAnswer
-    ensures { λ r. ⌜ givenWriter r ≡ writerGiven (wrote room place fault size) ⌝ }
+    ensures { λ r. ⌜ givenWriter r ≡ writerGiven (writerNext room place fault size) ⌝ }
 {
     if room > FILE_LIMIT {
         return WriterAnswer::Refused {
-            number: 1,
+            number: TOO_LARGE,
             place: 0,
         };
     }
@@ -34,10 +36,16 @@ pub fn admitted(room: usize, place: usize, fault: u32, size: usize) -> WriterAns
         };
     }
     if place > room {
-        return WriterAnswer::Refused { number: 13, place };
+        return WriterAnswer::Refused {
+            number: NO_ROOM,
+            place,
+        };
     }
     if size > room - place {
-        return WriterAnswer::Refused { number: 13, place };
+        return WriterAnswer::Refused {
+            number: NO_ROOM,
+            place,
+        };
     }
     WriterAnswer::Next {
         place: place + size,
@@ -150,34 +158,34 @@ pub fn put_part(out: &mut [u8], at: usize, part: &[u8])
 // ---- structures
 
 // Stores a structure from the part's first byte on: its kind word, its length word, its body's words, and the bytes behind them.
-fn put_structure(part: &mut [u8], kind: u32, ws: &[u32], bytes: &[u8], big: bool)
+fn put_structure(part: &mut [u8], word: u32, ws: &[u32], bytes: &[u8], big: bool)
     requires { ⌜ (8 + (4 * length (now ws) + length (now bytes)) ≤ length (now part)) × (length (now part) ≤ 0xFFFFFFFF) ⌝ }
-    ensures { λ _. ⌜ now (part .exit) ≡ sets (now (part .entry)) 0 (structured (orderFrom big) kind (now (ws .entry)) (now (bytes .entry))) ⌝ }
+    ensures { λ _. ⌜ now (part .exit) ≡ sets (now (part .entry)) 0 (structured (orderFrom big) word (now (ws .entry)) (now (bytes .entry))) ⌝ }
 {
     let words = 4 * ws.len();
-    put_words(part, 0, &[kind, (words + bytes.len()) as u32], big);
+    put_words(part, 0, &[word, (words + bytes.len()) as u32], big);
     put_words(part, 8, ws, big);
     put_part(part, 8 + words, bytes);
 }
 
-/// Writes a structure, of fields with this fault, into the rest of the output from the place on, which is lent on (document 01).
+/// Writes a structure, of fields with this fault, into the rest of the output from the place on, which is lent on (FORMAT 9.1).
 pub fn write_structure(
     out: &mut [u8],
     place: usize,
     fault: u32,
-    kind: u32,
+    word: u32,
     ws: &[u32],
     bytes: &[u8],
     big: bool,
 ) -> WriterAnswer
     requires { ⌜ length (now ws) ≤ 12 ⌝ }
-    ensures { λ r. ⌜ Wrote (now (out .entry)) place (structureWritten (orderFrom big) fault kind (now (ws .entry)) (now (bytes .entry)))
+    ensures { λ r. ⌜ WriterDid (now (out .entry)) place (structureDraft (orderFrom big) fault word (now (ws .entry)) (now (bytes .entry)))
         r (now (out .exit)) ⌝ }
 {
     match admitted(out.len(), place, fault, 8 + (4 * ws.len() + bytes.len())) {
         WriterAnswer::Refused { number, place } => WriterAnswer::Refused { number, place },
         WriterAnswer::Next { place: next } => {
-            put_structure(&mut out[place..], kind, ws, bytes, big);
+            put_structure(&mut out[place..], word, ws, bytes, big);
             WriterAnswer::Next { place: next }
         }
     }

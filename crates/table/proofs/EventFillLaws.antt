@@ -14,7 +14,7 @@ use Rattle.theory.proofs.LayoutLaws.{rows-append, length-rows, rowCount-append,
 use Rattle.theory.proofs.LoopLaws.{At, start, ended, prefix, reads}
 use Rattle.note.specs.Limits.{fileLimit, rowWidth}
 use Rattle.note.specs.Words.{word}
-use Rattle.note.specs.Records.{event, none, recordsBytes, readRecords}
+use Rattle.note.specs.Records.{event, unseen, recordsBytes, readRecords}
 use Rattle.note.specs.Events.{Container}
 use Rattle.note.specs.Rows.{childOf, childrenOf, eventNode}
 use Rattle.demands.proofs.Bundles.{eventItem, events, same-events}
@@ -91,8 +91,8 @@ module _ {o : Order} {from : ℕ} {bs rows₀ : List ℕ} {first : ℕ} {now res
       contents-size : length (recordsBytes o (this .body)) ≡ m
       contents-size = coming .size ∙ sym em
 
-      contents : readRecords o (event none) (at + 8) (cutBody m rest) ≡ ok (this .body)
-      contents = subst (λ (y : ℕ). readRecords o (event none) (at + 8) (cutBody y rest) ≡ ok (this .body)) (sym em) (coming .contents)
+      contents : readRecords o (event unseen) (at + 8) (cutBody m rest) ≡ ok (this .body)
+      contents = subst (λ (y : ℕ). readRecords o (event unseen) (at + 8) (cutBody y rest) ≡ ok (this .body)) (sym em) (coming .contents)
 
       -- its children, which its length word measures
       abbrev ch : List Child
@@ -149,11 +149,11 @@ module _ {o : Order} {from : ℕ} {bs rows₀ : List ℕ} {first : ℕ} {now res
       pub fillable : Fillable o (at + 8) (cutBody m rest) (length now) (n + 1)
       fillable =
           let size : length (cutBody m rest) ≡ m = cut-length m rest (sized .0) in
-          record { context = event none; records = this .body; reads = contents; within = omega (arith, size, sized .1); fits = rows-fit }
+          record { context = event unseen; records = this .body; reads = contents; within = omega (arith, size, sized .1); fits = rows-fit }
 
       -- its own row, and its rows
       abbrev ownRow : Row
-      ownRow = record { kind = 5; start = at; whole = 8 + total ch; parent = 0; one = this .kind % 65536; two = length (this .body) }
+      ownRow = record { kind = 5; start = at; whole = 8 + total ch; parent = 0; one = this .word % 65536; two = length (this .body) }
 
       abbrev mine : List Row
       mine = rows (n + 1) at (eventNode o this ∷ [])
@@ -175,7 +175,7 @@ module _ {o : Order} {from : ℕ} {bs rows₀ : List ℕ} {first : ℕ} {now res
       -- Where its records were filled.
       module _ (filled : List ℕ) (next : ℕ) (g : Filled o (at + 8) (cutBody m rest) now (n + 1) (n + 1) filled next) where
         records-filled : (filled ≡ stored now (n + 1) (childRows (n + 1) (at + 8) ch)) × (next ≡ n + 1 + length (this .body))
-        records-filled = g (event none) (this .body) contents
+        records-filled = g (event unseen) (this .body) contents
 
         -- its own row's index lies below the next, which is no more than the bytes so far, and its own row fits
         pub next-row : (n + 1 ≤ next) × (next ≤ at + (8 + m)) × (n * rowWidth + rowWidth ≤ length filled)

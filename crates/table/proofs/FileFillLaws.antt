@@ -111,7 +111,7 @@ module _ {o : Order} {bs buffer : List ℕ} {m : ℕ} {one : List ℕ} (b : Begu
   entries-are : readRecords o entry 16 (entriesPart bs m) ≡ ok (entries o f)
   entries-are = entries-read bs f (b .bytes) (b .asked .reads) _ part-size
 
-  events-are : readEvents o tt (8 + (8 + m)) (eventsPart bs m) ≡ ok (eventsOf f)
+  events-are : readEvents o (8 + (8 + m)) (eventsPart bs m) ≡ ok (eventsOf f)
   events-are = events-read bs f (b .bytes) (b .asked .reads) (8 + (8 + m)) (omega (arith, b .size))
 
   -- how long they are, and the buffer

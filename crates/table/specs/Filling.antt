@@ -1,4 +1,5 @@
--- What a part must be for its rows to be filled in, and what filling leaves.
+-- What a part must be for its rows to be filled in, and what filling leaves: for records, for events and for a file, so that each loop promises
+-- only its own part.
 use Prim.Native.Nat.{ℕ, _+_, _*_, _≤_}
 use mathlib.Core.Path.{_≡_}
 use mathlib.Core.List.{List, map}
@@ -24,12 +25,12 @@ pub record Fillable (o : Order) (from : ℕ) (bs : List ℕ) (room first : ℕ) 
 -- Events fill the part, there are no more rows before it than bytes, and their rows fit.
 pub record FillableEvents (o : Order) (from : ℕ) (bs : List ℕ) (room first : ℕ) : Type 0 where
   pub events : List Container
-  pub reads : readEvents o tt from bs ≡ ok events
+  pub reads : readEvents o from bs ≡ ok events
   pub within : from + length bs ≤ fileLimit
   pub low : first ≤ from
   pub fits : (first + length (rows (first + 1) from (map (eventNode o) events))) * rowWidth ≤ room
 
--- The file is accepted and of that order, and its rows fit.
+-- FORMAT 8.2: the file is accepted and of that order, and its rows fit.
 pub record FillableFile (o : Order) (bs : List ℕ) (room : ℕ) : Type 0 where
   pub parts : Parts
   pub reads : readFile bs ≡ ok (o, parts)
@@ -43,7 +44,7 @@ Filled o from bs old first parent new next =
 
 abbrev pub FilledEvents : Order → ℕ → List ℕ → List ℕ → ℕ → List ℕ → Type 0
 FilledEvents o from bs old first new =
-    (es : List Container) → readEvents o tt from bs ≡ ok es → new ≡ stored old first (rows (first + 1) from (map (eventNode o) es))
+    (es : List Container) → readEvents o from bs ≡ ok es → new ≡ stored old first (rows (first + 1) from (map (eventNode o) es))
 
 abbrev pub FilledFile : List ℕ → List ℕ → List ℕ → Type 0
 FilledFile bs old new = (f : File) → readFile bs ≡ ok f → new ≡ stored old 0 (rowsOf f)

@@ -1,7 +1,16 @@
 // Table: the rows of an accepted file, in a lent buffer. The file is checked first; filling then reads each structure's own words.
 use containers::Count;
+use containers::ENTRIES;
+use containers::ENTRIES_LENGTH;
+use containers::HEADER;
 use containers::check;
+use note::CONFIGURATION_ROW;
+use note::EVENT_ROW;
+use note::FEW_ROWS;
+use note::HEADER_ROW;
 use note::TableAnswer;
+use record::FRONT;
+use rows::HEADER_BYTES;
 use rows::ROW_WIDTH;
 use rows::Row;
 use rows::put_row;
@@ -31,8 +40,8 @@ fn fill_records(
     let mut at = from;
     let mut n = first;
     while 0 < rest.len() {
-        let size = 8 + word_at(rest, 4, big) as usize;
-        let v = values_in(word_at(rest, 0, big), &rest[8..size], big);
+        let size = FRONT + word_at(rest, 4, big) as usize;
+        let v = values_in(word_at(rest, 0, big), &rest[FRONT..size], big);
         put_row(
             rows,
             n,
@@ -62,13 +71,20 @@ fn fill_events(part: &[u8], from: usize, rows: &mut [u32], first: usize, big: bo
     let mut at = from;
     let mut n = first;
     while 0 < rest.len() {
-        let size = 8 + word_at(rest, 4, big) as usize;
-        let next = fill_records(&rest[8..size], at + 8, rows, n + 1, (n + 1) as u32, big);
+        let size = FRONT + word_at(rest, 4, big) as usize;
+        let next = fill_records(
+            &rest[FRONT..size],
+            at + FRONT,
+            rows,
+            n + 1,
+            (n + 1) as u32,
+            big,
+        );
         put_row(
             rows,
             n,
             Row {
-                kind: 5,
+                kind: EVENT_ROW,
                 start: at as u32,
                 whole: size as u32,
                 parent: 0,
@@ -87,27 +103,27 @@ fn fill(file: &[u8], rows: &mut [u32], big: bool)
     requires { ⌜ FillableFile (orderFrom big) (now file) (length (now rows)) ⌝ }
     ensures { λ _. ⌜ FilledFile (now (file .entry)) (now (rows .entry)) (now (rows .exit)) ⌝ }
 {
-    let size = 8 + word_at(file, 12, big) as usize;
-    let end = 8 + size;
+    let size = FRONT + word_at(file, ENTRIES_LENGTH, big) as usize;
+    let end = HEADER + size;
     put_row(
         rows,
         0,
         Row {
-            kind: 1,
+            kind: HEADER_ROW,
             start: 0,
-            whole: 8,
+            whole: HEADER_BYTES,
             parent: 0,
             one: word_at(file, 4, big),
             two: 0,
         },
     );
-    let next = fill_records(&file[16..end], 16, rows, 2, 2, big);
+    let next = fill_records(&file[ENTRIES..end], ENTRIES, rows, 2, 2, big);
     put_row(
         rows,
         1,
         Row {
-            kind: 2,
-            start: 8,
+            kind: CONFIGURATION_ROW,
+            start: HEADER_BYTES,
             whole: size as u32,
             parent: 0,
             one: (next - 2) as u32,
@@ -132,7 +148,7 @@ pub fn table(file: &[u8], rows: &mut [u32]) -> TableAnswer
         Count::Good { count } => {
             if rows.len() / ROW_WIDTH < count {
                 return TableAnswer {
-                    number: 12,
+                    number: FEW_ROWS,
                     count,
                     place: file.len(),
                 };

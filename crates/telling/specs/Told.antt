@@ -1,4 +1,5 @@
--- What a C caller finds in the numbers that it lent to a writer: the next place, or a refusal's place; otherwise what stood there.
+-- What a C caller finds in the numbers that it lent to a writer: the next place, or a refusal's place; otherwise what stood there. Said once for
+-- all writers, closings and Rewrite.
 use Prim.Native.Nat.{ℕ}
 use mathlib.Core.Path.{_≡_}
 use mathlib.Core.List.{List}
@@ -18,7 +19,7 @@ pub record After : Type 0 where
   pub next : ℕ
   pub refusal : ℕ
 
--- After a result: 0 and the next place; or a refusal's number and place.
+-- FORMAT 9.1: after a result: 0 and the next place; or a refusal's number and place.
 unfoldable pub afterOf : Res ℕ → Before → After
 afterOf (ok place) before = record { number = 0; next = place; refusal = before .refusal }
 afterOf (bad number place) before = record { number = number; next = before .next; refusal = place }

@@ -1,7 +1,7 @@
 // The visitor for C, in a library of its own: the walk's step, called in one place alone, is compiled into its loop.
 ghost use mathlib.Core.Path.{_≡_};
 ghost use lib.ListN.{length};
-ghost use Rattle.note.specs.Rows.{visitAnswer, visitBuffer};
+ghost use Rattle.note.specs.Visitor.{visitAnswer, visitBuffer};
 
 /// Visit: the number; rows from the number `first` on, from 0, their count and the place lent.
 #[no_mangle]

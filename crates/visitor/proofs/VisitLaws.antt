@@ -13,7 +13,8 @@ use Rattle.theory.specs.Tests.{Res, ok, bad}
 use Rattle.theory.specs.Layout.{Row, noRow}
 use Rattle.note.specs.Limits.{rowWidth}
 use Rattle.note.specs.Files.{File, readFile}
-use Rattle.note.specs.Rows.{rowsOf, piece, visitGiven, visitAnswer, visitFilled, visitBuffer}
+use Rattle.note.specs.Rows.{rowsOf}
+use Rattle.note.specs.Visitor.{rowsVisited, visitGiven, visitAnswer, visitFilled, visitBuffer}
 use Rattle.note.specs.declared.WalkerYield.{WalkerYield}
 use Rattle.note.specs.declared.WalkerYield.the-variants as Yield
 use Rattle.rows.specs.Buffers.{rowOf, stored}
@@ -232,6 +233,6 @@ module _ (bs old : List ℕ) (k : ℕ) where
           × (new ≡ visitFilled k old (readFile bs))
       go (ok f) e =
           let (held, some) = t (rowsOf f) (file-yields bs f h e) in
-          let xs : List Row = piece k (length old) (rowsOf f) in
+          let xs : List Row = rowsVisited k (length old) (rowsOf f) in
           (rw (e, some), held ∙ stored-first old xs (omega (arith, length-piece (length old / rowWidth) (drop k (rowsOf f)))) ∙ rw e)
       go (bad c p) e = absurd (omega (arith, start-refusal bs c p e, z, refusal-is-numbered bs c p e))

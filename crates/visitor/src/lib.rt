@@ -10,7 +10,7 @@ use walk::start;
 use walk::step;
 ghost use mathlib.Core.Path.{_≡_};
 ghost use lib.ListN.{length};
-ghost use Rattle.note.specs.Rows.{visitAnswer, visitBuffer};
+ghost use Rattle.note.specs.Visitor.{visitAnswer, visitBuffer};
 ghost use Rattle.visitor.specs.Visits.{Stored};
 
 // Runs a walk and stores its rows, but for the first ones, up to the last or until the buffer is full; answers how many. The step is

@@ -37,19 +37,19 @@ module _ (o : Order) {B : Type 0} (bodyBytes : B → List ℕ) (c : Structure B)
 
   -- Behind a structure's two words: its body, and what follows.
   pub contents : drop 8 bytes ≡ bodyOf ++ rest
-  contents = ap (drop 8) (structure-apart o bodyBytes c rest) ∙ drop-two o (c .kind) (length bodyOf) (bodyOf ++ rest)
+  contents = ap (drop 8) (structure-apart o bodyBytes c rest) ∙ drop-two o (c .word) (length bodyOf) (bodyOf ++ rest)
 
-  pub front : Fits 4 (c .kind) → Fits 4 (length bodyOf) → Front o bytes (c .kind) bodyOf rest
+  pub front : Fits 4 (c .word) → Fits 4 (length bodyOf) → Front o bytes (c .word) bodyOf rest
   front hk hn =
       let n : ℕ = length bodyOf in
       let shape = structure-apart o bodyBytes c rest in
-      let en : word o 4 bytes ≡ n = ap (word o 4) shape ∙ second-word o (c .kind) n (bodyOf ++ rest) hn in
+      let en : word o 4 bytes ≡ n = ap (word o 4) shape ∙ second-word o (c .word) n (bodyOf ++ rest) hn in
       let size : length bytes ≡ 8 + n + length rest =
-      omega (arith, ap length shape, length-two o (c .kind) n (bodyOf ++ rest), length-append bodyOf rest) in
+      omega (arith, ap length shape, length-two o (c .word) n (bodyOf ++ rest), length-append bodyOf rest) in
       let fits : 8 + word o 4 bytes ≤ length bytes = omega (arith, en, size) in
       record {
         found = record { is-here = long-enough o bytes (omega (arith, size)) ∙ le-leb (8 + word o 4 bytes) (length bytes) fits; length-is = sym en };
-        kind-is = sym (ap (word o 0) shape ∙ word-after-put o 4 (c .kind) (put o 4 n ++ (bodyOf ++ rest)) hk);
+        kind-is = sym (ap (word o 0) shape ∙ word-after-put o 4 (c .word) (put o 4 n ++ (bodyOf ++ rest)) hk);
         body-is = cut n bytes ∙ ap (take n) contents ∙ take-at bodyOf rest n refl;
         behind-is = sym (drop-drop n 8 bytes) ∙ ap (drop n) contents ∙ drop-at bodyOf rest n refl;
         size = size;
@@ -71,7 +71,7 @@ counted-by o c (r ∷ rs) v (suc f) h =
     let p : List ℕ = recordBytes o r ++ recordsBytes o rs in
     let w = front o (λ (b : List ℕ). b) r (recordsBytes o rs) (v .0 .kind-fits) (v .0 .length-fits) in
     let on : drop (8 + word o 4 p) p ≡ recordsBytes o rs = ap (λ (n : ℕ). drop (8 + n) p) (sym (w .found .length-is)) ∙ w .behind-is in
-    rw (w .found .is-here, on) (ap suc (counted-by o (behind c (r .kind)) rs (v .1) f (omega (arith, w .size))))
+    rw (w .found .is-here, on) (ap suc (counted-by o (behind c (r .word)) rs (v .1) f (omega (arith, w .size))))
 
 -- Valid records are as many structures by their length words.
 pub records-counted : (o : Order) (c : Context) (rs : List Record) → ValidRecords o c rs → countIn o (recordsBytes o rs) ≡ length rs

@@ -46,21 +46,21 @@ module _ (o : Order) (bs : List ℕ) (limit : length bs ≤ fileLimit) where
   record-turn place end parent n y c r rest v part one low inside within =
       let at : Spot = here place end parent n y in
       let p : List ℕ = recordBytes o r ++ rest in
-      let w : Front o p (r .kind) (r .body) rest = front o (λ (b : List ℕ). b) r rest (v .kind-fits) (v .length-fits) in
-      let held : hasValues o (r .kind) (cutBody (length (r .body)) p) ≡ true =
-      rw (w .body-is) (rule-has-values o (r .kind) (r .body) (v .body-rule)) in
-      let values : valuesOf o (r .kind) (r .body) ≡ valuesOf o (r .kind) (cutBody (length (r .body)) p) =
-      ap (valuesOf o (r .kind)) (sym (w .body-is)) in
+      let w : Front o p (r .word) (r .body) rest = front o (λ (b : List ℕ). b) r rest (v .kind-fits) (v .length-fits) in
+      let held : hasValues o (r .word) (cutBody (length (r .body)) p) ≡ true =
+      rw (w .body-is) (rule-has-values o (r .word) (r .body) (v .body-rule)) in
+      let values : valuesOf o (r .word) (r .body) ≡ valuesOf o (r .word) (cutBody (length (r .body)) p) =
+      ap (valuesOf o (r .word)) (sym (w .body-is)) in
       sym (step-record o (ready y low within (omega arith)) (λ z. absurd (omega arith)) inside)
       ∙ ap (λ (x : List ℕ). recordStep o x at) part
-      ∙ sym (record-here (w .found) at (r .kind) (w .kind-is) held (valuesOf o (r .kind) (r .body)) values)
+      ∙ sym (record-here (w .found) at (r .word) (w .kind-is) held (valuesOf o (r .word) (r .body)) values)
 
   -- At a container: the configuration, at byte 8, or an event.
   pub container-turn : (place end parent n : ℕ) (y : WalkerYield) (inner : Context) (c : Container) (rest : List ℕ)
-      → Fits 4 (c .kind) → Fits 4 (length (recordsBytes o (c .body))) → ValidRecords o inner (c .body)
+      → Fits 4 (c .word) → Fits 4 (length (recordsBytes o (c .body))) → ValidRecords o inner (c .body)
       → drop place bs ≡ containerBytes o c ++ rest → 1 ≤ place → n ≤ place → end ≤ place → place ≤ length bs
       → stepIn o bs (here place end parent n y)
-      ≡ here (place + 8) (place + containerSize o c) (n + 1) (n + 1) (containerRow place (containerSize o c) (c .kind) (length (c .body)))
+      ≡ here (place + 8) (place + containerSize o c) (n + 1) (n + 1) (containerRow place (containerSize o c) (c .word) (length (c .body)))
   container-turn place end parent n y inner c rest hk hn v part one low inner-end within =
       let at : Spot = here place end parent n y in
       let w = front o (recordsBytes o) c rest hk hn in
@@ -68,7 +68,7 @@ module _ (o : Order) (bs : List ℕ) (limit : length bs ≤ fileLimit) where
       ap (countIn o) (w .body-is) ∙ records-counted o inner (c .body) v in
       sym (step-container o (ready y low (omega arith) within) (λ z. absurd (omega arith)) inner-end)
       ∙ ap (λ (x : List ℕ). containerStep o x at) (sym (left place bs) ∙ part)
-      ∙ sym (container-here (w .found) at (c .kind) (w .kind-is) (length (c .body)) (sym count) _ refl)
+      ∙ sym (container-here (w .found) at (c .word) (w .kind-is) (length (c .body)) (sym count) _ refl)
 
   -- At the header.
   pub header-turn : (v : ℕ) → v ≡ word o 4 bs → 8 ≤ length bs → stepIn o bs (here 0 0 0 0 End) ≡ here 8 8 0 1 (Row 1 0 8 0 v 0)

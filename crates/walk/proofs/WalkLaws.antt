@@ -19,7 +19,7 @@ use Rattle.theory.specs.Layout.{total, childRows, rows, row, box}
 use Rattle.theory.proofs.StructureLaws.{length-structure}
 use Rattle.note.specs.Limits.{fileLimit}
 use Rattle.note.specs.Answers.{accepted, refused, counts, givenYield}
-use Rattle.note.specs.Records.{Record, Context, entry, event, none, behind, recordSize, recordBytes, recordsBytes}
+use Rattle.note.specs.Records.{Record, Context, entry, event, unseen, behind, recordSize, recordBytes, recordsBytes}
 use Rattle.note.specs.Events.{Container, containerBytes, containerSize, eventsBytes}
 use Rattle.note.specs.Files.{Parts, File, orderOf, versionOf, configurationOf, eventsOf, headerBytes, fileBytes, readFile}
 use Rattle.note.specs.Rows.{childOf, childrenOf, eventNode, nodesOf, rowsOf, rowNumbers, yieldGiven, yieldAt}
@@ -92,15 +92,15 @@ module _ (bs : List ℕ) (limit : length bs ≤ fileLimit) where
       λ z. subst (λ (m : ℕ). From (here end end parent m z) later) number-is (on z) in
       first _ _ _ _
       (record-turn o bs limit place end parent n y c r (recordsBytes o rs) (v .0) mine one low (omega (arith, sizes, ends)) within) refl
-      (children-yield (behind c (r .kind)) rs (v .1) _ _ _ _ _ rest later
+      (children-yield (behind c (r .word)) rs (v .1) _ _ _ _ _ rest later
       others (omega (arith, sizes, ends)) (omega arith) (omega arith) within on-later)
 
   -- A container: its row, its children's, and then those of the nodes behind it.
   container-yields : (inner : Context) (c : Container)
-      → Fits 4 (c .kind) → Fits 4 (length (recordsBytes o (c .body))) → ValidRecords o inner (c .body)
+      → Fits 4 (c .word) → Fits 4 (length (recordsBytes o (c .body))) → ValidRecords o inner (c .body)
       → (place end parent n : ℕ) (y : WalkerYield) (rest : List ℕ) (k a b : ℕ) (ns : List Layout.Node)
       → drop place bs ≡ containerBytes o c ++ rest → 8 ≤ place → n ≤ place → end ≤ place → place + containerSize o c ≤ length bs
-      → containerRow place (containerSize o c) (c .kind) (length (c .body)) ≡ Row k place (containerSize o c) 0 a b
+      → containerRow place (containerSize o c) (c .word) (length (c .body)) ≡ Row k place (containerSize o c) 0 a b
       → (let next = place + containerSize o c in let count = n + 1 + length (c .body) in
       (z : WalkerYield) → From (here next next (n + 1) count z) (rows (count + 1) next ns))
       → From (here place end parent n y) (rows (n + 1) place (box k a b (childrenOf o (c .body)) ∷ ns))
@@ -134,7 +134,7 @@ module _ (bs : List ℕ) (limit : length bs ≤ fileLimit) where
       omega (arith, length-append (containerBytes o e) (eventsBytes o es), size) in
       let others : drop (place + containerSize o e) bs ≡ eventsBytes o es =
       behind-of bs place (containerSize o e) (containerBytes o e) (eventsBytes o es) part size in
-      container-yields (event none) e (v .0 .word-fits) (v .0 .length-fits) (v .0 .records-valid)
+      container-yields (event unseen) e (v .0 .word-fits) (v .0 .length-fits) (v .0 .records-valid)
       place end parent n y (eventsBytes o es) _ _ _ (map (eventNode o) es)
       part (omega arith) low before (omega (arith, ends, sizes)) (rw (ne-eqb place 8 (λ z. absurd (omega arith))))
       (λ z. events-yield es (v .1) _ _ _ _ z others (omega (arith, ends, sizes)) (omega arith) (omega (arith, few o (e .body))) (omega arith))
@@ -155,7 +155,7 @@ parts-yield bs p h e =
     let behind8 : drop 8 bs ≡ containerBytes o c ++ eventsBytes o es = ap (drop 8) is ∙ drop-at (headerBytes o (versionOf f)) _ 8 header in
     let others : drop (8 + containerSize o c) bs ≡ eventsBytes o es =
     behind-of bs 8 (containerSize o c) (containerBytes o c) (eventsBytes o es) behind8 (container-size o c) in
-    let kind-fits : Fits 4 (c .kind) = rw (v .configuration-word) (omega arith) in
+    let kind-fits : Fits 4 (c .word) = rw (v .configuration-word) (omega arith) in
     rw e (first bs limit _ _ _ _ (header-turn o bs limit (versionOf f) (sym (version-is bs f h e)) (omega (arith, sized))) refl
     (container-yields bs limit entry c kind-fits (v .configuration-fits) (v .entries-valid) _ _ _ _ _ (eventsBytes o es) _ _ _ (map (eventNode o) es)
     behind8 (omega arith) (omega arith) (omega arith) (omega (arith, sized)) refl

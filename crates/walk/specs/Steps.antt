@@ -1,5 +1,6 @@
--- Document 01, 'Rows and calls', Walker: where a walk stands, what it yields there, and where it goes. Defined for any numbers; that
--- from opening on the yields are the table's rows, and then the end, is proved (proofs/WalkLaws.antt).
+-- Where a walk stands, what it yields there, and where it goes, as one step over plain numbers. Opening has read the whole file, so a step moves
+-- on by length words and tests no rule again; it is defined for any numbers all the same. That from opening on the yields are the table's rows,
+-- and then the end, is proved (proofs/WalkLaws.antt).
 use Prim.Native.Nat.{ℕ, zero, suc, _+_, _-_, _%_}
 use mathlib.Core.Bool.{Bool, cond, _&&_}
 use mathlib.Core.Path.{_≡_}
@@ -17,7 +18,7 @@ use Rattle.note.specs.declared.WalkerYield.the-variants.{Row, End, Refused}
 use Rattle.rows.specs.Values.{hasValues, valuesOf}
 use Rattle.walk.specs.declared.Spot.{Spot}
 
--- A structure's two words stand at the front of the bytes, and its length lies within them.
+-- FORMAT 2.3: a structure's two words stand at the front of the bytes, and its length lies within them.
 unfoldable pub stands : Order → List ℕ → Bool
 stands o bs = leb 8 (length bs) && leb (8 + word o 4 bs) (length bs)
 
@@ -29,7 +30,7 @@ countFrom o (suc f) bs = cond (stands o bs) (suc (countFrom o f (drop (8 + word 
 unfoldable pub countIn : Order → List ℕ → ℕ
 countIn o bs = countFrom o (length bs) bs
 
--- "Configuration .. at byte 8": its row and an event's.
+-- FORMAT 7.2: a container's row: at byte 8 the configuration's, anywhere else an event's.
 unfoldable pub containerRow : ℕ → ℕ → ℕ → ℕ → WalkerYield
 containerRow place whole w count = cond (eqb place 8) (Row 2 8 whole 0 count 0) (Row 5 place whole 0 (w % 65536) count)
 
@@ -84,7 +85,7 @@ containerStep o bs at =
 unfoldable pub usable : List ℕ → Spot → Bool
 usable bs at = leb (length bs) fileLimit && (leb (at .rows) fileLimit && (leb (at .end) (length bs) && leb (at .place) (length bs)))
 
--- One step, over a file whose words are of that order. "Over a refused file it yields that refusal each time."
+-- FORMAT 8.3: one step, over a file whose words are of that order. Of a file that was refused every step gives the refusal.
 unfoldable pub stepIn : Order → List ℕ → Spot → Spot
 stepIn o bs at =
     cond (eqb (at .number) 0)
@@ -99,7 +100,7 @@ stepIn o bs at =
 unfoldable pub stepOf : List ℕ → Spot → Spot
 stepOf bs at = stepIn (orderOf bs) bs at
 
--- Where a walk starts, and its first yield: "walkers come only from opening a file and from yields".
+-- FORMAT 8.3: where a walk starts, by what reading the file gave; and its first yield. A caller has no other way to begin one.
 abbrev pub startGiven : Res File → Spot
 startGiven (ok f) = record { number = 0; fault = 0; place = 0; end = 0; parent = 0; rows = 0; last = End }
 startGiven (bad c p) = record { number = c; fault = p; place = 0; end = 0; parent = 0; rows = 0; last = End }
@@ -119,7 +120,7 @@ stepsFrom bs (suc k) at = stepsFrom bs k (stepOf bs at)
 abbrev pub rowYield : Layout.Row → WalkerYield
 rowYield r = Row (r .kind) (r .start) (r .whole) (r .parent) (r .one) (r .two)
 
--- What a walk yields from a spot on: these rows, the one at hand first, and then the end, again and again.
+-- FORMAT 8.3: what a walk yields from a spot on: these rows, the one at hand first, and then nothing but the end.
 unfoldable pub Yields : List ℕ → Spot → List Layout.Row → Type 0
 Yields bs at [] = (k : ℕ) → stepsFrom bs k at .last ≡ End
 Yields bs at (r ∷ rs) = (at .last ≡ rowYield r) × Yields bs (stepOf bs at) rs

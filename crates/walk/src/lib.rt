@@ -1,9 +1,15 @@
 // A walk over a file by steps: where it stands is plain numbers beside the lent slice, and any numbers are taken. The file is checked
 // where a walk starts; a step then reads its own structure, and a container's passes over its children by their length words.
 use containers::Count;
+use containers::HEADER;
 use containers::check;
+use note::CONFIGURATION_ROW;
+use note::EVENT_ROW;
+use note::HEADER_ROW;
 use note::WalkerYield;
 use record::FILE_LIMIT;
+use record::FRONT;
+use rows::HEADER_BYTES;
 use rows::has_values;
 use rows::values_in;
 use words::is_big;
@@ -30,10 +36,10 @@ pub struct Spot {
 fn stands(part: &[u8], big: bool) -> bool
     ensures { λ r. ⌜ r ≡ stands (orderFrom big) (now (part .entry)) ⌝ }
 {
-    if part.len() < 8 {
+    if part.len() < FRONT {
         return false;
     }
-    8 + word_at(part, 4, big) as usize <= part.len()
+    FRONT + word_at(part, 4, big) as usize <= part.len()
 }
 
 // How many structures stand back to back in a part, by their length words.
@@ -42,8 +48,8 @@ fn count_in(part: &[u8], big: bool) -> usize
 {
     let mut rest = part;
     let mut count = 0;
-    while 8 <= rest.len() {
-        let size = 8 + word_at(rest, 4, big) as usize;
+    while FRONT <= rest.len() {
+        let size = FRONT + word_at(rest, 4, big) as usize;
         if rest.len() < size {
             return count;
         }
@@ -58,10 +64,10 @@ fn container_row(place: usize, whole: u32, word: u32, count: u32) -> WalkerYield
     requires { ⌜ place ≤ 0x1000000 ⌝ }
     ensures { λ r. ⌜ r ≡ containerRow place whole word count ⌝ }
 {
-    if place == 8 {
+    if place == HEADER {
         return WalkerYield::Row {
-            kind: 2,
-            start: 8,
+            kind: CONFIGURATION_ROW,
+            start: HEADER_BYTES,
             whole,
             parent: 0,
             one: count,
@@ -69,7 +75,7 @@ fn container_row(place: usize, whole: u32, word: u32, count: u32) -> WalkerYield
         };
     }
     WalkerYield::Row {
-        kind: 5,
+        kind: EVENT_ROW,
         start: place as u32,
         whole,
         parent: 0,
@@ -98,20 +104,20 @@ fn header_step(file: &[u8], at: Spot, big: bool) -> Spot
     requires { ⌜ at .rows ≤ 0x1000000 ⌝ }
     ensures { λ r. ⌜ r ≡ headerStep (orderFrom big) (now (file .entry)) at ⌝ }
 {
-    if file.len() < 8 {
+    if file.len() < HEADER {
         return stayed(at, WalkerYield::End);
     }
     Spot {
         number: at.number,
         fault: at.fault,
-        place: 8,
-        end: 8,
+        place: HEADER,
+        end: HEADER,
         parent: 0,
         rows: at.rows + 1,
         last: WalkerYield::Row {
-            kind: 1,
+            kind: HEADER_ROW,
             start: 0,
-            whole: 8,
+            whole: HEADER_BYTES,
             parent: 0,
             one: word_at(file, 4, big),
             two: 0,
@@ -127,12 +133,12 @@ fn record_step(part: &[u8], at: Spot, big: bool) -> Spot
     if !stands(part, big) {
         return stayed(at, WalkerYield::End);
     }
-    let kind = word_at(part, 0, big);
-    let size = 8 + word_at(part, 4, big) as usize;
-    if !has_values(kind, &part[8..size], big) {
+    let word = word_at(part, 0, big);
+    let size = FRONT + word_at(part, 4, big) as usize;
+    if !has_values(word, &part[FRONT..size], big) {
         return stayed(at, WalkerYield::End);
     }
-    let v = values_in(kind, &part[8..size], big);
+    let v = values_in(word, &part[FRONT..size], big);
     Spot {
         number: at.number,
         fault: at.fault,
@@ -159,13 +165,13 @@ fn container_step(part: &[u8], at: Spot, big: bool) -> Spot
     if !stands(part, big) {
         return stayed(at, WalkerYield::End);
     }
-    let size = 8 + word_at(part, 4, big) as usize;
-    let count = count_in(&part[8..size], big);
+    let size = FRONT + word_at(part, 4, big) as usize;
+    let count = count_in(&part[FRONT..size], big);
     let row = container_row(at.place, size as u32, word_at(part, 0, big), count as u32);
     Spot {
         number: at.number,
         fault: at.fault,
-        place: at.place + 8,
+        place: at.place + FRONT,
         end: at.place + size,
         parent: at.rows + 1,
         rows: at.rows + 1,

@@ -15,7 +15,7 @@ use Rattle.theory.proofs.TestLaws.{first-at, holds-at, equal-passed, most-passe
 use Rattle.theory.proofs.WordLaws.{length-puts}
 use Rattle.note.specs.Words.{words, greatestSigned}
 use Rattle.note.specs.History.{Section, History, isWidth, sectionBytes, sectionFault, historyBytes, historyFault}
-use Rattle.note.specs.Writers.{historyWritten}
+use Rattle.note.specs.Writers.{historyDraft}
 use Rattle.stores.proofs.StoreLaws.{in-a-row}
 use Rattle.stores.proofs.StructureLaws.{record-length, two-words}
 
@@ -86,18 +86,18 @@ module _ (o : Order) (h : History) where
   both-size : length (sectionBytes o (h .veto) ++ sectionBytes o (h .trigger)) ≡ (8 + partSize (h .veto)) + (8 + partSize (h .trigger))
   both-size = simp (length-append, section-size o) (omega arith)
 
-  pub history-size : length (historyWritten o h .bytes) ≡ 24 + partsSize h
-  unfolding historyWritten historyBytes
+  pub history-size : length (historyDraft o h .bytes) ≡ 24 + partsSize h
+  unfolding historyDraft historyBytes
   history-size =
-      omega (arith, both-size, record-length o (record { kind = 0x21; body = sectionBytes o (h .veto) ++ sectionBytes o (h .trigger) }))
+      omega (arith, both-size, record-length o (record { word = 0x21; body = sectionBytes o (h .veto) ++ sectionBytes o (h .trigger) }))
 
   -- Kind and length and the two sections stored in a row are the history stored.
   pub history-stored : (l : List ℕ) (n : ℕ) → n ≡ (8 + partSize (h .veto)) + (8 + partSize (h .trigger)) → {begun half full : List ℕ}
       → begun ≡ sets l 0 (words o (0x21 ∷ n ∷ []))
       → half ≡ sets begun 8 (sectionBytes o (h .veto))
       → full ≡ sets half (8 + (8 + partSize (h .veto))) (sectionBytes o (h .trigger))
-      → full ≡ sets l 0 (historyWritten o h .bytes)
-  unfolding historyWritten historyBytes
+      → full ≡ sets l 0 (historyDraft o h .bytes)
+  unfolding historyDraft historyBytes
   history-stored l n e first second third =
       let head : List ℕ = words o (0x21 ∷ n ∷ []) in
       let veto : List ℕ = sectionBytes o (h .veto) in

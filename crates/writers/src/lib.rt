@@ -31,9 +31,9 @@ ghost use Rattle.theory.specs.Words.{orderFrom};
 ghost use Rattle.note.specs.Words.{unsigned};
 ghost use Rattle.note.specs.Gps.{bcd};
 ghost use Rattle.note.specs.History.{sectionBytes};
-ghost use Rattle.note.specs.Writers.{phononWritten, chargeWritten, administrativeWritten, traceWritten, historyWritten, gpsWritten, triggerWritten, tlbWritten};
-ghost use Rattle.stores.specs.Structures.{structureWritten};
-ghost use Rattle.stores.specs.Writes.{Wrote};
+ghost use Rattle.note.specs.Writers.{phononDraft, chargeDraft, administrativeDraft, traceDraft, historyDraft, gpsDraft, triggerDraft, tlbDraft};
+ghost use Rattle.stores.specs.Structures.{structureDraft};
+ghost use Rattle.stores.specs.Writes.{WriterDid};
 
 // ---- entries, whose fields are all signed
 
@@ -54,21 +54,20 @@ fn write_entry(
     out: &mut [u8],
     place: usize,
     fault: u32,
-    kind: u32,
+    word: u32,
     fields: &[i32],
     big: bool,
 ) -> WriterAnswer
     requires { ⌜ length (now fields) ≤ 11 ⌝ }
-    ensures { λ r. ⌜ Wrote (now (out .entry)) place (structureWritten (orderFrom big) fault kind (map unsigned (now (fields .entry))) [])
+    ensures { λ r. ⌜ WriterDid (now (out .entry)) place (structureDraft (orderFrom big) fault word (map unsigned (now (fields .entry))) [])
         r (now (out .exit)) ⌝ }
 {
     let mut ws = [0u32; 11];
     put_signed(&mut ws, fields);
-    write_structure(out, place, fault, kind, &ws[..fields.len()], &[], big)
+    write_structure(out, place, fault, word, &ws[..fields.len()], &[], big)
 }
 
-/// Writes a phonon entry: detector code, tower, gain x100, QET bias x100, SQUID bias x100, lockpoint x100, RTF offset, variable gain,
-/// delta t, T0, trace length.
+/// Writes a phonon entry from its eleven words, in order; gain, both biases and lockpoint are times 100 (FORMAT 4.1).
 pub fn write_phonon(
     out: &mut [u8],
     place: usize,
@@ -85,7 +84,7 @@ pub fn write_phonon(
     trace_length: i32,
     big: bool,
 ) -> WriterAnswer
-    ensures { λ r. ⌜ Wrote (now (out .entry)) place (phononWritten (orderFrom big) (record {
+    ensures { λ r. ⌜ WriterDid (now (out .entry)) place (phononDraft (orderFrom big) (record {
       code = code;
       tower = tower;
       gain = gain;
@@ -121,7 +120,7 @@ pub fn write_phonon(
     )
 }
 
-/// Writes a charge entry: detector code, tower, gain x100, bias, RTF offset, delta t, T0, trace length.
+/// Writes a charge entry from its eight words, in order; the gain is times 100 (FORMAT 4.2).
 pub fn write_charge(
     out: &mut [u8],
     place: usize,
@@ -135,7 +134,7 @@ pub fn write_charge(
     trace_length: i32,
     big: bool,
 ) -> WriterAnswer
-    ensures { λ r. ⌜ Wrote (now (out .entry)) place (chargeWritten (orderFrom big) (record {
+    ensures { λ r. ⌜ WriterDid (now (out .entry)) place (chargeDraft (orderFrom big) (record {
       code = code;
       tower = tower;
       gain = gain;
@@ -167,7 +166,8 @@ pub fn write_charge(
 
 // ---- administrative
 
-/// Writes an administrative record: series LLYYMMDD, series HHMM, event number, event time, time since last event, live time.
+/// Writes an administrative record from its six words, in order: the series by its digits, LLYYMMDD and HHMM; since and live in milliseconds
+/// (FORMAT 5.1).
 pub fn write_administrative(
     out: &mut [u8],
     place: usize,
@@ -179,7 +179,7 @@ pub fn write_administrative(
     live: u32,
     big: bool,
 ) -> WriterAnswer
-    ensures { λ r. ⌜ Wrote (now (out .entry)) place (administrativeWritten (orderFrom big) (record {
+    ensures { λ r. ⌜ WriterDid (now (out .entry)) place (administrativeDraft (orderFrom big) (record {
       date = date;
       clock = clock;
       number = number;
@@ -214,7 +214,7 @@ pub fn write_trace(
     samples: &[u8],
     big: bool,
 ) -> WriterAnswer
-    ensures { λ r. ⌜ Wrote (now (out .entry)) place (traceWritten (orderFrom big) (record {
+    ensures { λ r. ⌜ WriterDid (now (out .entry)) place (traceDraft (orderFrom big) (record {
       address = address;
       channel = channel;
       code = code;
@@ -303,7 +303,7 @@ fn put_history(
     requires { ⌜ (24 + ((length (now «veto_times») + length (now «veto_masks»))
         + (length (now «trigger_times») + length (now «trigger_masks»))) ≤ length (now part))
         × (length (now part) ≤ 0xFFFFFFFF) ⌝ }
-    ensures { λ _. ⌜ now (part .exit) ≡ sets (now (part .entry)) 0 (historyWritten (orderFrom big) (record {
+    ensures { λ _. ⌜ now (part .exit) ≡ sets (now (part .entry)) 0 (historyDraft (orderFrom big) (record {
       veto = record {
         count = «veto_count»;
         times = now («veto_times» .entry);
@@ -347,7 +347,7 @@ pub fn write_history(
     trigger_masks: &[u8],
     big: bool,
 ) -> WriterAnswer
-    ensures { λ r. ⌜ Wrote (now (out .entry)) place (historyWritten (orderFrom big) (record {
+    ensures { λ r. ⌜ WriterDid (now (out .entry)) place (historyDraft (orderFrom big) (record {
       veto = record {
         count = «veto_count»;
         times = now («veto_times» .entry);
@@ -432,7 +432,7 @@ pub fn write_gps(
     tenths: u32,
     big: bool,
 ) -> WriterAnswer
-    ensures { λ r. ⌜ Wrote (now (out .entry)) place (gpsWritten (orderFrom big) (record {
+    ensures { λ r. ⌜ WriterDid (now (out .entry)) place (gpsDraft (orderFrom big) (record {
       year = year;
       day = day;
       status = status;
@@ -473,7 +473,7 @@ pub fn write_trigger(
     mask6: u32,
     big: bool,
 ) -> WriterAnswer
-    ensures { λ r. ⌜ Wrote (now (out .entry)) place (triggerWritten (orderFrom big) (record {
+    ensures { λ r. ⌜ WriterDid (now (out .entry)) place (triggerDraft (orderFrom big) (record {
       mask1 = mask1;
       mask2 = mask2;
       mask3 = mask3;
@@ -505,7 +505,7 @@ pub fn write_tlb(
     tower6: u32,
     big: bool,
 ) -> WriterAnswer
-    ensures { λ r. ⌜ Wrote (now (out .entry)) place (tlbWritten (orderFrom big) (record {
+    ensures { λ r. ⌜ WriterDid (now (out .entry)) place (tlbDraft (orderFrom big) (record {
       tower1 = tower1;
       tower2 = tower2;
       tower3 = tower3;

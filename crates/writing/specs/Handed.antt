@@ -1,4 +1,4 @@
--- What a C caller hands to a writer: its fields, as numbers of a lent array.
+-- What a C caller hands to a writer: its fields, as numbers of a lent array, in the order of their words; an index that the array hasn't is 0.
 use Prim.Native.Nat.{ℕ}
 use mathlib.Core.List.{List}
 use lib.IntN.{ℤ, pos}
@@ -9,12 +9,12 @@ use Rattle.note.specs.Administrative.{Administrative}
 use Rattle.note.specs.Gps.{Gps}
 use Rattle.note.specs.Trigger.{Trigger}
 use Rattle.note.specs.Tlb.{Tlb}
-use Rattle.note.specs.Writers.{Written, recordWrote, recordOutput}
+use Rattle.note.specs.Writers.{Draft, recordNext, recordOutput}
 use Rattle.telling.specs.Told.{Before, After, Told}
 
--- What a caller is told of a record or an entry written from a place on, and the output afterwards.
-abbrev pub RecordTold : List ℕ → ℕ → Written → Before → After → List ℕ → Type 0
-RecordTold out place w = Told (recordWrote out place w) (recordOutput out place w)
+-- FORMAT 9.2: what a caller is told of a record or an entry written from a place on, and the output afterwards.
+abbrev pub RecordTold : List ℕ → ℕ → Draft → Before → After → List ℕ → Type 0
+RecordTold out place w = Told (recordNext out place w) (recordOutput out place w)
 
 -- The fields of an array, in the order of their words.
 abbrev signedAt : List ℤ → ℕ → ℤ

@@ -1,7 +1,7 @@
 // The writers and the closings for C: numbers, lent arrays and buffers alone. include/dwejrasq.h documents each.
 use telling::told;
 ghost use Rattle.theory.specs.declared.Order.the-variants.{Little};
-ghost use Rattle.note.specs.Writers.{headerWrote, headerOutput, configurationClosed, configurationOutput, eventClosed, eventOutput, phononWritten, chargeWritten, administrativeWritten, traceWritten, historyWritten, gpsWritten, triggerWritten, tlbWritten};
+ghost use Rattle.note.specs.Writers.{headerNext, headerOutput, configurationClosed, configurationOutput, eventClosed, eventOutput, phononDraft, chargeDraft, administrativeDraft, traceDraft, historyDraft, gpsDraft, triggerDraft, tlbDraft};
 ghost use Rattle.telling.specs.Told.{Told};
 ghost use Rattle.writing.specs.Handed.{RecordTold, phononFrom, chargeFrom, administrativeFrom, gpsFrom, triggerFrom, tlbFrom};
 
@@ -14,7 +14,7 @@ pub extern "C" fn dwj_write_phonon(
     next: &mut u64,
     refusal: &mut u64,
 ) -> u32
-    ensures { λ r. ⌜ RecordTold (now (out .entry)) place (phononWritten Little (phononFrom (now (fields .entry))))
+    ensures { λ r. ⌜ RecordTold (now (out .entry)) place (phononDraft Little (phononFrom (now (fields .entry))))
         (record { next = now (next .entry); refusal = now (refusal .entry) })
         (record { number = r; next = now (next .exit); refusal = now (refusal .exit) }) (now (out .exit)) ⌝ }
 {
@@ -45,7 +45,7 @@ pub extern "C" fn dwj_write_charge(
     next: &mut u64,
     refusal: &mut u64,
 ) -> u32
-    ensures { λ r. ⌜ RecordTold (now (out .entry)) place (chargeWritten Little (chargeFrom (now (fields .entry))))
+    ensures { λ r. ⌜ RecordTold (now (out .entry)) place (chargeDraft Little (chargeFrom (now (fields .entry))))
         (record { next = now (next .entry); refusal = now (refusal .entry) })
         (record { number = r; next = now (next .exit); refusal = now (refusal .exit) }) (now (out .exit)) ⌝ }
 {
@@ -73,7 +73,7 @@ pub extern "C" fn dwj_write_administrative(
     next: &mut u64,
     refusal: &mut u64,
 ) -> u32
-    ensures { λ r. ⌜ RecordTold (now (out .entry)) place (administrativeWritten Little (administrativeFrom (now (fields .entry))))
+    ensures { λ r. ⌜ RecordTold (now (out .entry)) place (administrativeDraft Little (administrativeFrom (now (fields .entry))))
         (record { next = now (next .entry); refusal = now (refusal .entry) })
         (record { number = r; next = now (next .exit); refusal = now (refusal .exit) }) (now (out .exit)) ⌝ }
 {
@@ -105,7 +105,7 @@ pub extern "C" fn dwj_write_trace(
     next: &mut u64,
     refusal: &mut u64,
 ) -> u32
-    ensures { λ r. ⌜ RecordTold (now (out .entry)) place (traceWritten Little (record {
+    ensures { λ r. ⌜ RecordTold (now (out .entry)) place (traceDraft Little (record {
       address = address;
       channel = channel;
       code = code;
@@ -137,7 +137,7 @@ pub extern "C" fn dwj_write_history(
     next: &mut u64,
     refusal: &mut u64,
 ) -> u32
-    ensures { λ r. ⌜ RecordTold (now (out .entry)) place (historyWritten Little (record {
+    ensures { λ r. ⌜ RecordTold (now (out .entry)) place (historyDraft Little (record {
       veto = record {
         count = «veto_count»;
         times = now («veto_times» .entry);
@@ -178,7 +178,7 @@ pub extern "C" fn dwj_write_gps(
     next: &mut u64,
     refusal: &mut u64,
 ) -> u32
-    ensures { λ r. ⌜ RecordTold (now (out .entry)) place (gpsWritten Little (gpsFrom (now (fields .entry))))
+    ensures { λ r. ⌜ RecordTold (now (out .entry)) place (gpsDraft Little (gpsFrom (now (fields .entry))))
         (record { next = now (next .entry); refusal = now (refusal .entry) })
         (record { number = r; next = now (next .exit); refusal = now (refusal .exit) }) (now (out .exit)) ⌝ }
 {
@@ -205,7 +205,7 @@ pub extern "C" fn dwj_write_trigger(
     next: &mut u64,
     refusal: &mut u64,
 ) -> u32
-    ensures { λ r. ⌜ RecordTold (now (out .entry)) place (triggerWritten Little (triggerFrom (now (fields .entry))))
+    ensures { λ r. ⌜ RecordTold (now (out .entry)) place (triggerDraft Little (triggerFrom (now (fields .entry))))
         (record { next = now (next .entry); refusal = now (refusal .entry) })
         (record { number = r; next = now (next .exit); refusal = now (refusal .exit) }) (now (out .exit)) ⌝ }
 {
@@ -231,7 +231,7 @@ pub extern "C" fn dwj_write_tlb(
     next: &mut u64,
     refusal: &mut u64,
 ) -> u32
-    ensures { λ r. ⌜ RecordTold (now (out .entry)) place (tlbWritten Little (tlbFrom (now (fields .entry))))
+    ensures { λ r. ⌜ RecordTold (now (out .entry)) place (tlbDraft Little (tlbFrom (now (fields .entry))))
         (record { next = now (next .entry); refusal = now (refusal .entry) })
         (record { number = r; next = now (next .exit); refusal = now (refusal .exit) }) (now (out .exit)) ⌝ }
 {
@@ -257,7 +257,7 @@ pub extern "C" fn dwj_write_header(
     next: &mut u64,
     refusal: &mut u64,
 ) -> u32
-    ensures { λ r. ⌜ Told (headerWrote (now (out .entry))) (headerOutput Little (now (out .entry)) major minor)
+    ensures { λ r. ⌜ Told (headerNext (now (out .entry))) (headerOutput Little (now (out .entry)) major minor)
         (record { next = now (next .entry); refusal = now (refusal .entry) })
         (record { number = r; next = now (next .exit); refusal = now (refusal .exit) }) (now (out .exit)) ⌝ }
 {
@@ -290,15 +290,15 @@ pub extern "C" fn dwj_close_event(
     end: usize,
     class: u32,
     category: u32,
-    kind: u32,
+    event_type: u32,
     next: &mut u64,
     refusal: &mut u64,
 ) -> u32
-    ensures { λ r. ⌜ Told (eventClosed Little (now (out .entry)) place end class category kind)
-        (eventOutput Little (now (out .entry)) place end class category kind)
+    ensures { λ r. ⌜ Told (eventClosed Little (now (out .entry)) place end class category «event_type»)
+        (eventOutput Little (now (out .entry)) place end class category «event_type»)
         (record { next = now (next .entry); refusal = now (refusal .entry) })
         (record { number = r; next = now (next .exit); refusal = now (refusal .exit) }) (now (out .exit)) ⌝ }
 {
-    let answer = dwejrasq::close_event(out, place, end, class, category, kind);
+    let answer = dwejrasq::close_event(out, place, end, class, category, event_type);
     told(answer, next, refusal)
 }

@@ -12,10 +12,10 @@ use Rattle.channels.proofs.channel_called.Statement.{statement}
 use Rattle.channels.proofs.channel_called.Tie as tie
 
 abbrev Inv-loop : tie.InvT-loop
-Inv-loop kind name channel₀ channel = (channel ≤ 12) × ((i : ℕ) → i < channel → hasName kind name i ≡ false)
+Inv-loop type name channel₀ channel = (channel ≤ 12) × ((i : ℕ) → i < channel → hasName type name i ≡ false)
 
 abbrev μ-loop : tie.MeasureT-loop
-μ-loop kind name channel₀ channel = 12 - channel
+μ-loop type name channel₀ channel = 12 - channel
 
 loop-holds : tie.Need-loop-holds Inv-loop μ-loop
 loop-holds c = (omega arith, below-none _)
@@ -30,7 +30,7 @@ returns : tie.Need-returns Inv-loop μ-loop
 returns c =
     let at = c .before .before .before .before in
     let a = at .before .before .args in
-    search-found (a .kind) (at .loop .channel) (now (a .name)) (cc)
+    search-found (a .detector-type) (at .loop .channel) (now (a .name)) (cc)
 
 add-channel : tie.Need-add-channel Inv-loop μ-loop
 add-channel c = search needs
@@ -46,7 +46,7 @@ returns-2 c =
     let a = c .before .before .before .args in
     let l = c .before .loop in
     let e : l .channel ≡ 12 = omega arith in
-    e ∙ search-ended (a .kind) (now (a .name)) (λ i h. l .inv .1 i (omega arith))
+    e ∙ search-ended (a .detector-type) (now (a .name)) (λ i h. l .inv .1 i (omega arith))
 
 pub channel-called-spec : {M : Type 1} → statement M
 channel-called-spec =

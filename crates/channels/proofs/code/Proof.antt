@@ -16,20 +16,20 @@ channel-called-requires c κs = search needs
 returns-2 : tie.Need-returns-2
 returns-2 c = no-channel _ _ _ (c .before .channel-called .ensures) _ (c .if2 .taken)
 
-kind-small : (c : tie.Else2) → c .before .before .before .before .args .kind ≤ 11
-kind-small c = type-listed _ _ _ (c .before .channel-called .ensures) (c .if2 .left)
+type-small : (c : tie.Else2) → c .before .before .before .before .args .detector-type ≤ 11
+type-small c = type-listed _ _ _ (c .before .channel-called .ensures) (c .if2 .left)
 
 mul-t6 : tie.Need-mul-t6
-mul-t6 c = omega (arith, kind-small c)
+mul-t6 c = omega (arith, type-small c)
 
 mul-t7 : tie.Need-mul-t7
 mul-t7 c = search needs
 
 add-t8 : tie.Need-add-t8
-add-t8 c = omega (arith, kind-small c)
+add-t8 c = omega (arith, type-small c)
 
 add-t9 : tie.Need-add-t9
-add-t9 c = omega (arith, kind-small c)
+add-t9 c = omega (arith, type-small c)
 
 returns-3 : tie.Need-returns-3
 returns-3 c =

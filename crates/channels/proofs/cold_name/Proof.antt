@@ -14,7 +14,7 @@ returns : tie.Need-returns
 unfolding computing
 returns c =
     let a = c .before .before .args in
-    c .look-up .ensures ∙ cold-table (a .kind) (a .channel)
+    c .look-up .ensures ∙ cold-table (a .detector-type) (a .channel)
 
 pub cold-name-spec : {M : Type 1} → statement M
 cold-name-spec = tie.close (tie.spec look-up-requires returns)

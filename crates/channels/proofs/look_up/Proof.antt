@@ -68,7 +68,7 @@ start c = c .before .before .before .before .before .before
 returns-3 : tie.Need-returns-3
 returns-3 c =
     let a = start (c .before .before .before .before .before) .args in
-    cc (in-table (now (a .table)) (a .kind) (a .channel) (omega arith) (omega arith))
+    cc (in-table (now (a .table)) (a .detector-type) (a .channel) (omega arith) (omega arith))
 
 pub look-up-spec : {M : Type 1} → statement M
 look-up-spec =

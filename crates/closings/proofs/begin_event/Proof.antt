@@ -29,7 +29,7 @@ returns c =
     let a = s .args in
     c .before .before .put-head .ensures
     ∙ ap (λ (w : ℕ). sets (now (a .out)) (a .place) (closingBytes (orderFrom (a .big)) w (a .place) (a .end)))
-    (c .before .before .before .event-word .ensures ∙ word-whole (a .class) (a .category) (a .kind) (s .pre .1))
+    (c .before .before .before .event-word .ensures ∙ word-whole (a .class) (a .category) (a .event-type) (s .pre .1))
 
 pub begin-event-spec : {M : Type 1} → statement M
 begin-event-spec = tie.close (tie.spec event-word-requires put-head-requires same-length returns)

@@ -13,8 +13,8 @@ use Rattle.closings.proofs.above.Reads as above-reads
 -- What the three masks leave.
 masked : (s : tie.Start)
     → (bitAnd (s .args .class) 15 ≡ s .args .class % 16) × (bitAnd (s .args .category) 15 ≡ s .args .category % 16)
-    × (bitAnd (s .args .kind) 255 ≡ s .args .kind % 256)
-masked s = (and-mask (s .args .class) 4, and-mask (s .args .category) 4, and-mask (s .args .kind) 8)
+    × (bitAnd (s .args .event-type) 255 ≡ s .args .event-type % 256)
+masked s = (and-mask (s .args .class) 4, and-mask (s .args .category) 4, and-mask (s .args .event-type) 8)
 
 above-requires : tie.Need-above-requires
 above-requires c κs = (omega arith, omega arith, omega (arith, masked c))

@@ -12,7 +12,7 @@ use Rattle.theory.proofs.WordLaws.{length-puts}
 use Rattle.note.specs.Words.{words}
 use Rattle.note.specs.Files.{fileMark, versionWord, headerBytes}
 use Rattle.note.proofs.FileBytes.{header-bytes}
-use Rattle.note.specs.Writers.{Written, headerWrote, headerOutput, recordWrote, recordOutput}
+use Rattle.note.specs.Writers.{Draft, headerNext, headerOutput, recordNext, recordOutput}
 use Rattle.stores.proofs.WriterLaws.{Admitted, refuses, has-room, lays}
 use borrow.Author.Needs.{needs}
 use Rattle.closings.proofs.write_header.Statement.{statement}
@@ -31,7 +31,7 @@ abbrev start : tie.After-admitted → tie.Start
 start c = c .before .before
 
 -- The header, written as a record without a fault.
-abbrev header : tie.Start → Written
+abbrev header : tie.Start → Draft
 header s = record { fault = 0; bytes = headerBytes (orderFrom (s .args .big)) (versionWord (s .args .major) (s .args .minor)) }
 
 eight : (s : tie.Start) → length (header s .bytes) ≡ 8
@@ -66,7 +66,7 @@ put-words-requires c κs =
     omega (arith, room, eight (start (asked next)))
 
 returns : tie.Need-returns
-unfolding headerWrote headerOutput recordWrote recordOutput
+unfolding headerNext headerOutput recordNext recordOutput
 returns c =
     let a = c .before .before .before in
     let given = refuses (admitted a) (c .before .number .given .1) in
@@ -76,7 +76,7 @@ same-length : tie.Need-same-length
 same-length c = search needs
 
 returns-2 : tie.Need-returns-2
-unfolding headerWrote headerOutput recordWrote recordOutput
+unfolding headerNext headerOutput recordNext recordOutput
 returns-2 c =
     let stored = c .before .before in
     let version = stored .before .before in

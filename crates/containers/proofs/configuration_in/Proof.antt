@@ -11,7 +11,7 @@ use Rattle.theory.specs.declared.Order.{Order}
 use Rattle.theory.proofs.WordLaws.{Bytes-from}
 use Rattle.note.specs.Words.{word}
 use Rattle.note.specs.Records.{entry}
-use Rattle.note.specs.Files.{configurationHead, configurationLate, readConfiguration}
+use Rattle.note.specs.Files.{configurationRule, configurationLate, readConfiguration}
 use Rattle.record.specs.Steps.{contextOf}
 use Rattle.containers.proofs.ContainerLaws.{short, fault, long, Begun, contents-fault, held}
 use borrow.Author.Needs.{needs}
@@ -32,7 +32,7 @@ part c = now (start c .args .part)
 abbrev order : tie.Else2 → Order
 order c = orderFrom (start c .args .big)
 
-allowed : (c : tie.Else2) → configurationHead tt (word (order c) 0 (part c)) ≡ 0
+allowed : (c : tie.Else2) → configurationRule (word (order c) 0 (part c)) ≡ 0
 allowed c = rw (← c .before .word-at .ensures, eq-eqb _ _ (c .if2 .left))
 
 -- Where the length has passed too: a configuration begins here.
@@ -40,7 +40,7 @@ abbrev named : tie.Else3 → tie.Else2
 named c = c .before .before
 
 begun : (c : tie.Else3)
-    → Begun (order (named c)) configurationHead configurationLate (part (named c)) (named c .before .word-at .result) (c .before .word-at2 .result)
+    → Begun (order (named c)) configurationRule configurationLate (part (named c)) (named c .before .word-at .result) (c .before .word-at2 .result)
 begun c = record {
   bytes = Bytes-from (part (named c)) (λ i l. omega (arith, named c .before .before .before .shared-slice-known .given i));
   room = named c .before .before .if1 .left;
@@ -53,7 +53,7 @@ begun c = record {
 
 returns : tie.Need-returns
 unfolding readConfiguration
-returns c = let a = c .before .before .args in short _ configurationHead configurationLate entry (a .at) (now (a .part)) (c .if1 .taken)
+returns c = let a = c .before .before .args in short _ configurationRule configurationLate entry (a .at) (now (a .part)) (c .if1 .taken)
 
 word-at-requires : tie.Need-word-at-requires
 word-at-requires c κs = search needs
@@ -62,7 +62,7 @@ returns-2 : tie.Need-returns-2
 unfolding readConfiguration
 returns-2 c =
     let a = c .before .before .before .before .args in
-    fault _ configurationHead configurationLate entry (a .at) (now (a .part)) (c .before .before .if1 .left)
+    fault _ configurationRule configurationLate entry (a .at) (now (a .part)) (c .before .before .if1 .left)
     5 (rw (← c .before .word-at .ensures, ne-eqb _ _ (c .if2 .taken))) (λ e. omega arith)
 
 word-at-requires-2 : tie.Need-word-at-requires-2
@@ -75,7 +75,7 @@ returns-3 : tie.Need-returns-3
 unfolding readConfiguration
 returns-3 c =
     let two = c .before .before in
-    long _ configurationHead configurationLate entry (start two .args .at) (part two) (two .before .before .if1 .left) (allowed two)
+    long _ configurationRule configurationLate entry (start two .args .at) (part two) (two .before .before .if1 .left) (allowed two)
     _ (c .before .word-at2 .ensures) (c .if3 .taken)
 
 add-records-in : tie.Need-add-records-in

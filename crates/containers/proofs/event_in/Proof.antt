@@ -9,8 +9,8 @@ use Rattle.theory.specs.Words.{orderFrom}
 use Rattle.theory.specs.declared.Order.{Order}
 use Rattle.theory.proofs.WordLaws.{Bytes-from}
 use Rattle.note.specs.Words.{word}
-use Rattle.note.specs.Records.{Context, event, none}
-use Rattle.note.specs.Events.{eventWordRule, eventHead, eventLate, readEvent}
+use Rattle.note.specs.Records.{Context, event, unseen}
+use Rattle.note.specs.Events.{eventWordRule, eventLate, readEvent}
 use Rattle.containers.proofs.ContainerLaws.{short, fault, long, late-fault, Begun, contentsAnswer, contents-fault, held}
 use borrow.Author.Needs.{needs}
 use Rattle.containers.proofs.event_in.Statement.{statement}
@@ -32,7 +32,7 @@ part c = now (start c .args .part)
 abbrev order : tie.Else2 → Order
 order c = orderFrom (start c .args .big)
 
-allowed : (c : tie.Else2) → eventHead tt (word (order c) 0 (part c)) ≡ 0
+allowed : (c : tie.Else2) → eventWordRule (word (order c) 0 (part c)) ≡ 0
 allowed c = ap eventWordRule (sym (c .before .before .word-at .ensures)) ∙ sym (c .before .event-word-rule .ensures) ∙ c .if2 .left
 
 -- Where the length has passed too: an event begins here.
@@ -43,7 +43,7 @@ abbrev size : tie.Else4 → ℕ
 size c = c .before .before .word-at2 .result
 
 begun : (c : tie.Else4)
-    → Begun (order (named c)) eventHead eventLate (part (named c)) (named c .before .before .word-at .result) (size c)
+    → Begun (order (named c)) eventWordRule eventLate (part (named c)) (named c .before .before .word-at .result) (size c)
 begun c = record {
   bytes = Bytes-from (part (named c)) (λ i l. omega (arith, named c .before .before .before .before .shared-slice-known .given i));
   room = named c .before .before .before .if1 .left;
@@ -60,7 +60,7 @@ opened c = c .before .before .before
 
 contents : (c : tie.After-records-in)
     → (let n = named (opened c) in
-    c .records-in .result ≡ contentsAnswer (order n) (event none) (start n .args .at) (part n) (size (opened c)))
+    c .records-in .result ≡ contentsAnswer (order n) (event unseen) (start n .args .at) (part n) (size (opened c)))
 contents c =
     let e = opened c in
     c .records-in .ensures
@@ -68,7 +68,7 @@ contents c =
 
 returns : tie.Need-returns
 unfolding readEvent
-returns c = let a = c .before .before .args in short _ eventHead eventLate (event none) (a .at) (now (a .part)) (c .if1 .taken)
+returns c = let a = c .before .before .args in short _ eventWordRule eventLate (event unseen) (a .at) (now (a .part)) (c .if1 .taken)
 
 word-at-requires : tie.Need-word-at-requires
 word-at-requires c κs = search needs
@@ -81,7 +81,7 @@ unfolding readEvent
 returns-2 c =
     let first = c .before .before in
     let a = first .before .before .before .args in
-    fault _ eventHead eventLate (event none) (a .at) (now (a .part)) (first .before .if1 .left)
+    fault _ eventWordRule eventLate (event unseen) (a .at) (now (a .part)) (first .before .if1 .left)
     _ (c .before .event-word-rule .ensures ∙ ap eventWordRule (first .word-at .ensures)) (c .if2 .taken)
 
 word-at-requires-2 : tie.Need-word-at-requires-2
@@ -94,14 +94,14 @@ returns-3 : tie.Need-returns-3
 unfolding readEvent
 returns-3 c =
     let two = c .before .before in
-    long _ eventHead eventLate (event none) (start two .args .at) (part two) (two .before .before .before .if1 .left) (allowed two)
+    long _ eventWordRule eventLate (event unseen) (start two .args .at) (part two) (two .before .before .before .if1 .left) (allowed two)
     _ (c .before .word-at2 .ensures) (c .if3 .taken)
 
 returns-4 : tie.Need-returns-4
 unfolding readEvent
 returns-4 c =
     let two = c .before .before .before in
-    late-fault _ eventHead eventLate (event none) (start two .args .at) (part two) (two .before .before .before .if1 .left) (allowed two)
+    late-fault _ eventWordRule eventLate (event unseen) (start two .args .at) (part two) (two .before .before .before .if1 .left) (allowed two)
     _ (c .before .before .word-at2 .ensures) (c .before .if3 .left) 9 (rw (lt-leb _ _ (c .if4 .taken))) (λ e. omega arith)
 
 add-records-in : tie.Need-add-records-in

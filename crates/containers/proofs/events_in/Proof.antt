@@ -39,7 +39,7 @@ order c = orderFrom (turn c .before .before .before .args .big)
 
 read : (c : tie.After-length Inv-loop μ-loop)
     → Good (c .length .given .0 .0) (size c) (records c)
-    ≡ containerStep (order c) (readEvent (order c) tt (turn c .before .loop .at) (now (turn c .before .loop .rest)))
+    ≡ containerStep (order c) (readEvent (order c) (turn c .before .loop .at) (now (turn c .before .loop .rest)))
 read c = sym (c .length .given .1) ∙ c .before .before .event-in .ensures
 
 -- It stays in the rest, and has no more records than bytes.

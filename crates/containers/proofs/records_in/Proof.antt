@@ -43,13 +43,13 @@ counted : (c : tie.At-loop2 Inv-loop2 μ-loop2 Inv-loop μ-loop)
 counted c = c .loop2 .inv .counts _ (c .before .before .before .loop .inv)
 
 -- The turn of a good record.
-abbrev turn : tie.After-kind Inv-loop2 μ-loop2 Inv-loop μ-loop → tie.In-loop2 Inv-loop2 μ-loop2 Inv-loop μ-loop
+abbrev turn : tie.After-word Inv-loop2 μ-loop2 Inv-loop μ-loop → tie.In-loop2 Inv-loop2 μ-loop2 Inv-loop μ-loop
 turn c = c .before .before .before
 
 -- The known step over it stays in the rest.
-fit : (c : tie.After-kind Inv-loop2 μ-loop2 Inv-loop μ-loop)
+fit : (c : tie.After-word Inv-loop2 μ-loop2 Inv-loop μ-loop)
     → 8 + turn c .before .before .length-at .result ≤ length (now (turn c .before .loop2 .rest))
-fit c = fits (turn c .before .loop2 .inv) (turn c .loop2-test .taken) _ _ (sym (c .kind .given .1) ∙ c .before .before .record-in .ensures)
+fit c = fits (turn c .before .loop2 .inv) (turn c .loop2-test .taken) _ _ (sym (c .word .given .1) ∙ c .before .before .record-in .ensures)
 
 loop-holds : tie.Need-loop-holds Inv-loop2 μ-loop2 Inv-loop μ-loop
 loop-holds c = let a = c .before .args in loop.begin (orderFrom (a .big)) (contextOf (a .context)) (a .from) (now (a .part))
@@ -78,8 +78,8 @@ returns c =
     refused (step .before .before .loop2 .inv) (step .before .loop2-test .taken) _ (step .before .before .before .before .before .loop .inv) _ _
     (sym (c .before .number .given .1) ∙ step .record-in .ensures)
 
-enum-known-kind : tie.Need-enum-known-kind Inv-loop2 μ-loop2 Inv-loop μ-loop
-enum-known-kind c = search needs
+enum-known-word : tie.Need-enum-known-word Inv-loop2 μ-loop2 Inv-loop μ-loop
+enum-known-word c = search needs
 
 add-size : tie.Need-add-size Inv-loop2 μ-loop2 Inv-loop μ-loop
 add-size c = omega (arith, fit (c .before), loop.place (counted (turn (c .before) .before)))
@@ -111,7 +111,7 @@ loop2-less c = omega (arith, fit (c .before .before .before .before))
 loop2-again : tie.Need-loop2-again Inv-loop2 μ-loop2 Inv-loop μ-loop
 loop2-again c =
     let good = c .before .before .before .before in
-    next (turn good .before .loop2 .inv) (turn good .loop2-test .taken) _ _ (sym (good .kind .given .1) ∙ good .before .before .record-in .ensures)
+    next (turn good .before .loop2 .inv) (turn good .loop2-test .taken) _ _ (sym (good .word .given .1) ∙ good .before .before .record-in .ensures)
     _ (c .before .before .next-context .ensures) _ (c .is-alike .ensures)
 
 returns-2 : tie.Need-returns-2 Inv-loop2 μ-loop2 Inv-loop μ-loop
@@ -133,7 +133,7 @@ records-in-spec =
     record-in-requires
     enum-known-number
     returns
-    enum-known-kind
+    enum-known-word
     add-size
     next-context-requires
     sub-rest

@@ -4,7 +4,7 @@ use Prim.Native.Nat.{ℕ}
 use mathlib.Core.Path.{refl}
 use Rattle.theory.specs.Words.{orderFrom}
 use Rattle.note.specs.Administrative.{Administrative, administrativeKind, administrativeOf}
-use Rattle.note.specs.Writers.{administrativeWritten}
+use Rattle.note.specs.Writers.{administrativeDraft}
 use Rattle.demands.proofs.AgainLaws.{administrative-again}
 use Rattle.copies.proofs.CopyLaws.{six-copied}
 use borrow.Author.Needs.{needs}
@@ -36,7 +36,7 @@ returns c =
     let read = call .before .before in
     let s = read .before .before .before in
     let o = orderFrom (s .args .big) in
-    six-copied o administrativeKind (administrativeWritten o) (administrativeOf o) (administrative-again o) _ (s .pre .1) fields
+    six-copied o administrativeKind (administrativeDraft o) (administrativeOf o) (administrative-again o) _ (s .pre .1) fields
     (read .six-at .ensures) refl (call .write-administrative .ensures .1)
 
 pub copy-administrative-spec : {M : Type 1} → statement M

@@ -4,7 +4,7 @@ use Prim.Native.Nat.{ℕ, _/_}
 use mathlib.Core.Path.{ap, _∙_}
 use Rattle.theory.specs.Words.{orderFrom}
 use Rattle.note.specs.Gps.{decimal, gpsKind, gpsOf}
-use Rattle.note.specs.Writers.{gpsWritten}
+use Rattle.note.specs.Writers.{gpsDraft}
 use Rattle.demands.proofs.AgainLaws.{gps-again}
 use Rattle.copies.proofs.CopyLaws.{copied}
 use borrow.Author.Needs.{needs}
@@ -64,7 +64,7 @@ returns c =
     let date = clock-read .before .word-at .ensures in
     let s = clock-read .before .before .before .before in
     let o = orderFrom (s .args .big) in
-    copied o gpsKind (gpsWritten o) (gpsOf o) (gps-again o) _ (s .pre .1) (λ i. record {
+    copied o gpsKind (gpsDraft o) (gpsOf o) (gps-again o) _ (s .pre .1) (λ i. record {
       year = (year .decimal .ensures ∙ ap (λ (w : ℕ). decimal 4 (w / 65536)) date) i;
       day = (day .decimal2 .ensures ∙ ap (λ (w : ℕ). decimal 4 w) date) i;
       status = clock i / 268435456;

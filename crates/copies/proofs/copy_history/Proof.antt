@@ -7,7 +7,7 @@ use denote.Ref.{now}
 use lib.ListN.{length}
 use Rattle.theory.specs.Words.{orderFrom}
 use Rattle.note.specs.History.{historyKind, historyOf, sectionOf}
-use Rattle.note.specs.Writers.{historyWritten}
+use Rattle.note.specs.Writers.{historyDraft}
 use Rattle.demands.proofs.AgainLaws.{history-again}
 use Rattle.rules.proofs.RoomLaws.{veto-follows, trigger-count}
 use Rattle.rules.proofs.SectionLaws.{room, thin}
@@ -131,7 +131,7 @@ returns c =
     let b = now (start placed-at .args .body) in
     let o = orderFrom (start placed-at .args .big) in
     let pre = start placed-at .pre .1 in
-    copied o historyKind (historyWritten o) (historyOf o) (history-again o) _ pre (λ i. record {
+    copied o historyKind (historyDraft o) (historyOf o) (history-again o) _ pre (λ i. record {
       veto = section-cut _ b 0 _ _ _ _ (k .veto-is) (k .middle-is) (veto-count .word-at .ensures) (veto-width .word-at2 .ensures) i;
       trigger =
           (section-cut _ b _ _ _ _ _ (k .trigger-is) (ends (pre .follows) k) (trigger-count .word-at3 .ensures) (trigger-width .word-at4 .ensures)

@@ -30,16 +30,16 @@ abbrev start : tie.After-slice-known → tie.Start
 start c = c .before .before
 
 -- In the arm of a kind word: what is asked of the record is asked of that word's kind.
-own-kind : (c : tie.After-slice-known) {w : ℕ} → start c .args .kind ≡ w
+own-kind : (c : tie.After-slice-known) {w : ℕ} → start c .args .word ≡ w
     → (let a = start c .args in
     (least w ≤ length (now (a .body))) × Copyable (orderFrom (a .big)) (kindOf w) (now (a .body)) (length (now (a .out))) (a .place))
 own-kind c e = asked _ e _ _ _ (start c .pre)
 
 -- And what a copy of that kind leaves is what a copy of the record leaves.
-any-kind : (c : tie.After-slice-known) {w : ℕ} → start c .args .kind ≡ w → {new : List ℕ}
+any-kind : (c : tie.After-slice-known) {w : ℕ} → start c .args .word ≡ w → {new : List ℕ}
     → (let a = start c .args in
     Copied (orderFrom (a .big)) (kindOf w) (now (a .body)) (now (a .out)) (a .place) new
-    → Copied (orderFrom (a .big)) (kindOf (a .kind)) (now (a .body)) (now (a .out)) (a .place) new)
+    → Copied (orderFrom (a .big)) (kindOf (a .word)) (now (a .body)) (now (a .out)) (a .place) new)
 any-kind c e = left _ e (now (start c .args .body)) _ _ _
 
 copy-phonon-requires : tie.Need-copy-phonon-requires

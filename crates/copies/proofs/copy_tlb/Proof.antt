@@ -4,7 +4,7 @@ use Prim.Native.Nat.{ℕ}
 use mathlib.Core.Path.{refl}
 use Rattle.theory.specs.Words.{orderFrom}
 use Rattle.note.specs.Tlb.{Tlb, tlbKind, tlbOf}
-use Rattle.note.specs.Writers.{tlbWritten}
+use Rattle.note.specs.Writers.{tlbDraft}
 use Rattle.demands.proofs.AgainLaws.{tlb-again}
 use Rattle.copies.proofs.CopyLaws.{six-copied}
 use borrow.Author.Needs.{needs}
@@ -36,7 +36,7 @@ returns c =
     let read = call .before .before in
     let s = read .before .before .before in
     let o = orderFrom (s .args .big) in
-    six-copied o tlbKind (tlbWritten o) (tlbOf o) (tlb-again o) _ (s .pre .1) fields
+    six-copied o tlbKind (tlbDraft o) (tlbOf o) (tlb-again o) _ (s .pre .1) fields
     (read .six-at .ensures) refl (call .write-tlb .ensures .1)
 
 pub copy-tlb-spec : {M : Type 1} → statement M

@@ -6,7 +6,7 @@ use Rattle.theory.specs.Words.{orderFrom}
 use Rattle.containers.proofs.RecordLoop.{left}
 use Rattle.note.specs.Words.{word}
 use Rattle.note.specs.Trace.{traceKind, traceOf}
-use Rattle.note.specs.Writers.{traceWritten}
+use Rattle.note.specs.Writers.{traceDraft}
 use Rattle.demands.proofs.AgainLaws.{trace-again}
 use Rattle.copies.proofs.CopyLaws.{copied, handed}
 use borrow.Author.Needs.{needs}
@@ -64,7 +64,7 @@ returns c =
     let s = address .before .before .before .before in
     let b = now (s .args .body) in
     let o = orderFrom (s .args .big) in
-    copied o traceKind (traceWritten o) (traceOf o) (trace-again o) _ (s .pre .1) (λ i. record {
+    copied o traceKind (traceDraft o) (traceOf o) (trace-again o) _ (s .pre .1) (λ i. record {
       address = address .word-at .ensures i;
       channel = channel .word-at2 .ensures i;
       code = code .word-at3 .ensures i;

@@ -4,7 +4,7 @@ use Prim.Native.Nat.{ℕ}
 use mathlib.Core.Path.{refl}
 use Rattle.theory.specs.Words.{orderFrom}
 use Rattle.note.specs.Trigger.{Trigger, triggerKind, triggerOf}
-use Rattle.note.specs.Writers.{triggerWritten}
+use Rattle.note.specs.Writers.{triggerDraft}
 use Rattle.demands.proofs.AgainLaws.{trigger-again}
 use Rattle.copies.proofs.CopyLaws.{six-copied}
 use borrow.Author.Needs.{needs}
@@ -36,7 +36,7 @@ returns c =
     let read = call .before .before in
     let s = read .before .before .before in
     let o = orderFrom (s .args .big) in
-    six-copied o triggerKind (triggerWritten o) (triggerOf o) (trigger-again o) _ (s .pre .1) fields
+    six-copied o triggerKind (triggerDraft o) (triggerOf o) (trigger-again o) _ (s .pre .1) fields
     (read .six-at .ensures) refl (call .write-trigger .ensures .1)
 
 pub copy-trigger-spec : {M : Type 1} → statement M

@@ -26,7 +26,7 @@ use Rattle.words.proofs.word_at.Reads as word-at-reads
 
 -- What the search is to give.
 abbrev sought : Order → ℕ → ℕ → ℕ → List ℕ → List ℕ
-sought o number code from part = firstMatch number code (tracesRead o from (readEvents o tt from part))
+sought o number code from part = firstMatch number code (tracesRead o from (readEvents o from part))
 
 abbrev Inv-loop : tie.InvT-loop
 Inv-loop part from number code big found₀ rest at size records₀ place₀ found records place =

@@ -1,7 +1,7 @@
 -- The fields reach the writer as they were handed over: a signed number is its word read again.
 use denote.Ref.{now}
 use Rattle.theory.specs.declared.Order.the-variants.{Little}
-use Rattle.note.specs.Writers.{traceWritten}
+use Rattle.note.specs.Writers.{traceDraft}
 use Rattle.note.proofs.SignedLaws.{unsigned-again}
 use Rattle.stores.proofs.WriterLaws.{same-fields}
 use borrow.Author.Needs.{needs}
@@ -22,7 +22,7 @@ returns c =
     let call = c .before .before in
     let s = call .before .before .before .before in
     let a = s .args in
-    same-fields (traceWritten Little) _ _ (λ i. record {
+    same-fields (traceDraft Little) _ _ (λ i. record {
       address = a .address;
       channel = a .channel;
       code = a .code;

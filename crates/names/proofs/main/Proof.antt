@@ -8,10 +8,10 @@ use Rattle.names.proofs.main.Lts as lts
 use Rattle.names.proofs.print_type.Reads as print-type-reads
 
 abbrev Inv-loop : tie.InvT-loop
-Inv-loop kind₀ kind = kind ≤ 13
+Inv-loop type₀ type = type ≤ 13
 
 abbrev μ-loop : tie.MeasureT-loop
-μ-loop kind₀ kind = 13 - kind
+μ-loop type₀ type = 13 - type
 
 loop-holds : tie.Need-loop-holds Inv-loop μ-loop
 loop-holds c = search needs
@@ -19,8 +19,8 @@ loop-holds c = search needs
 print-type-requires : tie.Need-print-type-requires Inv-loop μ-loop
 print-type-requires c κs = search needs
 
-add-kind : tie.Need-add-kind Inv-loop μ-loop
-add-kind c = search needs
+add-detector-type : tie.Need-add-detector-type Inv-loop μ-loop
+add-detector-type c = search needs
 
 loop-less : tie.Need-loop-less Inv-loop μ-loop
 loop-less c = search needs
@@ -34,4 +34,4 @@ returns c = search needs
 pub main-spec : {M : Type 1} → statement M
 main-spec =
     tie.close
-    (tie.spec Inv-loop μ-loop loop-holds print-type-requires add-kind loop-less loop-again returns)
+    (tie.spec Inv-loop μ-loop loop-holds print-type-requires add-detector-type loop-less loop-again returns)

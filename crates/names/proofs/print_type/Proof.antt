@@ -8,10 +8,10 @@ use Rattle.names.proofs.print_type.Lts as lts
 use Rattle.names.proofs.print_channel.Reads as print-channel-reads
 
 abbrev Inv-loop : tie.InvT-loop
-Inv-loop kind channel₀ channel = channel ≤ 16
+Inv-loop type channel₀ channel = channel ≤ 16
 
 abbrev μ-loop : tie.MeasureT-loop
-μ-loop kind channel₀ channel = 16 - channel
+μ-loop type channel₀ channel = 16 - channel
 
 loop-holds : tie.Need-loop-holds Inv-loop μ-loop
 loop-holds c = search needs

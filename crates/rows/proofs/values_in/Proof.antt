@@ -6,6 +6,7 @@ use lib.ListN.{length}
 use native.Mathlib.Omega.{arith}
 use denote.Ref.{now}
 use Rattle.theory.specs.Words.{orderFrom}
+use Rattle.theory.proofs.WordLaws.{Bytes-from}
 use Rattle.note.specs.History.{historyRule}
 use Rattle.rules.proofs.SectionLaws.{room, thin}
 use Rattle.rules.proofs.RoomLaws.{veto-follows, trigger-count}
@@ -65,6 +66,7 @@ returns-2 c =
     let test = c .before .before in
     let looked = test .before .before in
     others-values _ _ _ (looked .value-places .ensures) (looked .before .before .pre .0) (test .if1 .left)
+    (Bytes-from (now (looked .before .before .args .b)) (λ i l. omega (arith, looked .before .shared-slice-known .given i)))
     (c .before .word-at3 .ensures) (c .word-at4 .ensures)
 
 pub values-in-spec : {M : Type 1} → statement M

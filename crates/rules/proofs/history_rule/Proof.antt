@@ -10,7 +10,7 @@ use Rattle.theory.specs.Words.{orderFrom}
 use Rattle.theory.specs.declared.Order.{Order}
 use Rattle.rules.proofs.SectionLaws.{room, thin, small}
 use borrow.Author.Tests.{eq-eqb, le-leb, lt-leb, ne-eqb}
-use Rattle.note.specs.History.{historyRule, sectionRule, after}
+use Rattle.note.specs.History.{historyRule, sectionRule, endAt}
 use Rattle.theory.specs.Tests.{unless, first}
 use Rattle.theory.proofs.TestLaws.{positive}
 use borrow.Author.Needs.{needs}
@@ -41,8 +41,8 @@ order c = orderFrom (c .before .before .before .args .big)
 
 sized : (c : tie.Else2)
     → historyRule (order c) (body c)
-    ≡ first (sectionRule (order c) false 0 (body c) ∷ sectionRule (order c) true (after (order c) 0 (body c)) (body c)
-    ∷ unless (eqb (length (body c)) (after (order c) (after (order c) 0 (body c)) (body c))) 6 ∷ [])
+    ≡ first (sectionRule (order c) false 0 (body c) ∷ sectionRule (order c) true (endAt (order c) 0 (body c)) (body c)
+    ∷ unless (eqb (length (body c)) (endAt (order c) (endAt (order c) 0 (body c)) (body c))) 6 ∷ [])
 unfolding historyRule first
 sized c = rw (le-leb _ _ (c .before .if1 .left), eq-eqb _ _ (c .if2 .left))
 
@@ -91,7 +91,7 @@ trigger-passed : (c : tie.Else4) → sectionRule (asked c) true (middle c .secti
 trigger-passed c = sym (c .before .section-rule2 .ensures) ∙ c .if4 .left
 
 end-asked : (c : tie.Else4)
-    → historyRule (asked c) (whole c) ≡ first (unless (eqb (length (whole c)) (after (asked c) (middle c .section-end .result) (whole c))) 6 ∷ [])
+    → historyRule (asked c) (whole c) ≡ first (unless (eqb (length (whole c)) (endAt (asked c) (middle c .section-end .result) (whole c))) 6 ∷ [])
 unfolding first
 end-asked c =
     let veto = middle c .before in

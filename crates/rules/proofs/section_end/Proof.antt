@@ -2,7 +2,7 @@
 -- The idea: the product fits because the width is a signed number and the times lie in the body.
 use Prim.Native.Nat.{_*_, _≤_}
 use native.Mathlib.Omega.{arith}
-use Rattle.note.specs.History.{widthAt, widthOf, after}
+use Rattle.note.specs.History.{widthAt, widthOf, endAt}
 use Rattle.rules.proofs.SectionLaws.{product}
 use borrow.Author.Needs.{needs}
 use Rattle.rules.proofs.section_end.Statement.{statement}
@@ -56,7 +56,7 @@ unfolding widthAt
 add-result-2 c = omega (arith, spanned c)
 
 returns : tie.Need-returns
-unfolding after widthOf widthAt
+unfolding endAt widthOf widthAt
 returns c = rw (← c .before .word-at .ensures, ← c .word-at2 .ensures)
 
 pub section-end-spec : {M : Type 1} → statement M

@@ -17,23 +17,23 @@ use Rattle.samples.proofs.sample_of.Reads as sample-of-reads
 record-found-requires : tie.Need-record-found-requires
 record-found-requires c κs = search needs
 
-enum-known-kind : tie.Need-enum-known-kind
-enum-known-kind c = search needs
+enum-known-word : tie.Need-enum-known-word
+enum-known-word c = search needs
 
 -- Where the step is good: a record was found.
-abbrev start : tie.After-kind → tie.Start
+abbrev start : tie.After-word → tie.Start
 start c = c .before .before .before .before
 
-found : (c : tie.After-kind)
-    → Found (orderFrom (start c .args .big)) (now (start c .args .file)) (start c .args .place) (c .kind .given .0 .0) (c .kind .given .0 .1 .0)
-found c = good-found (c .kind .given .1) (c .before .before .record-found .ensures)
+found : (c : tie.After-word)
+    → Found (orderFrom (start c .args .big)) (now (start c .args .file)) (start c .args .place) (c .word .given .0 .0) (c .word .given .0 .1 .0)
+found c = good-found (c .word .given .1) (c .before .before .record-found .ensures)
 
 -- Where its kind is asked: it's a trace.
-abbrev good : tie.Else1 → tie.After-kind
+abbrev good : tie.Else1 → tie.After-word
 good c = c .before .before
 
 trace : (c : tie.Else1)
-    → (let a = start (good c) .args in Found (orderFrom (a .big)) (now (a .file)) (a .place) 0x11 (good c .kind .given .0 .1 .0))
+    → (let a = start (good c) .args in Found (orderFrom (a .big)) (now (a .file)) (a .place) 0x11 (good c .word .given .0 .1 .0))
 trace c = trace-found (found (good c)) (c .if1 .left)
 
 returns : tie.Need-returns
@@ -95,7 +95,7 @@ sample-spec =
     tie.close
     (tie.spec
     record-found-requires
-    enum-known-kind
+    enum-known-word
     returns
     returns-2
     sub-if3

@@ -14,23 +14,23 @@ use Rattle.answers.proofs.record_found.Reads as record-found-reads
 record-found-requires : tie.Need-record-found-requires
 record-found-requires c κs = search needs
 
-enum-known-kind : tie.Need-enum-known-kind
-enum-known-kind c = search needs
+enum-known-word : tie.Need-enum-known-word
+enum-known-word c = search needs
 
 -- Where the step is good: a record was found.
-abbrev start : tie.After-kind → tie.Start
+abbrev start : tie.After-word → tie.Start
 start c = c .before .before .before .before
 
-found : (c : tie.After-kind)
-    → Found (orderFrom (start c .args .big)) (now (start c .args .file)) (start c .args .place) (c .kind .given .0 .0) (c .kind .given .0 .1 .0)
-found c = good-found (c .kind .given .1) (c .before .before .record-found .ensures)
+found : (c : tie.After-word)
+    → Found (orderFrom (start c .args .big)) (now (start c .args .file)) (start c .args .place) (c .word .given .0 .0) (c .word .given .0 .1 .0)
+found c = good-found (c .word .given .1) (c .before .before .record-found .ensures)
 
 -- Where its kind was asked: it's a trace, so its samples lie between its 48 first bytes and its end.
-abbrev good : tie.Then1 → tie.After-kind
+abbrev good : tie.Then1 → tie.After-word
 good c = c .before .before
 
 trace : (c : tie.Then1)
-    → (let a = start (good c) .args in Found (orderFrom (a .big)) (now (a .file)) (a .place) 0x11 (good c .kind .given .0 .1 .0))
+    → (let a = start (good c) .args in Found (orderFrom (a .big)) (now (a .file)) (a .place) 0x11 (good c .word .given .0 .1 .0))
 trace c = trace-found (found (good c)) (c .if1 .taken)
 
 add-result : tie.Need-add-result
@@ -91,7 +91,7 @@ samples-spec =
     tie.close
     (tie.spec
     record-found-requires
-    enum-known-kind
+    enum-known-word
     add-result
     add-result-2
     add-result-3

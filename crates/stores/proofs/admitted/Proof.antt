@@ -1,4 +1,4 @@
--- `stores::admitted` meets its contract: each return is a way through `wrote`.
+-- `stores::admitted` meets its contract: each return is a way through `writerNext`.
 -- The idea: a law for each way, over the tests that led there.
 use native.Mathlib.Omega.{arith}
 use Rattle.stores.proofs.WriterLaws.{over, faulty, no-room, room}

@@ -45,7 +45,7 @@ returns c =
     let first = middle .before .before .before .before in
     let a = first .before .before .before .before .before .before .args in
     rw (last .put-part .ensures, middle .put-words2 .ensures, first .put-words .ensures)
-    (structured-stored _ (a .kind) (now (a .ws)) (now (a .bytes)) (now (a .part)) _ refl)
+    (structured-stored _ (a .word) (now (a .ws)) (now (a .bytes)) (now (a .part)) _ refl)
 
 pub put-structure-spec : {M : Type 1} → statement M
 put-structure-spec =

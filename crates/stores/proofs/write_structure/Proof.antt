@@ -7,7 +7,7 @@ use denote.Ref.{now}
 use lib.ListN.{length}
 use Rattle.theory.specs.Words.{orderFrom}
 use Rattle.note.specs.Limits.{fileLimit}
-use Rattle.stores.specs.Structures.{structureWritten}
+use Rattle.stores.specs.Structures.{structureDraft}
 use Rattle.stores.proofs.WriterLaws.{Admitted, refuses, has-room, writes}
 use Rattle.stores.proofs.StructureLaws.{structured-size}
 use borrow.Author.Needs.{needs}
@@ -28,7 +28,7 @@ start c = c .before .before .before .before
 -- `admitted` was asked the structure's fault and size.
 admitted : (c : tie.After-admitted)
     → (let a = start c .args in
-    Admitted (now (a .out)) (a .place) (structureWritten (orderFrom (a .big)) (a .fault) (a .kind) (now (a .ws)) (now (a .bytes)))
+    Admitted (now (a .out)) (a .place) (structureDraft (orderFrom (a .big)) (a .fault) (a .word) (now (a .ws)) (now (a .bytes)))
     (c .admitted .result))
 admitted c = record { fault = _; size = _; fault-is = refl; size-is = λ z. structured-size _ _ _ _; said = c .admitted .ensures }
 
@@ -39,7 +39,7 @@ room : (c : tie.After-next)
 room c =
     let a = start (asked c) .args in
     let (limit, fits) = has-room (admitted (asked c)) (c .next .given .1) in
-    (limit, omega (arith, fits, structured-size (orderFrom (a .big)) (a .kind) (now (a .ws)) (now (a .bytes))))
+    (limit, omega (arith, fits, structured-size (orderFrom (a .big)) (a .word) (now (a .ws)) (now (a .bytes))))
 
 mul-admitted : tie.Need-mul-admitted
 mul-admitted c = search needs

@@ -7,7 +7,7 @@ use lib.IntN.{ℤ}
 use Rattle.theory.specs.Words.{orderFrom}
 use Rattle.note.specs.Words.{AllSigned}
 use Rattle.note.specs.Charge.{chargeBytes, chargeFault}
-use Rattle.note.specs.Writers.{chargeWritten}
+use Rattle.note.specs.Writers.{chargeDraft}
 use Rattle.stores.proofs.WriterLaws.{bytes-unasked}
 use Rattle.stores.proofs.StructureLaws.{structured-bare}
 use Rattle.stores.specs.Structures.{structured}
@@ -48,7 +48,7 @@ fit : (s : tie.Start) → AllSigned (fields s)
 fit s = let h = s .fits in (h .code, (h .tower, (h .gain, (h .bias, (h .rtf-offset, (h .delta-t, (h .t0, (h .trace-length, tt))))))))
 
 returns : tie.Need-returns
-unfolding structured chargeWritten chargeBytes
+unfolding structured chargeDraft chargeBytes
 returns c =
     let stored = c .before .before in
     let asked = stored .before .before in

@@ -64,7 +64,7 @@ returns : tie.Need-returns
 returns c =
     let stored = c .before .before in
     let lent = stored .before .before in
-    let kind = start (filled lent) .args .kind in
+    let kind = start (filled lent) .args .word in
     let o = orderFrom (start (filled lent) .args .big) in
     bytes-unasked _ refl (λ z. ap (λ (ws : List ℕ). structured o kind ws []) (held lent)) (stored .write-structure .ensures)
 

@@ -8,7 +8,7 @@ use borrow.Author.Tests.{leb-true}
 use Rattle.theory.specs.Words.{orderFrom}
 use Rattle.theory.proofs.TestLaws.{holds-at}
 use Rattle.note.specs.Gps.{Gps, bcd, gpsBytes, gpsFault}
-use Rattle.note.specs.Writers.{gpsWritten}
+use Rattle.note.specs.Writers.{gpsDraft}
 use Rattle.stores.proofs.WriterLaws.{bytes-unasked}
 use Rattle.stores.proofs.StructureLaws.{structured-bare}
 use Rattle.stores.specs.Structures.{structured}
@@ -71,7 +71,7 @@ same-length : tie.Need-same-length
 same-length c = search needs
 
 returns : tie.Need-returns
-unfolding structured gpsWritten gpsBytes
+unfolding structured gpsDraft gpsBytes
 returns c =
     let stored = c .before .before in
     let tenths = made stored in

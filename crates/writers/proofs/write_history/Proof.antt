@@ -8,7 +8,7 @@ use lib.ListN.{length}
 use Rattle.theory.specs.Words.{orderFrom}
 use Rattle.note.specs.Limits.{fileLimit}
 use Rattle.note.specs.History.{History}
-use Rattle.note.specs.Writers.{historyWritten}
+use Rattle.note.specs.Writers.{historyDraft}
 use Rattle.stores.proofs.WriterLaws.{Admitted, refuses, has-room, writes}
 use Rattle.writers.proofs.HistoryLaws.{partsSize, history-size, size-fits}
 use borrow.Author.Needs.{needs}
@@ -43,8 +43,8 @@ fields s =
 -- `admitted` was asked the history's fault and, where it has none, its size.
 admitted : (c : tie.After-admitted)
     → (let a = begun c .args in
-    Admitted (now (a .out)) (a .place) (historyWritten (orderFrom (a .big)) (fields (begun c))) (c .admitted .result))
-unfolding historyWritten
+    Admitted (now (a .out)) (a .place) (historyDraft (orderFrom (a .big)) (fields (begun c))) (c .admitted .result))
+unfolding historyDraft
 admitted c = record {
   fault = _;
   size = _;

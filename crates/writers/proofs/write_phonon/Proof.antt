@@ -7,7 +7,7 @@ use lib.IntN.{ℤ}
 use Rattle.theory.specs.Words.{orderFrom}
 use Rattle.note.specs.Words.{AllSigned}
 use Rattle.note.specs.Phonon.{phononBytes, phononFault}
-use Rattle.note.specs.Writers.{phononWritten}
+use Rattle.note.specs.Writers.{phononDraft}
 use Rattle.stores.proofs.WriterLaws.{bytes-unasked}
 use Rattle.stores.proofs.StructureLaws.{structured-bare}
 use Rattle.stores.specs.Structures.{structured}
@@ -54,7 +54,7 @@ fit s =
     (h .code, (h .tower, (h .gain, (h .qet-bias, (h .squid-bias, (h .lockpoint, (h .rtf-offset, (h .variable-gain, last))))))))
 
 returns : tie.Need-returns
-unfolding structured phononWritten phononBytes
+unfolding structured phononDraft phononBytes
 returns c =
     let stored = c .before .before in
     let asked = stored .before .before in

@@ -6,7 +6,7 @@ use Rattle.theory.specs.Words.{bytes, put, puts, orderFrom}
 use Rattle.stores.proofs.WriterLaws.{bytes-unasked}
 use Rattle.stores.specs.Structures.{structured}
 use Rattle.note.specs.Trace.{traceBytes, traceFault}
-use Rattle.note.specs.Writers.{traceWritten}
+use Rattle.note.specs.Writers.{traceDraft}
 use Rattle.writers.proofs.SignedLaws.{handed-on}
 use borrow.Author.Needs.{needs}
 use Rattle.writers.proofs.write_trace.Statement.{statement}
@@ -33,7 +33,7 @@ same-length : tie.Need-same-length
 same-length c = search needs
 
 returns : tie.Need-returns
-unfolding structured traceWritten traceFault traceBytes puts put bytes
+unfolding structured traceDraft traceFault traceBytes puts put bytes
 returns c =
     let stored = c .before .before in
     let time = stored .before .before in

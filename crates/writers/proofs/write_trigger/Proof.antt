@@ -2,7 +2,7 @@
 -- The idea: a structure of those words is the kind's own, and computes to it.
 use mathlib.Core.Path.{refl}
 use Rattle.note.specs.Trigger.{triggerBytes}
-use Rattle.note.specs.Writers.{triggerWritten}
+use Rattle.note.specs.Writers.{triggerDraft}
 use Rattle.stores.proofs.WriterLaws.{bytes-unasked}
 use Rattle.stores.proofs.StructureLaws.{structured-bare}
 use Rattle.stores.specs.Structures.{structured}
@@ -26,7 +26,7 @@ same-length : tie.Need-same-length
 same-length c = search needs
 
 returns : tie.Need-returns
-unfolding structured triggerWritten triggerBytes
+unfolding structured triggerDraft triggerBytes
 returns c = bytes-unasked _ refl (λ z. structured-bare _ _ _) (c .before .before .write-structure .ensures)
 
 pub write-trigger-spec : {M : Type 1} → statement M

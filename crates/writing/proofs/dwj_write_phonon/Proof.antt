@@ -1,7 +1,7 @@
 -- The writer's own contract, of the fields in the array; its answer told in lent numbers.
 -- The idea: each number of the array fits its word, so it is handed on as it is.
 use Rattle.theory.specs.declared.Order.the-variants.{Little}
-use Rattle.note.specs.Writers.{phononWritten}
+use Rattle.note.specs.Writers.{phononDraft}
 use denote.Ref.{now}
 use lib.IntN.{pos}
 use lib.ListN.{getD}
@@ -75,7 +75,7 @@ returns c =
     let at0 = at1 .before in
     let s = at0 .before .before .before in
     let zs = now (s .args .fields) in
-    let w = same-fields (phononWritten Little) (now (s .args .out)) (s .args .place)
+    let w = same-fields (phononDraft Little) (now (s .args .out)) (s .args .place)
     (λ i. record {
       code = unsigned-again (getD zs 0 (pos 0)) (record { sfits = at0 .write-phonon-arg2 .given }) i;
       tower = unsigned-again (getD zs 1 (pos 0)) (record { sfits = at1 .write-phonon-arg3 .given }) i;
