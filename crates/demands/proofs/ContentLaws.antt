@@ -11,7 +11,7 @@ use native.Mathlib.Omega.{arith}
 use lib.ListN.{length, getD, length-append, length-map}
 use Rattle.theory.specs.declared.Order.{Order}
 use Rattle.theory.specs.Words.{Bytes, Fits, put}
-use Rattle.theory.specs.Tests.{Res, ok, bad}
+use Rattle.theory.specs.Tests.{ok, bad}
 use Rattle.theory.specs.Structures.{Structure, structureBytes}
 use Rattle.theory.specs.Layout.{Row, Node, total, childRow, childRows, rows, rowCount, row, childCount}
 use Rattle.theory.proofs.WordLaws.{word-after-put, word-past}
@@ -19,7 +19,7 @@ use Rattle.theory.proofs.StructureLaws.{second-word}
 use Rattle.theory.proofs.LayoutLaws.{length-childRows, rowCount-append, box-counted}
 use Rattle.note.specs.Limits.{fileLimit}
 use Rattle.note.specs.Words.{word}
-use Rattle.note.specs.Records.{Record, Context, entry, event, unseen, alone, isKind, behind, kindOf, recordBytes, recordSize, recordsBytes}
+use Rattle.note.specs.Records.{Record, Context, entry, event, unseen, alone, isKind, behind, recordBytes, recordSize, recordsBytes}
 use Rattle.note.specs.Events.{Container, containerBytes, eventsBytes}
 use Rattle.note.specs.Files.{File, orderIn, versionOf, configurationOf, eventsOf, fileMark, headerBytes, readFile}
 use Rattle.note.specs.Rows.{childOf, childrenOf, eventNode, nodesOf, rowsOf, isBox}
@@ -27,7 +27,7 @@ use Rattle.note.specs.Calls.{recordFound, recordGiven, recordAt}
 use Rattle.demands.specs.Valid.{ValidRecord, ValidRecords, ValidEvents, Valid}
 use Rattle.demands.specs.FirstFault.{front}
 use Rattle.demands.specs.RowRecords.{containerRecords, eventsRecords, rowRecords, foundAs}
-use Rattle.demands.specs.RowContents.{HeaderRow, ConfigurationRow, EventRow, PieceRow, RowRead}
+use Rattle.demands.specs.RowContents.{PieceRow, RowRead}
 use Rattle.demands.proofs.Bundles.{headerItem}
 use Rattle.demands.proofs.Follows.{file-sound}
 use Rattle.demands.proofs.FaultLaws.{length-front}

@@ -31,7 +31,7 @@ use Rattle.note.specs.Calls.{recordFound, recordAt, settingAt, samplesPart, sam
 use Rattle.note.proofs.TraceLaws.{trace-length, trace-blind, trace-row-blind, trace-values-blind}
 use Rattle.note.proofs.TraceLaws.{sample-is-bytes, changed-is-bytes, sample-stays, byte-at-twice, byte-inside}
 use Rattle.demands.specs.Valid.{ValidRecord, Valid}
-use Rattle.demands.specs.RowRecords.{rowRecords, foundAs}
+use Rattle.demands.specs.RowRecords.{foundAs}
 use Rattle.demands.specs.Edited.{startOf, pair, halfReplaced, replaced}
 use Rattle.demands.proofs.Bundles.{recordItem, eventItem, headerItem, record-valid}
 use Rattle.demands.proofs.Follows.{parts-ok, parts-valid, file-complete}

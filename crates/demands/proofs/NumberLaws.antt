@@ -4,13 +4,12 @@ use mathlib.Core.Path.{_≡_, refl, subst}
 use mathlib.Core.Bool.{Bool, true, false, cond, _&&_}
 use mathlib.Core.List.{List, [], _∷_}
 use mathlib.Core.Option as Listed
-use Prim.Native.Nat.{ℕ, _+_, _-_, _*_, _≤_}
+use Prim.Native.Nat.{ℕ, _+_, _-_, _*_}
 use borrow.Author.Tests.{leb-false}
 use lib.Dec.{leb, ltb, eqb}
 use lib.ListN.{length, drop}
 use Rattle.theory.specs.declared.Order.{Order}
 use Rattle.theory.specs.Tests.{Res, ok, bad, need, unless, among}
-use Rattle.theory.specs.Layout.{Row}
 use Rattle.theory.proofs.TestLaws.{Numbered, unless-numbered, numbered-wider, need-ok, most-passed}
 use Rattle.note.specs.Limits.{fileLimit, rowWidth}
 use Rattle.note.specs.Answers.{Given, accepted, refused}

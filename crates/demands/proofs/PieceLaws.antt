@@ -1,16 +1,13 @@
 -- A record that its kind's rule admits has fields: it is the record that they make, they are what Record answers, and the values of its row
 -- are two of them. For every kind.
 -- The idea: the fields are those read from the body; that they make the body again is each kind's own law.
-use mathlib.Core.Path.{_≡_, refl, sym, ap, ap₂, _∙_}
+use mathlib.Core.Path.{_≡_, refl, sym, ap, _∙_}
 use mathlib.Core.List.{List, _∷_}
-use Prim.Native.Nat.{ℕ, _+_, _≤_}
+use Prim.Native.Nat.{ℕ}
 use native.Mathlib.Omega.{arith}
-use lib.ListN.{length}
 use Rattle.theory.specs.declared.Order.{Order}
 use Rattle.theory.specs.Words.{Bytes}
-use Rattle.theory.proofs.WordLaws.{word-fits}
-use Rattle.theory.proofs.TestLaws.{first-at, equal-passed}
-use Rattle.note.specs.Words.{word, signed, unsigned}
+use Rattle.note.specs.Words.{word}
 use Rattle.note.specs.Kinds.{Kind}
 use Rattle.note.specs.Answers.{Value, accepted, count}
 use Rattle.note.specs.Phonon.{phononKind, phononOf, phononRule}
@@ -21,9 +18,8 @@ use Rattle.note.specs.History.{historyKind, historyOf, sectionOf, historyRule}
 use Rattle.note.specs.Gps.{gpsKind, gpsOf, gpsRule}
 use Rattle.note.specs.Trigger.{triggerKind, triggerOf, triggerRule}
 use Rattle.note.specs.Tlb.{tlbKind, tlbOf, tlbRule}
-use Rattle.note.specs.Records.{Record, kindOf, recordRule}
+use Rattle.note.specs.Records.{kindOf, recordRule}
 use Rattle.note.proofs.KindCases.{kind-cases}
-use Rattle.note.proofs.SignedLaws.{signed-again}
 use Rattle.note.proofs.FieldLaws.{phonon-restored, charge-restored, administrative-restored, trigger-restored, tlb-restored}
 use Rattle.note.proofs.TraceLaws.{trace-restored}
 use Rattle.note.proofs.HistoryLaws.{history-faultless, history-restored}

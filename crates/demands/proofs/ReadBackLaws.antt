@@ -1,6 +1,6 @@
 -- What the header's writer and an event's closing were handed is what is read, by name, from what they leave; so also of a whole assembled file.
 -- The idea: the word that stands is the word of these numbers, and the word gives them back (note ContainerFieldLaws).
-use mathlib.Core.Path.{_≡_, refl, sym, ap, _∙_}
+use mathlib.Core.Path.{_≡_, sym, ap, _∙_}
 use mathlib.Core.List.{List, [], _∷_, _++_, map, append-assoc}
 use Prim.Native.Nat.{ℕ, _-_, _<_}
 use lib.ListN.{take, drop}

@@ -1,7 +1,7 @@
 -- What a writer or a closing refuses, exactly.
 -- The idea: a test in front of an answer refuses by itself or leaves the answer; each definition is such tests one after the other.
 use Prim.Native.Nat.{ℕ, zero, suc, _+_, _-_, _≤_, _<_}
-use mathlib.Core.Path.{_≡_, refl, sym, ap, ap₂, _∙_, subst}
+use mathlib.Core.Path.{_≡_, refl, sym, ap, ap₂, _∙_}
 use mathlib.Core.Logic.{_↔_, _⊎_, inl, inr, ⊎-elim, _≢_, by-cases}
 use mathlib.Core.Bool.{Bool, true, false}
 use mathlib.Core.List.{List, [], _∷_}
@@ -9,10 +9,10 @@ use native.Mathlib.Omega.{arith}
 use native.Mathlib.Decide.{decLe}
 use lib.Dec.{leb}
 use lib.ListN.{length}
-use borrow.Author.Tests.{leb-true, leb-false, le-leb}
+use borrow.Author.Tests.{leb-true, leb-false}
 use Rattle.theory.specs.declared.Order.{Order}
-use Rattle.theory.specs.Tests.{Res, ok, bad, need, bind, unless, first}
-use Rattle.theory.proofs.TestLaws.{ok-bad, bad-ok, ok-inj, need-ok, most-passed, most-passes}
+use Rattle.theory.specs.Tests.{Res, ok, bad, need, unless, first}
+use Rattle.theory.proofs.TestLaws.{ok-bad, ok-inj, need-ok, most-passed, most-passes}
 use Rattle.note.specs.Limits.{fileLimit}
 use Rattle.note.specs.Records.{Record, Context, entry, event, unseen, readRecords}
 use Rattle.note.specs.Events.{eventFault, eventWord, eventLate}

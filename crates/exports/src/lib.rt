@@ -20,6 +20,23 @@ ghost use Rattle.walk.specs.Steps.{openedOf, stepOf};
 ghost use Rattle.exports.specs.Lent.{numberOf, placeAfter, wholesAfter, floatsAfter, NumberAfter, channelNumbers, channelAfter, bit};
 ghost use Rattle.exports.specs.Walkers.{spotOf, numbersOf, rowAfter};
 
+// The row kinds (FORMAT 7.2), as Record and Setting tell them: the first of their values.
+const PHONON: i64 = 3;
+
+const CHARGE: i64 = 4;
+
+const ADMINISTRATIVE: i64 = 6;
+
+const TRACE: i64 = 7;
+
+const HISTORY: i64 = 8;
+
+const GPS: i64 = 9;
+
+const TRIGGER: i64 = 10;
+
+const TLB: i64 = 11;
+
 /// Table: the number; the rows, their count and the place lent.
 #[no_mangle]
 pub extern "C" fn dwj_table(file: &[u8], rows: &mut [u32], count: &mut u64, place: &mut u64) -> u32
@@ -61,7 +78,7 @@ pub extern "C" fn dwj_record(
             trace_length,
         } => {
             *values = [
-                3,
+                PHONON,
                 code as i64,
                 tower as i64,
                 gain as i64,
@@ -87,7 +104,7 @@ pub extern "C" fn dwj_record(
             trace_length,
         } => {
             *values = [
-                4,
+                CHARGE,
                 code as i64,
                 tower as i64,
                 gain as i64,
@@ -111,7 +128,7 @@ pub extern "C" fn dwj_record(
             live,
         } => {
             *values = [
-                6,
+                ADMINISTRATIVE,
                 date as i64,
                 clock as i64,
                 number as i64,
@@ -135,7 +152,7 @@ pub extern "C" fn dwj_record(
             n,
         } => {
             *values = [
-                7,
+                TRACE,
                 address as i64,
                 channel as i64,
                 code as i64,
@@ -161,7 +178,7 @@ pub extern "C" fn dwj_record(
             trigger_masks_at,
         } => {
             *values = [
-                8,
+                HISTORY,
                 veto_times as i64,
                 veto_times_at as i64,
                 veto_width as i64,
@@ -186,7 +203,7 @@ pub extern "C" fn dwj_record(
             tenths,
         } => {
             *values = [
-                9,
+                GPS,
                 year as i64,
                 day as i64,
                 status as i64,
@@ -210,7 +227,7 @@ pub extern "C" fn dwj_record(
             mask6,
         } => {
             *values = [
-                10,
+                TRIGGER,
                 mask1 as i64,
                 mask2 as i64,
                 mask3 as i64,
@@ -234,7 +251,7 @@ pub extern "C" fn dwj_record(
             tower6,
         } => {
             *values = [
-                11,
+                TLB,
                 tower1 as i64,
                 tower2 as i64,
                 tower3 as i64,
@@ -285,7 +302,7 @@ pub extern "C" fn dwj_setting(
             trace_length,
         } => {
             *whole = [
-                3,
+                PHONON,
                 code as i64,
                 tower as i64,
                 rtf_offset as i64,
@@ -308,7 +325,7 @@ pub extern "C" fn dwj_setting(
             trace_length,
         } => {
             *whole = [
-                4,
+                CHARGE,
                 code as i64,
                 tower as i64,
                 bias as i64,

@@ -1,5 +1,5 @@
 -- A list of tests gives the number that is given for what they ask: test by test, each test telling its statement.
-use Prim.Native.Nat.{ℕ, zero, suc, _*_, _/_, _%_, _<_}
+use Prim.Native.Nat.{ℕ, zero, suc, _/_, _%_}
 use mathlib.Core.Path.{_≡_, refl, sym, ap, _∙_, subst}
 use mathlib.Core.Logic.{_↔_, _⊎_, inl, inr, ⊎-elim, ⊎-map, Iff·trans, _≢_}
 use mathlib.Core.Bool.{Bool, true, false, not, false≢true}
@@ -11,7 +11,7 @@ use borrow.Author.Tests.{eqb-true, eq-eqb}
 use Rattle.theory.specs.Tests.{Res, bad, need, unless, first}
 use Rattle.theory.proofs.TestLaws.{first-of-part, last}
 use Rattle.note.specs.Asked.{asks, fine, Divides, Answers}
-use Rattle.note.proofs.BoolLaws.{Tells, eq-tells}
+use Rattle.note.proofs.BoolLaws.{Tells}
 
 -- The tests give the number c exactly where what is asked gives it.
 pub record Gives (cs : List ℕ) (asked : ℕ → Type 0) : Type 0 where

@@ -9,14 +9,14 @@ use native.Mathlib.Omega.{arith}
 use native.Mathlib.Decide.{decLe}
 use lib.Dec.{leb, eqb}
 use lib.ListN.{length, take, drop}
-use borrow.Author.Tests.{leb-true, leb-false, le-leb, eqb-true, eqb-false, eq-eqb, ne-eqb}
+use borrow.Author.Tests.{leb-true, leb-false, eqb-true, eqb-false, eq-eqb, ne-eqb}
 use Rattle.theory.specs.declared.Order.{Order}
 use Rattle.theory.specs.Tests.{Res, ok, bad, need, unless}
-use Rattle.theory.proofs.TestLaws.{ok-bad, bad-ok}
+use Rattle.theory.proofs.TestLaws.{bad-ok}
 use Rattle.note.specs.Limits.{fileLimit}
 use Rattle.note.specs.Words.{word}
 use Rattle.note.specs.Answers.{Value, accepted, refused, counts}
-use Rattle.note.specs.Trace.{traceOf, sampleIn}
+use Rattle.note.specs.Trace.{traceOf}
 use Rattle.note.specs.Records.{Record, alone, readRecord}
 use Rattle.note.specs.Files.{File, readFile}
 use Rattle.note.specs.Rows.{rowsOf, fits, tableGiven, tableAnswer}

@@ -1,11 +1,11 @@
 -- The channel lists are the table: every code's answer, names in the cold wiring included, and nothing else is listed.
 -- The idea: type and channel of what is listed are at most 11, and there antt computes both look-ups.
-use Prim.Native.Nat.{ℕ, _+_, _*_, _/_, _%_, _≤_}
+use Prim.Native.Nat.{ℕ, _/_, _%_, _≤_}
 use Prim.Native.Char.{Char, code}
 use Prim.Native.String as Str
 use Prim.Native.String.{String}
-use mathlib.Core.Path.{_≡_, refl, sym, ap, _∙_, subst}
-use mathlib.Core.Logic.{_⊎_, inl, inr, _≢_, by-cases}
+use mathlib.Core.Path.{_≡_, refl, sym, _∙_, subst}
+use mathlib.Core.Logic.{inl, inr, _≢_, by-cases}
 use mathlib.Core.Bool.{Bool, true, false, cond, _&&_, false≢true, and-eq-true-iff}
 use mathlib.Core.List.{List, [], _∷_}
 use mathlib.Core.Option.{Option, some, none}
@@ -14,8 +14,8 @@ use native.Mathlib.Decide.{decLe}
 use lib.Dec.{leb, eqb}
 use borrow.Author.Tests.{leb-true, eqb-true, eq-eqb}
 use Rattle.note.specs.Channels.{ascii, Channel, same, typeOf, detectorOf, channelNumber, numbered, channelGiven, channelAnswer}
-use Rattle.note.specs.ChannelTable.{Names, channelTable, codeOf, answerFor, notListed, NamedAs}
-use Rattle.note.proofs.Sweep.{allPairs, all-pairs-at}
+use Rattle.note.specs.ChannelTable.{Names, channelTable, codeOf, answerFor, NamedAs}
+use Rattle.note.proofs.Sweep.{all-pairs-at}
 use Rattle.note.proofs.ChannelLaws.{number-small, same-equal}
 use Rattle.note.proofs.Computing.{computing}
 

@@ -8,14 +8,14 @@ use mathlib.Core.List.{List, [], _∷_}
 use native.Mathlib.Omega.{arith}
 use native.Mathlib.Decide.{decLe}
 use native.Mathlib.Nat.{zero-add, suc-add, pow-zero, pow-suc, pow-succ', div-one, div-div-eq-div-mul, mul-assoc}
-use lib.Dec.{leb, eqb}
+use lib.Dec.{leb}
 use lib.ListN.{length}
 use Rattle.theory.specs.declared.Order.{Order}
 use Rattle.note.specs.Words.{word}
 use Rattle.note.specs.Gps.{Gps, areDigits, decimal, gpsOf, isLeap, daysOfYear, gpsFault, gpsRule}
 use Rattle.note.specs.Rules.{Leap, DayOfYear, GpsMeans, GpsAsked}
 use Rattle.note.proofs.BoolLaws.{Tells, both-tell, either-tells, le-tells, eq-tells}
-use Rattle.note.proofs.AskedLaws.{Gives, no-more, asked, asked-too, said-so, asked-of-part, divides-tells, not-tells}
+use Rattle.note.proofs.AskedLaws.{no-more, asked, asked-too, said-so, asked-of-part, divides-tells, not-tells}
 use Rattle.note.proofs.GpsLaws.{digits-are-decimal, digits-split, digits-above, decimal-above, decimal-fits}
 
 -- ---- the tests

@@ -8,7 +8,7 @@ use mathlib.Core.List.{List, [], _∷_}
 use native.Mathlib.Omega.{arith}
 use native.Mathlib.Decide.{decLe}
 use lib.Dec.{eqb}
-use borrow.Author.Tests.{eqb-true, eqb-false, ne-eqb}
+use borrow.Author.Tests.{eqb-false}
 use Rattle.note.specs.Asked.{OneOf}
 use Rattle.note.specs.EventKinds.{IsEntryKind, IsRecordKind, occurs, MayFollow}
 use Rattle.note.specs.Records.{Seen, entryKinds, recordKinds, entry, event, alone, isKind, isPlaced, isAllowed, noted}

@@ -2,12 +2,10 @@
 -- given at its first byte where something isn't so; else it is read on.
 -- The idea: a reader's chain of tests is one list, and each test tells its statement.
 use Prim.Native.Nat.{ℕ, zero, suc, _+_}
-use mathlib.Core.Path.{_≡_, refl, sym, ap, _∙_, subst}
+use mathlib.Core.Path.{_≡_, refl, sym, subst}
 use mathlib.Core.Logic.{_↔_, _⊎_, inl, inr, ⊎-elim}
-use mathlib.Core.Bool.{Bool, true}
 use mathlib.Core.List.{List, [], _∷_}
-use native.Mathlib.Omega.{arith}
-use lib.Dec.{leb, eqb}
+use lib.Dec.{leb}
 use lib.ListN.{length}
 use Rattle.theory.specs.declared.Order.{Order}
 use Rattle.theory.specs.Tests.{ok, need, bind, unless, first}
@@ -15,7 +13,7 @@ use Rattle.note.specs.Asked.{Answers}
 use Rattle.note.specs.EventKinds.{IsEntryKind, IsRecordKind, MayFollow}
 use Rattle.note.specs.Words.{word}
 use Rattle.note.specs.Records.{Record, Seen, Context, entry, event, alone, unseen, isKind, isAllowed, kindOf, recordRule, readRecord}
-use Rattle.note.specs.Events.{eventWordRule, readEvent}
+use Rattle.note.specs.Events.{readEvent}
 use Rattle.note.specs.Files.{versionRule, readHeader, readConfiguration}
 use Rattle.note.specs.Rules.{PhononAsked, ChargeAsked, AdministrativeAsked, TraceAsked, HistoryAsked, GpsAsked, TriggerAsked, TlbAsked, RuleAsked}
 use Rattle.note.specs.Readings.{seenAfter, bodyOf, RecordAsked, recordRead, VersionParts, HeaderAsked, contentsRead, ConfigurationAsked, EventParts, EventOwnAsked}

@@ -1,11 +1,10 @@
 -- The rule of each kind said a second time: of what is asked of a body's words (specs/Rules), the first that isn't so gives its number.
 -- The idea: each test of a rule tells its statement, so the list of tests gives what is asked.
 use Prim.Native.Nat.{ℕ, _+_, _*_}
-use mathlib.Core.Path.{_≡_, refl}
-use mathlib.Core.Logic.{_↔_, _≢_}
+use mathlib.Core.Path.{_≡_}
+use mathlib.Core.Logic.{_↔_}
 use mathlib.Core.Bool.{Bool, true, false}
 use mathlib.Core.List.{List, [], _∷_, _++_}
-use native.Mathlib.Omega.{arith}
 use lib.ListN.{length}
 use Rattle.theory.specs.declared.Order.{Order}
 use Rattle.note.specs.Words.{word}

@@ -1,7 +1,7 @@
 -- The first word of an event and the version word, said a second time: by the parts that they are put together from.
 -- The idea: a word is the sum of its parts in one way only, so the parts that the rules take by division are these.
 use Prim.Native.Nat.{ℕ, _+_, _*_, _/_, _%_, _<_}
-use mathlib.Core.Path.{_≡_, refl, ap₂, _∙_}
+use mathlib.Core.Path.{_≡_, refl}
 use mathlib.Core.Logic.{_↔_}
 use mathlib.Core.List.{List, [], _∷_}
 use native.Mathlib.Omega.{arith}

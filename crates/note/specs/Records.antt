@@ -78,8 +78,8 @@ isKind entry k = among k entryKinds
 isKind (event seen) k = among k recordKinds
 isKind alone k = among k entryKinds || among k recordKinds
 
--- FORMAT 6.2: in an event unseen stands before the administrative record, and no kind but trace comes a second time, or 9. In the other contexts any
--- order goes.
+-- FORMAT 6.2: in an event the administrative record comes first, and no kind but trace comes a second time, or 9. In the other contexts any order
+-- goes.
 unfoldable pub isPlaced : Seen → ℕ → Bool
 isPlaced seen k =
     cond (eqb k (administrativeKind .word)) (not (seen .administrative))

@@ -63,14 +63,14 @@ const TRIGGER_LENGTH: usize = 28;
 
 const TLB_LENGTH: usize = 24;
 
-// The kinds of a trace's three inner blocks, and the length of the first two.
-const BOOKKEEPING: u32 = 0x11;
+/// The kinds of a trace's three inner blocks, and the length of the first two.
+pub const BOOKKEEPING: u32 = 0x11;
 
-const TIMEBASE: u32 = 0x12;
+pub const TIMEBASE: u32 = 0x12;
 
-const SAMPLE_BLOCK: u32 = 0x13;
+pub const SAMPLE_BLOCK: u32 = 0x13;
 
-const BLOCK_LENGTH: u32 = 12;
+pub const BLOCK_LENGTH: u32 = 12;
 
 /// Where the fields of a trace stand in its body: base address, digitizer channel, detector code, time of the first sample, time between two,
 /// the two counts of samples, the samples.

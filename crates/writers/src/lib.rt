@@ -9,10 +9,14 @@ use fields::gps_fault;
 use fields::tlb_fault;
 use note::WriterAnswer;
 use rules::ADMINISTRATIVE;
+use rules::BLOCK_LENGTH;
+use rules::BOOKKEEPING;
 use rules::CHARGE;
 use rules::GPS;
 use rules::HISTORY;
 use rules::PHONON;
+use rules::SAMPLE_BLOCK;
+use rules::TIMEBASE;
 use rules::TLB;
 use rules::TRACE;
 use rules::TRIGGER;
@@ -231,17 +235,17 @@ pub fn write_trace(
         fault,
         TRACE,
         &[
-            0x11,
-            12,
+            BOOKKEEPING,
+            BLOCK_LENGTH,
             address,
             channel,
             code,
-            0x12,
-            12,
+            TIMEBASE,
+            BLOCK_LENGTH,
             from_signed(t0),
             delta_t,
             n,
-            0x13,
+            SAMPLE_BLOCK,
             n,
         ],
         samples,
