@@ -1,4 +1,4 @@
--- A file that keeps every rule, as a tree: what 'follows the note' means. It is said of a tree and without a reader, so that a theorem can hold the
+-- A file that keeps every rule, as a tree: what 'follows the format' means. It is said of a tree and without a reader, so that a theorem can hold the
 -- reader against it: nothing here is so because a reader says it, and a tree can be valid before it has bytes.
 use Prim.Native.Nat.{_≤_}
 use mathlib.Core.Path.{_≡_}

@@ -20,7 +20,7 @@ use Rattle.note.specs.Gps.{gpsKind}
 use Rattle.note.specs.Trigger.{triggerKind}
 use Rattle.note.specs.Tlb.{tlbKind}
 
--- FORMAT 6.1: the kind words of the two entries, and of the six records.
+-- FORMAT 6.1: the kind words of the two entries, 0x00010001 and 0x00010002, and of the six records, 0x02, 0x11, 0x21, 0x60, 0x80 and 0x81.
 abbrev pub entryKinds : List ℕ
 entryKinds = map (λ (k : Kind). k .word) (phononKind ∷ chargeKind ∷ [])
 
