@@ -80,7 +80,7 @@ fn refused(number: &str, place: &str) -> String {
 fn channel(number: &str, kind: &str, detector: &str, analysis: &str, cold: &str) -> String {
     let name = |n: &str| format!("nameOf (ascii \"{}\")", n);
     format!(
-        "record {{ number = {}; place = 0; kind = {}; detector = {}; analysis = {}; cold = {} }}",
+        "record {{ number = {}; place = 0; «detector_type» = {}; detector = {}; analysis = {}; cold = {} }}",
         number,
         kind,
         detector,
