@@ -7,7 +7,6 @@ use native.Mathlib.Omega.{arith}
 use lib.ListN.{length, drop, length-drop}
 use Rattle.theory.specs.declared.Order.{Order}
 use Rattle.theory.specs.Words.{Bytes}
-use Rattle.theory.proofs.WordLaws.{word-fits}
 use Rattle.theory.proofs.TestLaws.{first-at, first-passes, equal-passes, equal-passed}
 use Rattle.note.specs.Words.{word, signed, unsigned}
 use Rattle.note.specs.Kinds.{Kind}
@@ -21,7 +20,7 @@ use Rattle.note.specs.Trigger.{triggerKind, triggerOf, triggerRule}
 use Rattle.note.specs.Tlb.{tlbKind, tlbOf, tlbRule}
 use Rattle.note.specs.Writers.{wrapped, phononDraft, chargeDraft, administrativeDraft, traceDraft}
 use Rattle.note.specs.Writers.{historyDraft, gpsDraft, triggerDraft, tlbDraft}
-use Rattle.note.proofs.SignedLaws.{signed-again}
+use Rattle.note.proofs.SignedLaws.{word-again}
 use Rattle.note.proofs.FieldLaws.{phonon-restored, charge-restored, administrative-restored, trigger-restored, tlb-restored}
 use Rattle.note.proofs.TraceLaws.{trace-accepted, trace-restored}
 use Rattle.note.proofs.HistoryLaws.{history-faultless, history-restored}
@@ -34,7 +33,7 @@ again o k b body fault e s = record { fine = e; same = ap (wrapped o k) s }
 module _ (o : Order) (b : List ℕ) (h : Bytes b) where
   -- A code that was read as signed is asked as the word that it was.
   code-again : 4 ≤ length b → (fault : ℕ → ℕ) → fault (word o 0 b) ≡ 0 → fault (unsigned (signed (word o 0 b))) ≡ 0
-  code-again l fault e = ap fault (signed-again (word o 0 b) (word-fits o 4 0 b h l)) ∙ e
+  code-again l fault e = ap fault (word-again o 0 b h l) ∙ e
 
   pub phonon-again : phononRule o b ≡ 0 → Again o phononKind b (phononDraft o (phononOf o b))
   unfolding phononDraft phononOf phononRule

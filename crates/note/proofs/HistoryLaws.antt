@@ -94,7 +94,7 @@ module _ (o : Order) (trigger : Bool) (p : ℕ) (b : List ℕ) (room : endAt o p
       let widths = unless-holds _ 10 (means-width trigger (word o p b) (widthOf o p b) (h .widths)) in
       first-passes _ (most-passes 6 counted, (most-passes 10 (h .count), (most-passes 6 wide, (most-passes 10 (h .width), (widths, tt)))))
 
--- Draft again it restores its bytes.
+-- Written again it restores its bytes.
 section-restored : (o : Order) (p : ℕ) (b : List ℕ) → endAt o p b ≤ length b → Bytes b
     → sectionBytes o (sectionOf o p b) ++ drop (endAt o p b) b ≡ drop p b
 unfolding sectionBytes sectionOf endAt widthOf widthAt wordsAt

@@ -2,13 +2,16 @@
 -- Of single words from the toolchain's laws of two's complement; then of lists, word by word.
 use mathlib.Core.Path.{_≡_, refl, ap₂}
 use mathlib.Core.List.{List, [], _∷_, map}
-use Prim.Native.Nat.{ℕ, suc, _-_, _^_, _<_}
+use Prim.Native.Nat.{ℕ, suc, _+_, _-_, _^_, _≤_, _<_}
 use lib.IntN.{ℤ, pos, negsuc}
+use lib.ListN.{length}
 use mir.Val.{SFits}
 use mir.Syntax.{w32}
 use mir.Facts.{toZ-pos, toZ-neg, toZ-ofZ, ofZ-toZ, fits-ofZ}
-use Rattle.theory.specs.Words.{Fits, AllFit}
-use Rattle.note.specs.Words.{signed, unsigned, AllSigned}
+use Rattle.theory.specs.declared.Order.{Order}
+use Rattle.theory.specs.Words.{Bytes, Fits, AllFit}
+use Rattle.theory.proofs.WordLaws.{word-fits}
+use Rattle.note.specs.Words.{word, signed, unsigned, AllSigned}
 
 -- What a word means as signed: below 2^31 itself; k + 1 below 2^32 it is minus k + 1.
 pub signed-low : (w : ℕ) → w < 2 ^ 31 → signed w ≡ pos w
@@ -19,6 +22,10 @@ signed-high k h = toZ-neg w32 k h
 
 pub signed-again : (w : ℕ) → Fits 4 w → unsigned (signed w) ≡ w
 signed-again w h = ofZ-toZ {w = w32} (record { fits = h })
+
+-- A word that stands among bytes, read as signed, has its own bits.
+pub word-again : (o : Order) (p : ℕ) (b : List ℕ) → Bytes b → p + 4 ≤ length b → unsigned (signed (word o p b)) ≡ word o p b
+word-again o p b h l = signed-again (word o p b) (word-fits o 4 p b h l)
 
 pub unsigned-again : (z : ℤ) → SFits w32 z → signed (unsigned z) ≡ z
 unsigned-again z h = toZ-ofZ h

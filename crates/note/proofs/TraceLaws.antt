@@ -15,13 +15,13 @@ use Rattle.theory.specs.declared.Order.{Order}
 use Rattle.theory.specs.declared.Order.the-variants.{Little, Big}
 use Rattle.theory.specs.Words.{Bytes, Fits, wordsAt}
 use Rattle.theory.proofs.TestLaws.{first-at, first-passes, equal-passed, equal-passes, most-passed, most-passes}
-use Rattle.theory.proofs.WordLaws.{words-of-puts, puts-of-words, length-puts, word-fits, Bytes-at, Bytes-set, words-set-behind}
+use Rattle.theory.proofs.WordLaws.{words-of-puts, puts-of-words, length-puts, Bytes-at, Bytes-set, words-set-behind}
 use Rattle.note.specs.Words.{word, words, byteAt, signed, unsigned}
 use Rattle.note.specs.Trace.{Trace, TraceFits, traceOf, traceWords, traceBytes, sampleIn, traceKind}
 use Rattle.note.specs.Trace.{channelFault, codeFault, deltaFault, countFault, traceFault}
 use Rattle.note.specs.Trace.{bookkeepingRule, timebaseRule, samplesRule, traceRule}
 use Rattle.note.proofs.ByteLaws.{word-by-bytes}
-use Rattle.note.proofs.SignedLaws.{signed-again, unsigned-again, unsigned-fits}
+use Rattle.note.proofs.SignedLaws.{word-again, unsigned-again, unsigned-fits}
 use Rattle.note.proofs.FieldLaws.{read, number-at}
 
 -- ---- an accepted body
@@ -64,7 +64,7 @@ pub trace-restored : (o : Order) (b : List ℕ) → Bytes b → traceRule o b �
 unfolding traceBytes traceOf wordsAt
 trace-restored o b h e =
     let a : AcceptedTrace o b = trace-accepted o b e in
-    let s : unsigned (signed (word o 28 b)) ≡ word o 28 b = signed-again (word o 28 b) (word-fits o 4 28 b h (omega arith)) in
+    let s : unsigned (signed (word o 28 b)) ≡ word o 28 b = word-again o 28 b h (omega arith) in
     let same : traceWords (traceOf o b) ≡ read o 12 b = rw (a .bookkeeping, a .first-size, a .timebase, a .second-size, a .again, a .samples, s) in
     ap (λ (ns : List ℕ). words o ns ++ drop 48 b) same ∙ puts-of-words o 4 12 0 b h (omega arith)
 

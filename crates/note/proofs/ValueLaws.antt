@@ -9,7 +9,6 @@ use Rattle.theory.specs.declared.Order.{Order}
 use Rattle.theory.specs.Words.{Bytes}
 use Rattle.theory.specs.Tests.{ok}
 use Rattle.theory.specs.Layout.{Child}
-use Rattle.theory.proofs.WordLaws.{word-fits}
 use Rattle.note.specs.Words.{word, signed, unsigned}
 use Rattle.note.specs.Answers.{accepted, whole, count, counts, wholes}
 use Rattle.note.specs.Phonon.{phononOf, phononBytes}
@@ -27,7 +26,7 @@ use Rattle.note.specs.Calls.{recordGiven, phononSetting, chargeSetting, 
 use Rattle.note.specs.Places.{structureWith, wordsFrom, signedFrom, unitValue, plainValue, childFrom, timesIn, widthIn, sectionEnd}
 use Rattle.note.specs.Rules.{GpsMeans}
 use Rattle.note.proofs.GpsRuleLaws.{means-fields}
-use Rattle.note.proofs.SignedLaws.{signed-again}
+use Rattle.note.proofs.SignedLaws.{word-again}
 
 module _ (o : Order) (place : ℕ) (b : List ℕ) where
   pub phonon-values : recordGiven o place (ok (structureWith 0x00010001 b))
@@ -102,8 +101,8 @@ module _ (o : Order) (b : List ℕ) where
       → (childOf o (structureWith 0x00010001 b) ≡ childFrom o b 3 0 4) × (childOf o (structureWith 0x00010002 b) ≡ childFrom o b 4 0 4)
   unfolding childOf kindOf phononOf chargeOf
   entry-rows h l =
-      let code : unsigned (signed (word o 0 b)) ≡ word o 0 b = signed-again (word o 0 b) (word-fits o 4 0 b h (omega arith)) in
-      let tower : unsigned (signed (word o 4 b)) ≡ word o 4 b = signed-again (word o 4 b) (word-fits o 4 4 b h (omega arith)) in (
+      let code : unsigned (signed (word o 0 b)) ≡ word o 0 b = word-again o 0 b h (omega arith) in
+      let tower : unsigned (signed (word o 4 b)) ≡ word o 4 b = word-again o 4 b h (omega arith) in (
         ap₂ {C = Child} (λ (x y : ℕ). record { kind = 3; size = 8 + length b; one = x; two = y }) code tower,
         ap₂ {C = Child} (λ (x y : ℕ). record { kind = 4; size = 8 + length b; one = x; two = y }) code tower,
       )

@@ -10,8 +10,7 @@ use lib.ListN.{length}
 use borrow.Author.Tests.{le-leb, leb-true, eq-eqb, ne-eqb, eqb-true}
 use Rattle.theory.specs.declared.Order.{Order}
 use Rattle.theory.specs.Words.{Bytes}
-use Rattle.theory.proofs.WordLaws.{word-fits}
-use Rattle.note.specs.Words.{word, signed, unsigned}
+use Rattle.note.specs.Words.{word}
 use Rattle.note.specs.Phonon.{phononKind, phononOf}
 use Rattle.note.specs.Charge.{chargeKind, chargeOf}
 use Rattle.note.specs.Administrative.{administrativeKind, administrativeOf}
@@ -22,7 +21,7 @@ use Rattle.note.specs.Trigger.{triggerKind, triggerOf}
 use Rattle.note.specs.Tlb.{tlbKind, tlbOf}
 use Rattle.note.specs.Records.{kindOf, recordRule}
 use Rattle.note.proofs.KindCases.{kind-cases}
-use Rattle.note.proofs.SignedLaws.{signed-again}
+use Rattle.note.proofs.SignedLaws.{word-again}
 use Rattle.rules.proofs.LengthLaws.{long-enough}
 use Rattle.rows.specs.declared.Standing.{Standing}
 use Rattle.rows.specs.declared.Values.{Values}
@@ -91,9 +90,6 @@ module _ (o : Order) (k : ℕ) (b : List ℕ) {at : Standing} (is : at ≡ stand
           (omega (arith, two, ordered k is .0), two)
 
       -- An entry's words are signed, and its row has their bits.
-      same-bits : Bytes b → (p : ℕ) → p + 4 ≤ length b → unsigned (signed (word o p b)) ≡ word o p b
-      same-bits bytes p l = signed-again (word o p b) (word-fits o 4 p b bytes l)
-
       pub others-values : Bytes b → {x y : ℕ} → x ≡ word o (at .one) b → y ≡ word o (at .two) b
           → _≡_ {A = Values} (record { kind = at .kind; one = x; two = y }) (valuesOf o k b)
       unfolding valuesOf standingOf phononOf chargeOf administrativeOf traceOf triggerOf tlbOf
@@ -101,8 +97,8 @@ module _ (o : Order) (k : ℕ) (b : List ℕ) {at : Standing} (is : at ≡ stand
           let (p, q) = kind-cases
           (λ w z. (z .row ≡ 8 → ⊥) → (z .row ≡ 0 → ⊥) → twoAt (z .row) + 4 ≤ length b
           → (z .one o b ≡ word o (oneAt (z .row)) b) × (z .two o b ≡ word o (twoAt (z .row)) b)) k
-          (λ p q l. (same-bits bytes 0 (omega arith), same-bits bytes 4 (omega arith)))
-          (λ p q l. (same-bits bytes 0 (omega arith), same-bits bytes 4 (omega arith)))
+          (λ p q l. (word-again o 0 b bytes (omega arith), word-again o 4 b bytes (omega arith)))
+          (λ p q l. (word-again o 0 b bytes (omega arith), word-again o 4 b bytes (omega arith)))
           (λ p q l. (refl, refl)) (λ p q l. (refl, refl))
           (λ p q l. absurd (p refl))
           (λ p q l. (refl, refl)) (λ p q l. (refl, refl)) (λ p q l. (refl, refl)) (λ p q l. absurd (q refl))
