@@ -1,8 +1,9 @@
 /* The reader's and the writers' calls for C. Every call takes any bytes and any numbers and ends. docs/CALLS.md has programs that use them.
  *
- * A call's result is 0 where it is accepted, or one of the refusal numbers
+ * A call's result is 0 where it is accepted, or one of the refusal numbers below. Three calls are otherwise: dwj_zip answers a bit, dwj_samples has no
+ * result, and dwj_next, handed numbers that no dwj_open gave, answers the refusal number that stands in them, be it one of these or none.
  *
- *    1  the file, or the output, has more than 16,777,216 bytes; place 0
+ *    1  the file, or the output, has more than 16,777,216 bytes
  *    2  too few bytes are left: a structure's two words have no room, or it runs past what holds it
  *    3  the file doesn't begin with the word 0x01020304
  *    4  the file isn't of format 2.0
@@ -16,12 +17,15 @@
  *   12  the rows need more room than was lent
  *   13  a place or an end isn't in the output, an end leaves no eight bytes behind its place, or the output has too little room
  *
+ * The place of 1 is always 0.
+ *
  * What a caller must see to, since C cannot check it:
  *  - each pointer is valid for the length given with it, or for the length named here, and aligned for its type; a length of 0
- *    still needs a pointer that is not null;
+ *    still needs a pointer that is not null: dwj_table(file, length, NULL, 0, ..) is not allowed (dwj_table says what is);
  *  - no lent buffer overlaps another, or the file;
- *  - no other thread changes the file or a lent buffer during the call.
- * No call keeps a pointer, allocates, or writes to the file.
+ *  - no other thread or process changes the file or a lent buffer during the call; a mapped file is changed by whoever writes to it.
+ * No call keeps a pointer, allocates, or writes to the file, and none has a state of its own: calls may run in several threads at once, on the same
+ * file too, as long as each has its own buffers and numbers to write into.
  */
 #ifndef DWEJRASQ_H
 #define DWEJRASQ_H
@@ -30,10 +34,53 @@
 #include <stdint.h>
 
 /* The version, as the file VERSION has it; CHANGELOG.md says what a caller must know of each. */
-#define DWJ_VERSION "0.4.0"
+#define DWJ_VERSION "0.5.0"
 #define DWJ_VERSION_MAJOR 0
-#define DWJ_VERSION_MINOR 4
+#define DWJ_VERSION_MINOR 5
 #define DWJ_VERSION_PATCH 0
+
+/* The longest file and the longest output, in bytes. */
+#define DWJ_LONGEST 16777216
+
+/* The refusal numbers. */
+#define DWJ_TOO_LARGE 1
+#define DWJ_TOO_SHORT 2
+#define DWJ_NOT_A_FILE 3
+#define DWJ_WRONG_FORMAT 4
+#define DWJ_WRONG_KIND 5
+#define DWJ_WRONG_LENGTH 6
+#define DWJ_NOT_ADMITTED 7
+#define DWJ_MONITORING 8
+#define DWJ_MISPLACED 9
+#define DWJ_WRONG_FIELD 10
+#define DWJ_WRONG_COUNT 11
+#define DWJ_FEW_ROWS 12
+#define DWJ_NO_ROOM 13
+
+/* The row kinds, and what a row's two values are for each:
+ *    1  file header     version word: DAQ major and minor, format major and minor, from the highest byte down; 0
+ *    2  configuration   count of its entries; 0
+ *    3  phonon entry    detector code; tower, as an unsigned number (-1 is 4,294,967,295)
+ *    4  charge entry    detector code; tower, as an unsigned number
+ *    5  event           class in bits 12 to 15, category in 8 to 11, type in 0 to 7; count of its records
+ *    6  administrative  event number; event time, seconds from 1970 on
+ *    7  trace           detector code; count of samples
+ *    8  history         count of veto times; count of trigger times
+ *    9  GPS             year and day, four decimal digits each, a digit in four bits; status, 0, hour, minute and second in the same way
+ *   10  trigger         first mask; second mask
+ *   11  TLB             word of the first tower; of the second
+ */
+#define DWJ_HEADER 1
+#define DWJ_CONFIGURATION 2
+#define DWJ_PHONON 3
+#define DWJ_CHARGE 4
+#define DWJ_EVENT 5
+#define DWJ_ADMINISTRATIVE 6
+#define DWJ_TRACE 7
+#define DWJ_HISTORY 8
+#define DWJ_GPS 9
+#define DWJ_TRIGGER 10
+#define DWJ_TLB 11
 
 #ifdef __cplusplus
 extern "C" {
@@ -45,6 +92,8 @@ extern "C" {
  *   0   *count rows stand first in rows, the rest of it is unchanged, *place is file_length
  *   12  *count is the rows needed, *place is file_length, rows is unchanged
  *   else  *count is 0, *place is where the file is refused, rows is unchanged
+ * To ask only whether a file is accepted, and how many rows it has, lend room for no row: any pointer that isn't null, with rows_length 0. An
+ * accepted file, which has two rows at least, then gives 12 and *count; a refused one its refusal.
  */
 uint32_t dwj_table(const uint8_t *file, size_t file_length, uint32_t *rows, size_t rows_length, uint64_t *count, uint64_t *place);
 
@@ -56,7 +105,7 @@ uint32_t dwj_table(const uint8_t *file, size_t file_length, uint32_t *rows, size
  *    6  administrative: the series as LLYYMMDD and HHMM, event number, event time, milliseconds since the last event, live milliseconds
  *    7  trace: base address, digitizer channel, detector code, t0 (ns), delta t (ns), count of samples
  *    8  history: count of veto times, where they start, words of a veto mask, where the masks start; the same four for the trigger;
- *       a start is a place of the file
+ *       a start is a place of the file. A list that is empty starts behind its count or width: where the next word stands, or the record ends
  *    9  GPS: year, day, status, hour, minute, second, tenths of a microsecond
  *   10  trigger: six masks
  *   11  TLB: six words, by tower
@@ -64,7 +113,8 @@ uint32_t dwj_table(const uint8_t *file, size_t file_length, uint32_t *rows, size
  */
 uint32_t dwj_record(const uint8_t *file, size_t file_length, size_t place, int64_t values[12], uint64_t *refused_at);
 
-/* Setting: an entry in working units; Record's refusals, then 5 there for another kind. Lent numbers as with Record.
+/* Setting: an entry in working units; Record's refusals, then 5 there for another kind. On 0 *refused_at is unchanged; on a refusal whole and
+ * units are unchanged, both of them, and *refused_at is its place.
  *    3  phonon: whole = 3, code, tower, RTF offset, variable gain, delta t, t0, trace length;
  *       units = gain, QET bias, SQUID bias, lockpoint
  *    4  charge: whole = 4, code, tower, bias, RTF offset, delta t, t0, trace length; units = gain, 0, 0, 0
@@ -72,7 +122,8 @@ uint32_t dwj_record(const uint8_t *file, size_t file_length, size_t place, int64
 uint32_t dwj_setting(const uint8_t *file, size_t file_length, size_t place, int64_t whole[8], double units[4], uint64_t *refused_at);
 
 /* Samples: of the trace at a place, the part of the file that holds its samples: *size bytes from *offset on. Both are 0 where Record
- * finds no trace there.
+ * finds no trace there; nothing is refused. A sample has 16 bits, the lower byte first, and the earlier sample stands first: sample k, from 1, is
+ * file[*offset + 2 * (k - 1)] + 256 * file[*offset + 2 * (k - 1) + 1].
  */
 void dwj_samples(const uint8_t *file, size_t file_length, size_t place, uint64_t *offset, uint64_t *size);
 
@@ -97,7 +148,8 @@ uint32_t dwj_open(const uint8_t *file, size_t file_length, uint64_t walker[6], u
 uint32_t dwj_next(const uint8_t *file, size_t file_length, uint64_t walker[6], uint32_t row[6], uint64_t *refused_at);
 
 /* Visitor: a file's rows from the number first on, counted from 0, up to the last or until rows is full; so a file is read in pieces, the
- * next from first + *count on, until *count is 0. Each call checks the file and passes over the rows before.
+ * next from first + *count on, until *count is 0. Each call checks the file and passes over the rows before. With room for no row, rows_length
+ * below 6, *count is 0 too, so that such a loop must lend more; 12 is never given.
  *    0  *count rows stand in rows, what lies past them is unchanged, *place is file_length
  *   else  *count is 0, *place is where the file is refused, rows is unchanged
  */
@@ -118,7 +170,8 @@ uint32_t dwj_zip(uint32_t word, uint32_t zip);
  * output is unchanged, *next is the place behind it and *refused_at is unchanged. On a refusal no byte is changed, *next is unchanged
  * and *refused_at is its place: 1 for an output longer than 16,777,216 bytes, at place 0; else at the place given, the first of the
  * fields in the order of their words (as Record would refuse it; 6 for lent bytes that are not as many as their count asks), then
- * 13 where the record does not fit from there on. Lent bytes stand as in a file, in its byte order, and must not overlap the output.
+ * 13 where the record does not fit from there on. Lent bytes stand as in a file, in its byte order, and must not overlap the output. They have no
+ * limit of their own: what isn't of the size that its count asks is 6, however long it is.
  */
 
 /* An entry's words in Record's order, those x100 as they stand in the file. */
@@ -135,24 +188,24 @@ uint32_t dwj_write_tlb(uint8_t *out, size_t out_length, size_t place, const uint
 uint32_t dwj_write_trace(uint8_t *out, size_t out_length, size_t place, uint32_t address, uint32_t channel, uint32_t code, int32_t t0, uint32_t delta_t, uint32_t n, const uint8_t *samples, size_t samples_length, uint64_t *next, uint64_t *refused_at);
 
 /* A history: of the veto, and then of the trigger, the count of times, the bytes of the times, the words of a mask, the bytes of the
- * masks.
+ * masks. A count or a width with its top bit set is a negative number, and refused with 10.
  */
 uint32_t dwj_write_history(uint8_t *out, size_t out_length, size_t place, uint32_t veto_times, const uint8_t *veto_times_bytes, size_t veto_times_length, uint32_t veto_width, const uint8_t *veto_masks, size_t veto_masks_length, uint32_t trigger_times, const uint8_t *trigger_times_bytes, size_t trigger_times_length, uint32_t trigger_width, const uint8_t *trigger_masks, size_t trigger_masks_length, uint64_t *next, uint64_t *refused_at);
 
-/* The file header, 8 bytes from byte 0 on: the two DAQ bytes. 1 or 13, both at 0. */
+/* The file header, 8 bytes from byte 0 on: the two DAQ bytes. On 0 *next is 8; on 1 or 13, both at 0, it is unchanged, and so is the output. */
 uint32_t dwj_write_header(uint8_t *out, size_t out_length, uint8_t major, uint8_t minor, uint64_t *next, uint64_t *refused_at);
 
 /* Closings: a container from place to end, over the contents already written from place + 8 on. 1; 13 at place, where place or end is
  * past the output or end below place + 8; an event's class, category and type (7, 8), then 9 where it has no contents, at place; then
- * the contents as the reader refuses them, at their places. On 0 the eight bytes from place on are written, all else is unchanged, and
- * *next is end.
+ * the contents as the reader refuses them, at their places. On 0 the eight bytes from place on are written, all else is unchanged, *next is end
+ * and *refused_at is unchanged. On a refusal the output, the eight bytes too, and *next are unchanged, and *refused_at is its place.
  */
 uint32_t dwj_close_configuration(uint8_t *out, size_t out_length, size_t place, size_t end, uint64_t *next, uint64_t *refused_at);
 uint32_t dwj_close_event(uint8_t *out, size_t out_length, size_t place, size_t end, uint32_t event_class, uint32_t category, uint32_t type, uint64_t *next, uint64_t *refused_at);
 
 /* Rewrite: an accepted file's fields, written again from byte 0 of the output on; what stands there then is the file, the output
- * behind it is unchanged, and *next is the file's length. 1 for either buffer, at 0; the file's refusal; 13 at 0 where the output is
- * shorter than the file. The two must not overlap.
+ * behind it is unchanged, *next is the file's length and *refused_at is unchanged. 1 for either buffer, at 0; the file's refusal; 13 at 0 where
+ * the output is shorter than the file: then the output and *next are unchanged, and *refused_at is its place. The two must not overlap.
  */
 uint32_t dwj_rewrite(const uint8_t *file, size_t file_length, uint8_t *out, size_t out_length, uint64_t *next, uint64_t *refused_at);
 

@@ -2,7 +2,7 @@
 # In an edit '#' says what is wrong; 'file:' names a file, 'old:' a line of it, which stands there once, 'new:' the line in its place (both whatever
 # their indentation); 'function:' names the functions whose proofs must refuse it. A line that stands several times in its file is looked for in the
 # body of the first of these.
-. tests/jobs.sh
+. build/jobs.sh
 room=$(mktemp -d) || exit 1
 trap 'rm -rf "$room"' EXIT
 

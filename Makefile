@@ -1,0 +1,61 @@
+# make                        prove the library once and build it: static, shared, and what the Python module needs
+# make install PREFIX=..      the libraries, the header, a pkg-config file, the command dwj and the Python module, under a prefix (/usr/local)
+# make uninstall PREFIX=..    takes them away again
+# make test                   ./test
+# DESTDIR goes before PREFIX, for packages. What is missing of Debian's packages is installed, or named in one line.
+PREFIX ?= /usr/local
+override PREFIX := $(abspath $(PREFIX))
+PYTHON ?= /usr/bin/python3
+VERSION := $(shell cat VERSION)
+MAJOR := $(firstword $(subst ., ,$(VERSION)))
+NATIVE := target/native
+STATIC := $(NATIVE)/libdwejrasq.a
+SHARED := $(NATIVE)/libdwejrasq.so.$(VERSION)
+# What the library is made of: where none of it has changed, nothing is proved again.
+SOURCES := crates.txt $(shell find crates -type f \( -name '*.rt' -o -name '*.antt' \))
+MODULE := $(wildcard python/dwejrasq/*.py) $(wildcard python/dwejrasq/*.html) python/dwejrasq/py.typed
+# What the command and the module need when they run.
+NEEDS := $(shell cat build/users)
+
+into := $(DESTDIR)$(PREFIX)
+modules = $(into)/lib/python$(shell $(PYTHON) -c 'import sys; print("%d.%d" % sys.version_info[:2])')/dist-packages
+completions := $(into)/share/bash-completion/completions
+
+.PHONY: all install uninstall test
+all: $(SHARED)
+
+$(STATIC): $(SOURCES) build/library
+	@echo 'make: the library is being proved and built; the first time that takes some minutes on two processors'
+	build/library $(STATIC)
+
+$(SHARED): $(STATIC) include/dwejrasq.h VERSION python/guard.c build/shared
+	build/shared $(STATIC)
+	touch $(SHARED)
+
+install: all
+	@PYTHON=$(PYTHON) build/packages $(NEEDS)
+	install -d $(into)/lib/pkgconfig $(into)/include $(into)/bin $(modules)/dwejrasq $(completions)
+	install -m 644 $(STATIC) $(into)/lib/libdwejrasq.a
+	install -m 755 $(SHARED) $(into)/lib/libdwejrasq.so.$(VERSION)
+	ln -sf libdwejrasq.so.$(VERSION) $(into)/lib/libdwejrasq.so.$(MAJOR)
+	ln -sf libdwejrasq.so.$(MAJOR) $(into)/lib/libdwejrasq.so
+	install -m 644 include/dwejrasq.h $(into)/include/dwejrasq.h
+	sed 's#@PREFIX@#$(PREFIX)#; s#@VERSION@#$(VERSION)#' build/dwejrasq.pc >$(into)/lib/pkgconfig/dwejrasq.pc
+	rm -rf $(modules)/dwejrasq
+	install -d $(modules)/dwejrasq
+	install -m 644 $(MODULE) $(modules)/dwejrasq
+	install -m 755 $(NATIVE)/guard.so $(modules)/dwejrasq/guard.so
+	cd python && PYTHONDONTWRITEBYTECODE=1 $(PYTHON) -c 'import sys; from dwejrasq._native import declared; declared(sys.argv[1])' $(abspath $(modules))/dwejrasq/_declared.py
+	sed 's#@PYTHON@#$(PYTHON)#; s#@MODULES@#$(patsubst $(into)/%,%,$(modules))#' build/dwj >$(into)/bin/dwj
+	chmod 755 $(into)/bin/dwj
+	$(PYTHON) -m compileall -q $(modules)/dwejrasq
+	$(into)/bin/dwj completion bash >$(completions)/dwj
+	@echo 'make: dwj $(VERSION) is in $(PREFIX)/bin, and for Python in $(patsubst $(DESTDIR)%,%,$(modules))'
+
+uninstall:
+	rm -f $(into)/lib/libdwejrasq.a $(into)/lib/libdwejrasq.so $(into)/lib/libdwejrasq.so.$(MAJOR) $(into)/lib/libdwejrasq.so.$(VERSION)
+	rm -f $(into)/include/dwejrasq.h $(into)/lib/pkgconfig/dwejrasq.pc $(into)/bin/dwj $(completions)/dwj
+	rm -rf $(modules)/dwejrasq
+
+test:
+	./test

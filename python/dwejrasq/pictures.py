@@ -1,0 +1,89 @@
+"""Traces drawn: one, or all of an event by detector and side. matplotlib is loaded where a picture is asked for."""
+
+from __future__ import annotations
+
+import os
+from typing import Any
+
+import matplotlib
+
+matplotlib.use("Agg")
+from matplotlib.backends.backend_agg import FigureCanvasAgg  # noqa: E402
+from matplotlib.figure import Figure  # noqa: E402
+
+from . import records  # noqa: E402
+from .faults import Absent  # noqa: E402
+from .listing import described, titled  # noqa: E402
+
+# The same file gives the same picture: no date, and the names of SVG's parts from a fixed seed.
+matplotlib.rcParams["svg.hashsalt"] = "dwejrasq"
+matplotlib.rcParams["svg.fonttype"] = "none"
+
+# Colours that the colour-blind can tell apart (Okabe and Ito), and lines that differ where colours run out.
+COLOURS = ("#0072b2", "#d55e00", "#009e73", "#cc79a7", "#e69f00", "#56b4e9", "#000000")
+LINES = ("-", "--", ":")
+
+
+def suffix(path: str) -> str:
+    """The picture's sort by the end of its name: png or svg. Absent for any other."""
+    end = os.path.splitext(path)[1].lower().lstrip(".")
+    if end not in ("png", "svg"):
+        raise Absent(f"'{path}': a picture's name ends with .png or .svg")
+    return end
+
+
+def drawn(axes: Any, traces: list[records.Trace]) -> None:
+    """Traces in one pair of axes."""
+    for index, trace in enumerate(traces):
+        colour, line = COLOURS[index % len(COLOURS)], LINES[index // len(COLOURS) % len(LINES)]
+        axes.plot(trace.time, trace.samples, line, color=colour, linewidth=0.8, label=trace.channel.name)
+    axes.axvline(0, color="#999999", linewidth=0.6, zorder=0)
+    axes.margins(x=0)
+    axes.grid(color="#eeeeee")
+    axes.legend(loc="upper right", fontsize=7, framealpha=0.8)
+    for side in ("top", "right"):
+        axes.spines[side].set_visible(False)
+
+
+def trace_figure(trace: records.Trace) -> Figure:
+    """One trace, over microseconds from the trigger on."""
+    figure = Figure(figsize=(8, 3.2), layout="constrained")
+    axes = figure.subplots()
+    drawn(axes, [trace])
+    axes.set_title(titled(trace.channel), loc="left", fontsize=10)
+    axes.set_xlabel("µs from the trigger")
+    axes.set_ylabel("sample")
+    return figure
+
+
+def event_figure(event: records.Event) -> Figure:
+    """All traces of an event: a line of panels for each detector, and in it one for each side that its channels have."""
+    panels: dict[tuple[int, int], dict[str, list[records.Trace]]] = {}
+    for trace in event.traces:
+        channel = trace.channel
+        panels.setdefault((channel.type, channel.number), {}).setdefault(channel.side, []).append(trace)
+    if not panels:
+        raise Absent(f"event {event.number} has no traces")
+    across = max(len(sides) for sides in panels.values())
+    figure = Figure(figsize=(2 + 4.5 * across, 1 + 2.2 * len(panels)), layout="constrained")
+    axes = figure.subplots(len(panels), across, squeeze=False)
+    for line, (_, sides) in zip(axes, sorted(panels.items())):
+        for panel, (side, traces) in zip(line, sorted(sides.items())):
+            first = traces[0].channel
+            izip = f" (class {first.izip_class}), side {side}" if side else ""
+            drawn(panel, traces)
+            panel.set_title(f"{first.detector}{izip}", loc="left", fontsize=9)
+            panel.set_ylabel("sample", fontsize=8)
+            panel.tick_params(labelsize=7)
+        for panel in line[len(sides) :]:
+            panel.set_visible(False)
+        for panel in line[: len(sides)]:
+            panel.set_xlabel("µs from the trigger", fontsize=8)
+    figure.suptitle(f"event {event.number}, {described(event)}", fontsize=10)
+    return figure
+
+
+def saved(figure: Figure, out: Any, kind: str) -> None:
+    """A picture, written to a file or a stream."""
+    FigureCanvasAgg(figure)
+    figure.savefig(out, format=kind, dpi=110, metadata={"Date": None} if kind == "svg" else {"Software": None})
