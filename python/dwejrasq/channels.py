@@ -58,7 +58,7 @@ def channel(code: int) -> Channel:
 
 def code(type: int, number: int, name: str) -> int:
     """The detector code of a type, a detector's number and an analysis name; Refused (10) where there is none."""
-    spelled = name.encode()
+    spelled = name.encode("utf-8", "surrogatepass")
     answer = ffi.new("uint32_t *")
     known = 0 <= type < 2**32 and 0 <= number < 2**32
     refusal = library.dwj_code(type, number, ffi.from_buffer("uint8_t[]", spelled), len(spelled), answer) if known else 10

@@ -33,11 +33,6 @@ class Trouble(click.ClickException):
         click.echo(f"dwj: {self.message}", err=True)
 
 
-def printable(name: str) -> str:
-    """A file's name as it can be printed, whatever bytes it has."""
-    return name.encode("utf-8", "surrogateescape").decode("utf-8", "replace")
-
-
 def loaded(path: str) -> tuple[str, Bytes]:
     """A file's bytes, or standard input's for '-', and a name for them. They are read, not mapped: nobody can change them then."""
     try:
@@ -45,12 +40,12 @@ def loaded(path: str) -> tuple[str, Bytes]:
             return "standard input", files.loaded(0, "standard input")
         descriptor = os.open(path, os.O_RDONLY | os.O_CLOEXEC)
         try:
-            return printable(path), files.loaded(descriptor, path)
+            return listing.spelled(path), files.loaded(descriptor, path)
         finally:
             os.close(descriptor)
     except (OSError, ValueError) as error:
         reason = runs.reason(error) if isinstance(error, OSError) else str(error)
-        raise Trouble(f"{'standard input' if path == '-' else printable(path)}: {reason}") from None
+        raise Trouble(f"{'standard input' if path == '-' else listing.spelled(path)}: {reason}") from None
 
 
 def refused(answer: runs.Answer) -> NoReturn:
@@ -128,7 +123,7 @@ def output(path: str) -> Iterator[BinaryIO]:
     try:
         writing.save(path, stream.getvalue())
     except OSError as error:
-        raise Trouble(f"{printable(path)}: {runs.reason(error)}") from None
+        raise Trouble(f"{listing.spelled(path)}: {runs.reason(error)}") from None
 
 
 def said(lines: Iterable[str]) -> None:
@@ -172,7 +167,7 @@ def listed_in(path: str) -> Iterator[Iterable[bytes]]:
             with open(path, "rb") as lines:
                 yield lines
     except OSError as error:
-        raise Trouble(f"{printable(path)}: {runs.reason(error)}") from None
+        raise Trouble(f"{listing.spelled(path)}: {runs.reason(error)}") from None
 
 
 def answers(wanted: list[str], workers: Optional[int], scheduler: Optional[str]) -> Iterator[runs.Answer]:
@@ -192,38 +187,53 @@ def answers(wanted: list[str], workers: Optional[int], scheduler: Optional[str])
             raise Trouble(f"the Dask cluster at {scheduler}: {str(error) or type(error).__name__}") from None
 
 
-def told(answer: runs.Answer, quiet: bool, as_json: bool) -> None:
-    """One file's line, and the bytes where it is refused; a file that can't be read goes to standard error."""
-    name = printable(answer.name)
+def told(answer: runs.Answer, quiet: bool, as_json: bool) -> Iterator[str]:
+    """One file's line, and the bytes where it is refused. A file that can't be read has none but as JSON: that goes to standard error."""
+    name = listing.spelled(answer.name)
     if as_json:
         found: dict[str, Any] = {"file": name, "length": answer.length, "rows": answer.count}
         if answer.refusal:
             found = listing.refusal(name, answer.refusal) | {"length": answer.length}
         elif answer.problem:
             found = {"file": name, "problem": answer.problem}
-        click.echo(json.dumps(found))
-    elif answer.problem:
-        click.echo(f"dwj: {name}: {answer.problem}", err=True)
+        yield json.dumps(found)
     elif answer.refusal:
-        click.echo(click.style(name, fg="red") + f": {answer.refusal}")
-        for line in answer.bytes_there:
-            click.echo(line)
-    elif not quiet:
-        click.echo(f"{name}: accepted: {answer.length:,} bytes, {answer.count:,} rows")
+        yield click.style(name, fg="red") + f": {answer.refusal}"
+        yield from answer.bytes_there
+    elif not quiet and not answer.problem:
+        yield f"{name}: accepted: {answer.length:,} bytes, {answer.count:,} rows"
 
 
 @contextmanager
-def progress(count: int) -> Iterator[Callable[[], None]]:
-    """A bar on standard error, where that is a terminal and there is more than one file."""
+def progress(count: int) -> Iterator[Callable[[Iterable[str], str], None]]:
+    """For each file its lines, and what went wrong with it on standard error; and below them, on a terminal and for more than one file, a bar."""
+
+    def plainly(lines: Iterable[str], trouble: str) -> None:
+        said(lines)
+        if trouble:
+            click.echo(trouble, err=True)
+
     if count < 2 or not sys.stderr.isatty():
-        yield lambda: None
+        yield plainly
         return
     from rich.console import Console
     from rich.progress import BarColumn, MofNCompleteColumn, Progress, TimeRemainingColumn
+    from rich.text import Text
 
-    with Progress(BarColumn(), MofNCompleteColumn(), TimeRemainingColumn(), console=Console(stderr=True), transient=True) as bar:
+    both, columns = sys.stdout.isatty(), (BarColumn(), MofNCompleteColumn(), TimeRemainingColumn())
+    console = Console(stderr=not both)
+    with Progress(*columns, console=console, transient=True, redirect_stdout=False, redirect_stderr=False) as bar:
         task = bar.add_task("files", total=count)
-        yield lambda: bar.advance(task)
+
+        # What goes to the bar's own terminal is put above it.
+        def step(lines: Iterable[str], trouble: str) -> None:
+            if not both:
+                said(lines)
+            for line in [*(lines if both else ()), *([trouble] if trouble else ())]:
+                console.print(Text.from_ansi(line), soft_wrap=True)
+            bar.advance(task)
+
+        yield step
 
 
 @dwj.command()
@@ -249,9 +259,9 @@ def check(names: tuple[str, ...], listed: Optional[str], quiet: bool, as_json: b
     tally = [0, 0, 0]
     with progress(len(wanted)) as step:
         for answer in answers(wanted, workers, scheduler):
-            step()
             tally[answer.status] += 1
-            told(answer, quiet, as_json)
+            trouble = f"dwj: {listing.spelled(answer.name)}: {answer.problem}" if answer.problem and not as_json else ""
+            step(told(answer, quiet, as_json), trouble)
     if len(wanted) > 1:
         click.echo(f"dwj: {len(wanted):,} files: {tally[0]:,} accepted, {tally[1]:,} refused, {tally[2]:,} not read", err=True)
     sys.exit(WRONG if tally[2] else REFUSED if tally[1] else ACCEPTED)
@@ -421,7 +431,7 @@ def rewrite(source: str, out: str) -> None:
     with output(out) as stream:
         stream.write(again)
     if out != "-":
-        click.echo(f"{printable(out)}: {len(again):,} bytes, {'the same as' if again == data.tobytes() else 'other than'} {name}")
+        click.echo(f"{listing.spelled(out)}: {len(again):,} bytes, {'the same as' if again == data.tobytes() else 'other than'} {name}")
 
 
 @dwj.command()
@@ -441,7 +451,7 @@ def plot(file: str, event: str, out: Optional[str]) -> None:
     figure = pictures.event_figure(found)
     with output(out) as stream:
         pictures.saved(figure, stream, kind)
-    click.echo(f"{printable(out)}: event {found.number}, {len(found.traces)} traces")
+    click.echo(f"{listing.spelled(out)}: event {found.number}, {len(found.traces)} traces")
 
 
 @dwj.command()

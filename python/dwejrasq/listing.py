@@ -16,6 +16,12 @@ from .faults import Refused, hexadecimal
 from .files import File
 
 
+def spelled(name: str) -> str:
+    """A name with what can't be printed in it spelled out, as in ``\\n``: bytes that are no text too."""
+    letters = (f"\\x{ord(c) - 0xDC00:02x}" if "\udc80" <= c <= "\udcff" else c if c.isprintable() else ascii(c)[1:-1] for c in name)
+    return "".join(letters) or "(no name)"
+
+
 def number(value: float) -> str:
     """A number as people write it."""
     return f"{value:.10g}"

@@ -21,6 +21,7 @@ from ._native import VERSION, library
 from .damaged import Reopened, before_fault, refusal_of, reopened
 from .faults import Refused, hexadecimal, structure_at
 from .files import File, read
+from .listing import spelled
 from .records import Event, Gps, History, Samples, Setting, Tlb, Trace, Trigger
 
 # What a page holds at most; what is left out is counted on it.
@@ -107,12 +108,6 @@ def page(data: memoryview, name: str) -> str:
     start, rest = template.split("<!-- title -->")
     middle, end = rest.split("<!-- body -->")
     return "".join((start, html.escape(spelled(name)), middle, body, end))
-
-
-def spelled(name: str) -> str:
-    """A name with what can't be printed in it spelled out, as in ``\\n``: bytes that are no text too."""
-    letters = (f"\\x{ord(c) - 0xDC00:02x}" if "\udc80" <= c <= "\udcff" else c if c.isprintable() else ascii(c)[1:-1] for c in name)
-    return "".join(letters) or "(no name)"
 
 
 def envelope(samples: Samples) -> bytes:

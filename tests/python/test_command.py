@@ -343,6 +343,15 @@ def test_pipes_and_terminals(tmp_path: Path) -> None:
         ["script", "-qec", f"'{sys.executable}' -m dwejrasq ls '{EVERY}'", "/dev/null"], capture_output=True, timeout=60, stdin=subprocess.DEVNULL
     )
     assert b"\x1b[" in terminal.stdout and terminal.returncode == 0
+    # A bar for several files on a terminal; the answers go where they are sent all the same.
+    barred = subprocess.run(
+        ["script", "-qec", f"'{sys.executable}' -m dwejrasq check '{P14}' '{DAMAGED}' >'{tmp_path}/out'", "/dev/null"],
+        capture_output=True,
+        timeout=60,
+        stdin=subprocess.DEVNULL,
+    )
+    assert barred.returncode == 1 and b"2/2" in barred.stdout and b"refused at" not in barred.stdout
+    assert (tmp_path / "out").read_text() == f"{P14}: accepted: 88 bytes, 5 rows\n{REFUSAL}{HEX}"
     full = subprocess.run([sys.executable, "-m", "dwejrasq", "ls", EVERY], stdout=open("/dev/full", "wb"), stderr=subprocess.PIPE, timeout=60)
     assert full.returncode == 2 and full.stderr == b"dwj: no space left on device\n"
 

@@ -244,3 +244,40 @@ def test_a_worker_that_is_killed_loses_nothing(many: list[str], client: Any, tmp
     assert set(client.run(os.getpid).values()) != set(pids)
     alike(dwejrasq.run(names), found)
     assert told(found) == expected(names)
+
+
+class Dying:
+    """A cluster's client, as far as `run` uses one, on which the worker that is given one file dies each time."""
+
+    def __init__(self, deadly: str) -> None:
+        self.deadly = deadly
+
+    def wait_for_workers(self, count: int, timeout: int) -> None:
+        assert count == 1
+
+    def map(self, call: Any, batches: list[list[str]], tabulate: list[bool], **more: Any) -> list[Any]:
+        return [self.submit(call, batch, flag) for batch, flag in zip(batches, tabulate)]
+
+    def submit(self, call: Any, names: Any, tabulate: bool, **more: Any) -> Any:
+        from concurrent.futures import Future
+
+        from distributed import KilledWorker
+
+        future: Any = Future()
+        future.release = lambda: None
+        if self.deadly in ([names] if isinstance(names, str) else names):
+            future.set_exception(KilledWorker.__new__(KilledWorker))
+        else:
+            future.set_result(call(names, tabulate))
+        return future
+
+
+def test_a_file_that_ends_its_workers(tmp_path: Path) -> None:
+    """Where each worker that is given a file dies, all other files of its batch are there, and it is told."""
+    data = files.laid(files.tree(Seeded(1)))
+    names = [str(tmp_path / f"{index}.raw") for index in range(40)]
+    for name in names:
+        Path(name).write_bytes(data)
+    found = dwejrasq.run(names, scheduler=Dying(names[5]))
+    assert found.unread.to_dict("records") == [{"file": names[5], "words": "each worker that was given it died"}]
+    assert found.rows["file"].unique().tolist() == names[:5] + names[6:] and len(found.refused) == 0
