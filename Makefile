@@ -4,6 +4,9 @@
 # make test                   ./test
 # DESTDIR goes before PREFIX, for packages. What is missing of Debian's packages is installed, or named in one line.
 PREFIX ?= /usr/local
+ifneq ($(words $(PREFIX)) $(filter-out 0 1,$(words $(DESTDIR))),1 )
+$(error PREFIX, and DESTDIR, are each one word, without blanks in it)
+endif
 override PREFIX := $(abspath $(PREFIX))
 PYTHON ?= /usr/bin/python3
 VERSION := $(shell cat VERSION)
@@ -56,6 +59,8 @@ uninstall:
 	rm -f $(into)/lib/libdwejrasq.a $(into)/lib/libdwejrasq.so $(into)/lib/libdwejrasq.so.$(MAJOR) $(into)/lib/libdwejrasq.so.$(VERSION)
 	rm -f $(into)/include/dwejrasq.h $(into)/lib/pkgconfig/dwejrasq.pc $(into)/bin/dwj $(completions)/dwj
 	rm -rf $(modules)/dwejrasq
+	@rmdir $(modules) $(dir $(modules)) $(completions) $(dir $(completions)) $(into)/share $(into)/lib/pkgconfig $(into)/lib $(into)/include \
+	  $(into)/bin $(into) 2>/dev/null || true
 
 test:
 	./test

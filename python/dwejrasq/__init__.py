@@ -2,8 +2,9 @@
 
 >>> import dwejrasq
 >>> with dwejrasq.open("examples/every-kind.raw") as file:
-...     trace = file.trace(5, 11, 17, "PAS2")
+...     trace = file.trace(7, 11, 17, "PAS2")
 ...     print(trace.channel, trace.samples[:3])
+iZIP17:PAS2 [2000 2002 2004]
 """
 
 from ._native import VERSION as __version__

@@ -6,6 +6,7 @@ import csv
 import io
 import json
 import os
+import re
 import signal
 import sys
 from collections.abc import Iterable, Iterator
@@ -67,13 +68,9 @@ def opened(path: str) -> files.File:
 
 def place_of(text: str) -> int:
     """A place, decimal or with 0x before it."""
-    try:
-        place = int(text, 16) if text.lower().startswith("0x") else int(text)
-    except ValueError:
-        raise click.BadParameter(f"'{text}' is no byte's number") from None
-    if place < 0:
-        raise click.BadParameter(f"'{text}' is no byte's number")
-    return place
+    if not re.fullmatch("[0-9]+|0[xX][0-9a-fA-F]+", text):
+        raise click.BadParameter(f"'{listing.spelled(text)}' is no byte's number: decimal digits are expected, or hexadecimal ones behind 0x")
+    return int(text, 16 if text[:2] in ("0x", "0X") else 10)
 
 
 def event_of(file: files.File, text: str) -> records.Event:
@@ -89,7 +86,7 @@ def event_of(file: files.File, text: str) -> records.Event:
 def number_of(text: str) -> int:
     """An event's number."""
     if not (text.isascii() and text.isdigit()):
-        raise click.BadParameter(f"'{text}' is no event: its number is asked, or '@' and the byte where it begins")
+        raise click.BadParameter(f"'{listing.spelled(text)}' is no event: its number is expected, or '@' and the byte where it begins")
     return int(text)
 
 
@@ -106,20 +103,22 @@ def trace_of(file: files.File, event: str, name: str) -> records.Trace:
         raise faults.Absent(f"{name} is there in both iZIP classes: {' and '.join(str(trace.code) for trace in there)}; give one of these codes")
     if there:
         return there[0]
-    if not event.startswith("@"):
-        file.event(number_of(event))
-    raise faults.Absent(f"event {event} has no trace of {name}")
+    others = ", ".join(dict.fromkeys(str(trace.channel) for trace in event_of(file, event).traces[:24]))
+    raise faults.Absent(f"event {event} has no trace of {name}; it has {others or 'no traces'}")
 
 
 @contextmanager
-def output(path: str) -> Iterator[BinaryIO]:
-    """A stream to write into: standard output for '-', else a file that is there under its name once all of it is written."""
-    if path == "-":
-        yield sys.stdout.buffer
-        sys.stdout.buffer.flush()
-        return
+def output(path: str, source: str) -> Iterator[BinaryIO]:
+    """A stream to write into: standard output for '-', else a file that is there under its name once all of it is written, and isn't the source."""
+    if path != "-" and os.path.exists(path) and os.path.exists(source) and os.path.samefile(path, source):
+        raise Trouble(f"{listing.spelled(path)}: is the file that is read; it stays as it is")
     stream = io.BytesIO()
     yield stream
+    if path == "-":
+        sys.stdout.flush()
+        sys.stdout.buffer.write(stream.getvalue())
+        sys.stdout.buffer.flush()
+        return
     try:
         writing.save(path, stream.getvalue())
     except OSError as error:
@@ -138,6 +137,12 @@ def said(lines: Iterable[str]) -> None:
         click.echo("\n".join(several))
 
 
+def made(path: str, what: str) -> None:
+    """Says what was written, where that didn't go to standard output."""
+    if path != "-":
+        click.echo(f"{listing.spelled(path)}: {what}")
+
+
 def not_at_a_terminal(path: str, what: str) -> None:
     """Bytes don't go to a terminal."""
     if path == "-" and sys.stdout.isatty():
@@ -147,7 +152,7 @@ def not_at_a_terminal(path: str, what: str) -> None:
 FILE = click.argument("file", type=click.Path(allow_dash=True, readable=False), metavar="FILE")
 
 
-@click.group(context_settings={"help_option_names": ["-h", "--help"], "max_content_width": 110})
+@click.group(context_settings={"help_option_names": ["-h", "--help"], "max_content_width": 110}, no_args_is_help=False)
 @click.version_option(__version__, prog_name="dwj", message="%(prog)s %(version)s")
 def dwj() -> None:
     """Raw files of an underground dark matter search: checked, listed, drawn and written again by a proved library.
@@ -236,12 +241,12 @@ def progress(count: int) -> Iterator[Callable[[Iterable[str], str], None]]:
         yield step
 
 
-@dwj.command()
+@dwj.command(short_help="Check files, and say where a refused one is at fault.")
 @click.argument("names", nargs=-1, type=click.Path(allow_dash=True, readable=False), metavar="FILE..")
 @click.option("--from", "listed", type=click.Path(allow_dash=True, readable=False), metavar="LIST", help="Also the files that LIST names, a line each; - is standard input.")
 @click.option("-q", "--quiet", is_flag=True, help="Only say what is refused or can't be read.")
 @click.option("--json", "as_json", is_flag=True, help="A JSON object a line.")
-@click.option("-j", "--workers", type=click.IntRange(1, 1024), help="So many files at a time; else as many as there are processors.")
+@click.option("-j", "--workers", type=click.IntRange(1, 1024), help="How many files at a time; else as many as there are processors.")
 @click.option("--scheduler", metavar="ADDRESS", help="On the workers of a Dask cluster, by its scheduler's address, as in tcp://host:8786.")
 def check(names: tuple[str, ...], listed: Optional[str], quiet: bool, as_json: bool, workers: Optional[int], scheduler: Optional[str]) -> None:
     """Check files: a line each, and of a refused one the bytes of the structure at fault.
@@ -267,7 +272,7 @@ def check(names: tuple[str, ...], listed: Optional[str], quiet: bool, as_json: b
     sys.exit(WRONG if tally[2] else REFUSED if tally[1] else ACCEPTED)
 
 
-@dwj.command()
+@dwj.command(short_help="List what a file holds, as a tree, JSON or rows.")
 @FILE
 @click.option("--json", "as_json", is_flag=True, help="As a JSON document: all fields, without samples.")
 @click.option("--rows", "as_rows", is_flag=True, help="As the listing program's lines of numbers: answer, count, place; then a line a row.")
@@ -290,7 +295,7 @@ def ls(file: str, as_json: bool, as_rows: bool) -> None:
         said(listing.lines(found) if as_rows else listing.tree(found))
 
 
-@dwj.command()
+@dwj.command(short_help="Show one structure: its fields, and its bytes in hex.")
 @FILE
 @click.argument("place")
 @click.option("--json", "as_json", is_flag=True, help="As a JSON object.")
@@ -314,7 +319,7 @@ def show(file: str, place: str, as_json: bool) -> None:
         said(listing.shown(found, at))
 
 
-@dwj.command()
+@dwj.command(short_help="One trace: what it is, its samples, or a picture.")
 @FILE
 @click.argument("event")
 @click.argument("name", metavar="CHANNEL", shell_complete=lambda context, parameter, begun: channels_of(context.params, begun))
@@ -329,8 +334,12 @@ def trace(file: str, event: str, name: str, as_csv: bool, as_npy: bool, plot: Op
     iZIP17:PAS2 (iZIP-I and iZIP-II say which class), or a detector code, as in 11017002. Of traces that are asked for by an event's number the
     first in the file is taken.
     """
+    if not (as_csv or as_npy or plot is not None) and out != "-":
+        as_csv, as_npy = out.lower().endswith(".csv"), out.lower().endswith(".npy")
+        if not (as_csv or as_npy):
+            raise click.UsageError("with -o also give --csv or --npy, or a name that ends so")
     if as_csv + as_npy + (plot is not None) > 1:
-        raise click.UsageError("one of --csv, --npy and --plot")
+        raise click.UsageError("give only one of --csv, --npy and --plot")
     if as_npy:
         not_at_a_terminal(out, "a NumPy file")
     found = trace_of(opened(file), event, name)
@@ -338,16 +347,18 @@ def trace(file: str, event: str, name: str, as_csv: bool, as_npy: bool, plot: Op
         from . import pictures
 
         kind = pictures.suffix(plot)
-        with output(plot) as stream:
+        not_at_a_terminal(plot, "a picture")
+        with output(plot, file) as stream:
             pictures.saved(pictures.trace_figure(found), stream, kind)
+        made(plot, f"{found.channel}, {found.n:,} samples")
     elif as_csv:
         table = "".join(f"{time / 1000:.3f},{sample}\n" for time, sample in zip(found.nanoseconds.tolist(), found.samples.tolist()))
-        with output(out) as stream:
+        with output(out, file) as stream:
             stream.write(f"time_us,sample\n{table}".encode())
     elif as_npy:
         import numpy
 
-        with output(out) as stream:
+        with output(out, file) as stream:
             numpy.save(stream, found.samples)
     else:
         said(listing.shown(found.file, found.place))
@@ -362,7 +373,7 @@ def channels_of(given: dict[str, Any], begun: str) -> list[str]:
         return []
 
 
-@dwj.command()
+@dwj.command(short_help="The configuration's entries, in working units.")
 @FILE
 @click.option("--csv", "as_csv", is_flag=True, help="As lines with commas.")
 @click.option("--json", "as_json", is_flag=True, help="As a JSON list.")
@@ -401,7 +412,7 @@ def tabulated(titles: list[str], lines: list[list[str]], as_csv: bool) -> None:
         click.echo(click.style(text_line, bold=True) if index == 0 else text_line)
 
 
-@dwj.command("channels")
+@dwj.command("channels", short_help="The channel list: types, analysis and cold names, sides.")
 @click.argument("which", nargs=-1, metavar="[WHICH]..")
 @click.option("--csv", "as_csv", is_flag=True, help="As lines with commas.")
 def channels_(which: tuple[str, ...], as_csv: bool) -> None:
@@ -417,7 +428,7 @@ def channels_(which: tuple[str, ...], as_csv: bool) -> None:
     tabulated(titles, [[str(c.code), str(c.type), c.detector, c.izip_class, c.name, c.cold, c.side] for c in found], as_csv)
 
 
-@dwj.command()
+@dwj.command(short_help="Read a file's fields and write them again.")
 @click.argument("source", type=click.Path(allow_dash=True, readable=False), metavar="IN")
 @click.argument("out", type=click.Path(allow_dash=True, readable=False), metavar="OUT")
 def rewrite(source: str, out: str) -> None:
@@ -428,13 +439,13 @@ def rewrite(source: str, out: str) -> None:
         again = writing.rewrite(data)
     except faults.Refused:
         refused(runs.answered(data, name))
-    with output(out) as stream:
+    # Over the file itself too: they are the same bytes.
+    with output(out, "") as stream:
         stream.write(again)
-    if out != "-":
-        click.echo(f"{listing.spelled(out)}: {len(again):,} bytes, {'the same as' if again == data.tobytes() else 'other than'} {name}")
+    made(out, f"{len(again):,} bytes, {'the same as' if again == data.tobytes() else 'other than'} {name}")
 
 
-@dwj.command()
+@dwj.command(short_help="Draw all traces of an event, by detector and side.")
 @FILE
 @click.argument("event")
 @click.option("-o", "--output", "out", metavar="OUT", help="A name that ends with .png or .svg; without it event-NUMBER.png.")
@@ -449,12 +460,13 @@ def plot(file: str, event: str, out: Optional[str]) -> None:
     found = event_of(opened(file), event)
     out = out or f"event-{found.number}.png"
     figure = pictures.event_figure(found)
-    with output(out) as stream:
+    not_at_a_terminal(out, "a picture")
+    with output(out, file) as stream:
         pictures.saved(figure, stream, kind)
-    click.echo(f"{listing.spelled(out)}: event {found.number}, {len(found.traces)} traces")
+    made(out, f"event {found.number}, {len(found.traces)} traces")
 
 
-@dwj.command()
+@dwj.command(short_help="Make a page of a file, for a browser.")
 @FILE
 @click.option("-o", "--output", "out", required=True, metavar="OUT", help="The page, as in event.html; - is standard output.")
 def page(file: str, out: str) -> None:
@@ -465,8 +477,10 @@ def page(file: str, out: str) -> None:
     from . import page as pages
 
     name, data = loaded(file)
-    with output(out) as stream:
-        stream.write(pages.page(data.data, name).encode("utf-8", "replace"))
+    made_page = pages.page(data.data, name).encode("utf-8", "replace")
+    with output(out, file) as stream:
+        stream.write(made_page)
+    made(out, f"{len(made_page):,} bytes")
     answer = runs.answered(data, name)
     if answer.refusal:
         refused(answer)
@@ -475,7 +489,7 @@ def page(file: str, out: str) -> None:
 SHELLS = ("bash", "zsh", "fish")
 
 
-@dwj.command()
+@dwj.command(short_help="Print what makes a shell complete dwj's words.")
 @click.argument("shell", type=click.Choice(SHELLS))
 def completion(shell: str) -> None:
     """Print what makes a shell complete dwj's words; for bash: eval "$(dwj completion bash)"."""
@@ -488,34 +502,49 @@ def completion(shell: str) -> None:
 
 
 def main() -> NoReturn:
-    """The command, with every way that it can end: a status, and words on standard error."""
+    """The command, as a process: it ends with a status, and standard output is written or said not to be."""
     if hasattr(signal, "SIGPIPE"):
         signal.signal(signal.SIGPIPE, signal.SIG_DFL)
     if sys.stdout is None or sys.stderr is None:
+        if sys.stderr is not None:
+            print("dwj: standard output is closed", file=sys.stderr)
         sys.exit(WRONG)
+    status = ended()
     try:
-        status = dwj.main(prog_name="dwj", standalone_mode=False)
         sys.stdout.flush()
-        sys.exit(status if isinstance(status, int) else ACCEPTED)
-    except click.exceptions.Abort:
+    except OSError as error:
+        status = WRONG
+        click.echo(f"dwj: standard output: {runs.reason(error)}", err=True)
+        os.dup2(os.open(os.devnull, os.O_WRONLY), 1)
+    sys.exit(status)
+
+
+def ended() -> int:
+    """Runs the command: its status, and words on standard error for whatever went wrong."""
+    plain: dict[str, Any] = {"color": False} if os.environ.get("NO_COLOR") or os.environ.get("TERM") == "dumb" else {}
+    try:
+        status = dwj.main(prog_name="dwj", standalone_mode=False, **plain)
+        return status if isinstance(status, int) else ACCEPTED
+    except SystemExit as end:
+        return end.code if isinstance(end.code, int) else ACCEPTED
+    except (click.exceptions.Abort, KeyboardInterrupt):
         click.echo("dwj: stopped", err=True)
-        sys.exit(130)
+        return 130
     except click.ClickException as trouble:
         trouble.show()
-        sys.exit(trouble.exit_code if isinstance(trouble, (Trouble, click.UsageError)) else WRONG)
     except (faults.Absent, faults.Refused) as error:
         click.echo(f"dwj: {error.args[0] if isinstance(error, faults.Absent) else error}", err=True)
     except ImportError as error:
         click.echo(f"dwj: {error.name} is missing: apt-get install {PACKAGES.get(str(error.name), 'python3-' + str(error.name))}", err=True)
     except OSError as error:
-        click.echo(f"dwj: {runs.reason(error)}", err=True)
+        click.echo(f"dwj: {f'{listing.spelled(str(error.filename))}: ' if error.filename else ''}{runs.reason(error)}", err=True)
     except MemoryError:
         click.echo("dwj: there is too little memory", err=True)
     except Exception as error:
         if os.environ.get(DEBUG):
             raise
         click.echo(f"dwj: a fault of dwj itself: {type(error).__name__}: {error} ({DEBUG}=1 shows where)", err=True)
-    sys.exit(WRONG)
+    return WRONG
 
 
 # The Debian packages of modules that are loaded where they are needed.

@@ -217,9 +217,12 @@ class File:
     def trace(self, event: Union[int, records.Event], type: int, number: int, name: str) -> records.Trace:
         """A trace by its event (the event, or its number), its detector's type and number, and its channel's analysis name.
 
-        Refused (10) where no such channel is listed, Absent where the file has no such trace.
+        Absent where the file has no such trace, or no such channel is listed.
         """
-        code = code_of(type, number, name)
+        try:
+            code = code_of(type, number, name)
+        except Refused:
+            raise Absent(f"no channel {name} of a detector {number} of type {type} is listed") from None
         if isinstance(event, records.Event):
             found = next((trace for trace in event.traces if trace.code == code), None)
         else:
@@ -254,7 +257,7 @@ class File:
         index = self.row_at(place)
         if self.rows["start"][index] != place:
             start = self.rows["start"][index]
-            raise Absent(f"nothing begins at byte {place}; it is inside of the {records.Row(self, index).label} at byte {start}")
+            raise Absent(f"nothing begins at byte {place}; it is inside the {records.Row(self, index).label} at byte {start}")
         return self.at_row(index)
 
     def at_row(self, index: int) -> records.Row:

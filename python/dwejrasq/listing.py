@@ -27,6 +27,11 @@ def number(value: float) -> str:
     return f"{value:.10g}"
 
 
+def several(count: int, one: str, many: str = "") -> str:
+    """So many of something, in words."""
+    return f"{count:,} {one if count == 1 else many or one + 's'}"
+
+
 def moment(time: datetime) -> str:
     """A time as people write it."""
     return time.strftime("%Y-%m-%d %H:%M:%S") + " UTC"
@@ -61,7 +66,7 @@ def described(row: records.Row) -> str:
         every = number(row.delta_t / 1000)
         return f"{titled(row.channel)}, {row.n:,} samples, {number(first)} to {number(last)} µs, every {every} µs"
     if isinstance(row, records.History):
-        return f"{len(row.veto_times):,} veto times, {len(row.trigger_times):,} trigger times"
+        return f"{several(len(row.veto_times), 'veto time')}, {several(len(row.trigger_times), 'trigger time')}"
     if isinstance(row, records.Gps):
         return f"{row}, status {row.status}"
     if isinstance(row, records.Trigger):
@@ -69,7 +74,7 @@ def described(row: records.Row) -> str:
     if isinstance(row, records.Tlb):
         found = [f"tower {tower} ZIP {' '.join(map(str, zips))}" for tower, zips in row.zips.items() if zips]
         return ", ".join(found) or "no ZIP"
-    return f"{int(row.file.rows['one'][row.index]):,} entries"
+    return several(int(row.file.rows["one"][row.index]), "entry", "entries")
 
 
 def tree(file: File) -> Iterator[str]:
@@ -110,6 +115,8 @@ def fields_of(row: records.Row) -> dict[str, Any]:
             "name": channel.name,
             "cold": channel.cold,
             "detector": channel.detector,
+            "class": channel.izip_class,
+            "side": channel.side,
         }
     if isinstance(row, records.Administrative):
         found |= {"series": row.series, "site": row.site, "time": row.time.isoformat()}
@@ -147,12 +154,16 @@ def lines(file: File) -> Iterator[str]:
         yield "%d %d %d %d %d %d %d" % (index, *row)
 
 
+# Units of fields, behind their names.
+UNITS = {"t0": ", ns", "delta_t": ", ns", "tenths": " of a µs", "since": ", ms", "live": ", ms", "veto_times": ", µs", "trigger_times": ", µs"}
+
+
 def shown(file: File, place: int) -> Iterator[str]:
     """The structure that a byte belongs to: its fields, and its bytes."""
     row = file.at_row(file.row_at(place))
     label = f"event {row.number}" if isinstance(row, records.Event) else row.label
     if row.place != place:
-        yield f"byte {place} is inside of:"
+        yield f"byte {place} is inside:"
     yield click.style(f"{label} at {row.place}", bold=True) + f", {row.length:,} bytes, row {row.index + 1}"
     found = fields_of(row)
     for name in ("kind", "place", "length"):
@@ -172,9 +183,10 @@ def shown(file: File, place: int) -> Iterator[str]:
     if isinstance(row, records.Trigger):
         found["masks"] = " ".join(f"{mask:08x}" for mask in row.masks)
     for name, value in found.items():
-        yield f"  {name.replace('_', ' '):<14}{number(value) if isinstance(value, float) else value}"
+        title = name.replace("_", " ") + UNITS.get(name, "")
+        yield f"  {title:<16}{number(value) if isinstance(value, float) else value}"
     if isinstance(row, records.Trace):
         samples = row.samples
-        yield f"  {'samples':<14}{' '.join(map(str, samples[:12]))}{' ..' if len(samples) > 12 else ''}"
-        yield f"  {'least, most':<14}{samples.min()}, {samples.max()}"
+        yield f"  {'samples':<16}{' '.join(map(str, samples[:12]))}{' ..' if len(samples) > 12 else ''}"
+        yield f"  {'least, most':<16}{samples.min()}, {samples.max()}"
     yield from hexadecimal(file.data, row.place)

@@ -318,11 +318,11 @@ def _before(contents: Contents) -> str:
     if damaged is None or damaged.event:
         whole = f"{_count(contents.whole, 'event')} before it" if contents.whole else "no event before it, and the configuration"
         part = f"; and of the damaged event, which begins at byte {damaged.place:,}, the part up to byte {damaged.end - 1:,}" if damaged else ""
-        return f"What can be read is below: {whole}{part}. Nothing behind is read."
+        return f"What can be read is below: {whole}{part}. What follows isn't read."
     if contents.unconfigured:
         return "What can be read is the header."
     entries = int(contents.file.rows["one"][1])
-    return f"What can be read is below: the header, and {_count(entries, 'entry', 'entries')} of the configuration. Nothing behind is read."
+    return f"What can be read is below: the header, and {_count(entries, 'entry', 'entries')} of the configuration. What follows isn't read."
 
 
 # Rows by kind, and the configuration.

@@ -5,6 +5,8 @@ from __future__ import annotations
 import os
 from typing import Any
 
+# Pictures are files here, whatever a user has set for windows.
+os.environ["MPLBACKEND"] = "Agg"
 import matplotlib
 
 matplotlib.use("Agg")
@@ -25,17 +27,27 @@ LINES = ("-", "--", ":")
 
 
 def suffix(path: str) -> str:
-    """The picture's sort by the end of its name: png or svg. Absent for any other."""
+    """The picture's sort by the end of its name, png or svg, and png for standard output. Absent for any other."""
+    if path == "-":
+        return "png"
     end = os.path.splitext(path)[1].lower().lstrip(".")
     if end not in ("png", "svg"):
         raise Absent(f"'{path}': a picture's name ends with .png or .svg")
     return end
 
 
+# Channels of the same letters have the same colour on both sides.
+LETTERS = ("PA", "PB", "PC", "PD", "QI", "QO")
+
+
 def drawn(axes: Any, traces: list[records.Trace]) -> None:
-    """Traces in one pair of axes."""
-    for index, trace in enumerate(traces):
-        colour, line = COLOURS[index % len(COLOURS)], LINES[index // len(COLOURS) % len(LINES)]
+    """Traces in one pair of axes; where a channel is there again, with another line."""
+    seen: dict[str, int] = {}
+    for trace in traces:
+        letters = trace.channel.name[:2]
+        colour = COLOURS[LETTERS.index(letters)] if letters in LETTERS else COLOURS[-1]
+        line = LINES[seen.get(letters, 0) % len(LINES)]
+        seen[letters] = seen.get(letters, 0) + 1
         axes.plot(trace.time, trace.samples, line, color=colour, linewidth=0.8, label=trace.channel.name)
     axes.axvline(0, color="#999999", linewidth=0.6, zorder=0)
     axes.margins(x=0)
@@ -50,7 +62,7 @@ def trace_figure(trace: records.Trace) -> Figure:
     figure = Figure(figsize=(8, 3.2), layout="constrained")
     axes = figure.subplots()
     drawn(axes, [trace])
-    axes.set_title(titled(trace.channel), loc="left", fontsize=10)
+    axes.set_title(f"event {trace.event.number}, {titled(trace.channel)}", loc="left", fontsize=10)
     axes.set_xlabel("µs from the trigger")
     axes.set_ylabel("sample")
     return figure

@@ -153,6 +153,11 @@ class Trace(Row):
     """How many samples."""
 
     @property
+    def event(self) -> Event:
+        """The event that it is in."""
+        return Event(self.file, int(self.file.rows["parent"][self.index]) - 1)
+
+    @property
     def channel(self) -> Channel:
         """The channel, with its names."""
         return channel(self.code)
@@ -358,5 +363,7 @@ class Events(Sequence[Event]):
         """The first event with a number; Absent where there is none."""
         found = np.flatnonzero(self.numbers == operator.index(number))
         if len(found) == 0:
-            raise Absent(f"no event has the number {number}")
+            numbers = self.numbers
+            there = f"there are {len(self):,}, with numbers from {numbers.min()} to {numbers.max()}" if len(self) else "there are none"
+            raise Absent(f"no event has the number {number}; {there}")
         return self[int(found[0])]

@@ -109,7 +109,7 @@ def test_ls_json(capfd: pytest.CaptureFixture[str]) -> None:
     status, out, _ = dwj(capfd, "ls", "--json", EVERY)
     found = json.loads(out)
     assert status == 0 and found["length"] == 6948 and len(found["events"]) == 3 and len(found["configuration"]) == 6
-    assert found["configuration"][3]["channel"] == {"type": 11, "number": 17, "name": "PAS2", "cold": "A1", "detector": "iZIP17"}
+    assert found["configuration"][3]["channel"] == {"type": 11, "number": 17, "name": "PAS2", "cold": "A1", "detector": "iZIP17", "class": "II", "side": "S2"}
     assert found["configuration"][3]["squid_bias"] == -3.33 and "bias" not in found["configuration"][3]
     kinds = [record["kind"] for record in found["events"][0]["records"]]
     assert kinds == ["administrative", "trigger", "TLB mask", "GPS", "history"] + 6 * ["trace"]
@@ -137,10 +137,10 @@ def test_show(capfd: pytest.CaptureFixture[str]) -> None:
         status, out, _ = dwj(capfd, "show", EVERY, str(place))
         assert status == 0 and out.startswith(first)
     inside = dwj(capfd, "show", EVERY, "0x258")[1].splitlines()
-    assert inside[:2] == ["byte 600 is inside of:", "trace at 500, 568 bytes, row 15"]
+    assert inside[:2] == ["byte 600 is inside:", "trace at 500, 568 bytes, row 15"]
     assert json.loads(dwj(capfd, "show", "--json", EVERY, "412")[1])["tenths"] == 1234567
     assert dwj(capfd, "show", EVERY, "6948") == (2, "", "dwj: the file has no byte 6948: it has 6,948\n")
-    for wrong in ("x", "1.5", "0x", ""):
+    for wrong in ("x", "1.5", "0x", "", "-1", "1_0", "٣"):
         assert dwj(capfd, "show", EVERY, wrong)[0] == 2
     assert dwj(capfd, "show", DAMAGED, "3948")[:2] == (1, "byte 3948: GPS\n" + HEX)
     assert dwj(capfd, "show", DAMAGED, "99999999999")[0] == 1
@@ -166,8 +166,8 @@ def test_trace(capfd: pytest.CaptureFixture[str], tmp_path: Path) -> None:
         assert dwj(capfd, "trace", EVERY, "7", "iZIP17:PAS2", "--plot", str(tmp_path / out_name))[0] == 0
         assert (tmp_path / out_name).read_bytes().startswith(begin)
     for wrong, words in (
-        (("7", "iZIP17:PAS1"), "event 7 has no trace of iZIP17:PAS1"),
-        (("77", "iZIP17:PAS2"), "no event has the number 77"),
+        (("7", "iZIP17:PAS1"), "event 7 has no trace of iZIP17:PAS1; it has iZIP1:PBS2, iZIP1:PBS1, iZIP1:QIS1, iZIP17:PAS2,"),
+        (("77", "iZIP17:PAS2"), "no event has the number 77; there are 3, with numbers from 7 to 9"),
         (("7", "iZIP17:XX"), "there is no iZIP17:XX"),
         (("7", "XYZ17:PA"), "there is no detector type 'XYZ'"),
         (("7", "nothing"), "'nothing' is no channel"),
@@ -176,7 +176,8 @@ def test_trace(capfd: pytest.CaptureFixture[str], tmp_path: Path) -> None:
         (("@312", "iZIP17:PAS2"), "is no event but the administrative"),
         (("seven", "iZIP17:PAS2"), "'seven' is no event"),
         (("7", "iZIP17:PAS2", "--plot", "t.pdf"), "ends with .png or .svg"),
-        (("7", "iZIP17:PAS2", "--csv", "--npy"), "one of --csv, --npy and --plot"),
+        (("7", "iZIP17:PAS2", "--csv", "--npy"), "only one of --csv, --npy and --plot"),
+        (("7", "iZIP17:PAS2", "-o", "t.txt"), "give --csv or --npy"),
         (("7", "iZIP17:PAS2", "--csv", "-o", "/nowhere/t.csv"), "no such file or directory"),
     ):
         status, out, err = dwj(capfd, "trace", EVERY, *wrong)
@@ -241,11 +242,27 @@ def test_plot(capfd: pytest.CaptureFixture[str], tmp_path: Path) -> None:
 
 def test_page(capfd: pytest.CaptureFixture[str], tmp_path: Path) -> None:
     page = tmp_path / "event.html"
-    assert dwj(capfd, "page", EVERY, "-o", str(page)) == (0, "", "")
+    assert dwj(capfd, "page", EVERY, "-o", str(page)) == (0, f"{page}: {page.stat().st_size:,} bytes\n", "")
     assert page.read_text().lower().startswith("<!doctype html>") and "PAS2" in page.read_text()
     status, _, err = dwj(capfd, "page", DAMAGED, "-o", str(page))
     assert status == 1 and "refused at byte 3948" in err and "3948" in page.read_text()
     assert dwj(capfd, "page", EVERY)[0] == 2
+
+
+def test_a_source_stays(capfd: pytest.CaptureFixture[str], tmp_path: Path) -> None:
+    """No output goes over the file that it is made from, but for rewrite's, which has the same bytes."""
+    name, link = tmp_path / "f.png", tmp_path / "l.svg"
+    name.write_bytes(Path(EVERY).read_bytes())
+    link.symlink_to(name)
+    for words in (("page", "-o"), ("plot", "7", "-o"), ("trace", "7", "11017002", "--csv", "-o"), ("trace", "7", "11017002", "--plot")):
+        for out in (name, link):
+            status, _, err = dwj(capfd, words[0], str(name), *words[1:], str(out))
+            assert status == 2 and "is the file that is read" in err and name.read_bytes() == Path(EVERY).read_bytes()
+    assert dwj(capfd, "rewrite", str(name), str(link))[0] == 0 and link.is_symlink()
+    assert name.read_bytes() == Path(EVERY).read_bytes()
+    assert dwj(capfd, "trace", str(name), "7", "11017002", "-o", str(tmp_path / "t.csv"))[0] == 0
+    assert (tmp_path / "t.csv").read_text().startswith("time_us,sample\n-51.200,2000\n")
+    assert np.load(io.BytesIO(process("trace", EVERY, "7", "11017002", "--npy").stdout)).size == 256
 
 
 def test_bad_input(capfd: pytest.CaptureFixture[str], tmp_path: Path) -> None:
@@ -310,6 +327,7 @@ def test_help_and_wrong_use(capfd: pytest.CaptureFixture[str]) -> None:
         assert (status, out) == (2, "") and "--nonsense" in err
     assert dwj(capfd, "--version") == (0, f"dwj {(ROOT / 'VERSION').read_text()}", "")
     assert dwj(capfd, "nonsense")[0] == 2
+    assert dwj(capfd)[:2] == (2, "")
     assert dwj(capfd, "ls")[0] == 2
     for shell in ("bash", "zsh", "fish"):
         assert "_DWJ_COMPLETE" in dwj(capfd, "completion", shell)[1]
@@ -352,8 +370,18 @@ def test_pipes_and_terminals(tmp_path: Path) -> None:
     )
     assert barred.returncode == 1 and b"2/2" in barred.stdout and b"refused at" not in barred.stdout
     assert (tmp_path / "out").read_text() == f"{P14}: accepted: 88 bytes, 5 rows\n{REFUSAL}{HEX}"
-    full = subprocess.run([sys.executable, "-m", "dwejrasq", "ls", EVERY], stdout=open("/dev/full", "wb"), stderr=subprocess.PIPE, timeout=60)
-    assert full.returncode == 2 and full.stderr == b"dwj: no space left on device\n"
+    for words in (("ls", EVERY), ("check", EVERY), ("channels",), ("trace", EVERY, "7", "11017002", "--npy"), ("--help",), ("rewrite", EVERY, "-")):
+        full = subprocess.run([sys.executable, "-m", "dwejrasq", *words], stdout=open("/dev/full", "wb"), stderr=subprocess.PIPE, timeout=60)
+        assert full.returncode == 2 and full.stderr.endswith(b"no space left on device\n") and full.stderr.count(b"\n") == 1, words
+    for quiet in ({"NO_COLOR": "1"}, {"TERM": "dumb"}):
+        plain = subprocess.run(
+            ["script", "-qec", f"'{sys.executable}' -m dwejrasq check '{DAMAGED}'", "/dev/null"],
+            env=dict(os.environ, **quiet),
+            capture_output=True,
+            timeout=60,
+            stdin=subprocess.DEVNULL,
+        )
+        assert b"\x1b[" not in plain.stdout and b"refused at" in plain.stdout
 
 
 def test_files_that_change(tmp_path: Path) -> None:

@@ -1437,7 +1437,7 @@ def test_find_is_the_first_by_the_rows(tree: Tree) -> None:
                         event.trace(*asked)
     for number, code in ((-1, 1), (2**32, 1), (7, -1), (7, 2**32), (2**80, 7)):
         assert file.find(number, code) is None
-    with pytest.raises(dwejrasq.Refused, match=r"\(10\)"):
+    with pytest.raises(dwejrasq.Absent, match="no channel PAS3"):
         file.trace(7, 11, 17, "PAS3")
 
 
