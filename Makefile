@@ -4,8 +4,10 @@
 # make test                   ./test
 # DESTDIR goes before PREFIX, for packages. What is missing of Debian's packages is installed, or named in one line.
 PREFIX ?= /usr/local
-ifneq ($(words $(PREFIX)) $(filter-out 0 1,$(words $(DESTDIR))),1 )
-$(error PREFIX, and DESTDIR, are each one word, without blanks in it)
+# Paths go into commands as they are: none has a blank, or a character that a shell would read.
+odd = $(shell printf '%s' '$(subst ','\'',$(PREFIX)$(DESTDIR)$(CURDIR))' | tr -d 'A-Za-z0-9/._+:~@%,=\200-\377-')
+ifneq ($(if $(strip $(PREFIX)),,none)$(filter-out 0 1,$(words $(PREFIX)) $(words $(DESTDIR)) $(words $(CURDIR)))$(odd),)
+$(error PREFIX, DESTDIR and this folder's path have neither blanks nor characters that a shell reads in them; PREFIX isn't empty)
 endif
 override PREFIX := $(abspath $(PREFIX))
 PYTHON ?= /usr/bin/python3
@@ -37,7 +39,7 @@ $(SHARED): $(STATIC) include/dwejrasq.h VERSION python/guard.c build/shared
 
 install: all
 	@PYTHON=$(PYTHON) build/packages $(NEEDS)
-	install -d $(into)/lib/pkgconfig $(into)/include $(into)/bin $(modules)/dwejrasq $(completions)
+	umask 022 && install -d $(into)/lib/pkgconfig $(into)/include $(into)/bin $(modules)/dwejrasq $(completions)
 	install -m 644 $(STATIC) $(into)/lib/libdwejrasq.a
 	install -m 755 $(SHARED) $(into)/lib/libdwejrasq.so.$(VERSION)
 	ln -sf libdwejrasq.so.$(VERSION) $(into)/lib/libdwejrasq.so.$(MAJOR)
@@ -48,15 +50,17 @@ install: all
 	install -d $(modules)/dwejrasq
 	install -m 644 $(MODULE) $(modules)/dwejrasq
 	install -m 755 $(NATIVE)/guard.so $(modules)/dwejrasq/guard.so
-	cd python && PYTHONDONTWRITEBYTECODE=1 $(PYTHON) -c 'import sys; from dwejrasq._native import declared; declared(sys.argv[1])' $(abspath $(modules))/dwejrasq/_declared.py
+	cd python && PYTHONDONTWRITEBYTECODE=1 $(PYTHON) -c 'import sys; from dwejrasq._native import declared; declared(sys.argv[1])' \
+	  $(abspath $(modules))/dwejrasq/_declared.py
 	sed 's#@PYTHON@#$(PYTHON)#; s#@MODULES@#$(patsubst $(into)/%,%,$(modules))#' build/dwj >$(into)/bin/dwj
 	chmod 755 $(into)/bin/dwj
 	$(PYTHON) -m compileall -q $(modules)/dwejrasq
 	$(into)/bin/dwj completion bash >$(completions)/dwj
+	chmod 644 $(into)/lib/pkgconfig/dwejrasq.pc $(completions)/dwj && chmod -R u=rwX,go=rX $(modules)/dwejrasq
 	@echo 'make: dwj $(VERSION) is in $(PREFIX)/bin, and for Python in $(patsubst $(DESTDIR)%,%,$(modules))'
 
 uninstall:
-	rm -f $(into)/lib/libdwejrasq.a $(into)/lib/libdwejrasq.so $(into)/lib/libdwejrasq.so.$(MAJOR) $(into)/lib/libdwejrasq.so.$(VERSION)
+	rm -f $(into)/lib/libdwejrasq.a $(into)/lib/libdwejrasq.so $(into)/lib/libdwejrasq.so.$(MAJOR) $(into)/lib/libdwejrasq.so.$(MAJOR).*
 	rm -f $(into)/include/dwejrasq.h $(into)/lib/pkgconfig/dwejrasq.pc $(into)/bin/dwj $(completions)/dwj
 	rm -rf $(modules)/dwejrasq
 	@rmdir $(modules) $(dir $(modules)) $(completions) $(dir $(completions)) $(into)/share $(into)/lib/pkgconfig $(into)/lib $(into)/include \

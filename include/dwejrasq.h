@@ -66,7 +66,8 @@
  *    6  administrative  event number; event time, seconds from 1970 on
  *    7  trace           detector code; count of samples
  *    8  history         count of veto times; count of trigger times
- *    9  GPS             year and day, four decimal digits each, a digit in four bits; status, 0, hour, minute and second in the same way
+ *    9  GPS             a decimal digit in four bits: year and day, four digits each; status in the top four bits, a 0, then hour, minute and
+ *                       second, two digits each
  *   10  trigger         first mask; second mask
  *   11  TLB             word of the first tower; of the second
  */
@@ -99,12 +100,12 @@ uint32_t dwj_table(const uint8_t *file, size_t file_length, uint32_t *rows, size
 
 /* Record: the record or entry at a place of the file, without an event's rules. On 0 values[0] is the row kind, then the fields in
  * this order, then zeros up to twelve; *refused_at is unchanged. On a refusal values is unchanged and *refused_at is its place.
- *    3  phonon: code, tower; gain, QET bias, SQUID bias and lockpoint, these four x100; RTF offset, variable gain, delta t, t0,
- *       trace length
- *    4  charge: code, tower, gain x100, bias, RTF offset, delta t, t0, length of a trace
+ *    3  phonon: code, tower; gain, QET bias, SQUID bias and lockpoint, these four x100; RTF offset, variable gain, delta t (ns), t0 (ns),
+ *       trace length (samples)
+ *    4  charge: code, tower, gain x100, bias, RTF offset, delta t, t0, trace length
  *    6  administrative: the series as LLYYMMDD and HHMM, event number, event time, milliseconds since the last event, live milliseconds
  *    7  trace: base address, digitizer channel, detector code, t0 (ns), delta t (ns), count of samples
- *    8  history: count of veto times, where they start, words of a veto mask, where the masks start; the same four for the trigger;
+ *    8  history (times in microseconds, signed words): count of veto times, where they start, words of a veto mask, where the masks start; the same four for the trigger;
  *       a start is a place of the file. A list that is empty starts behind its count or width: where the next word stands, or the record ends
  *    9  GPS: year, day, status, hour, minute, second, tenths of a microsecond
  *   10  trigger: six masks
@@ -142,7 +143,8 @@ uint32_t dwj_find(const uint8_t *file, size_t file_length, uint32_t number, uint
  * the call ends, with a row that lies in the file, at the end, or with the refusal that the numbers name. dwj_open checks the whole file
  * once and gives the first row; dwj_next gives the next one. On 0 row is the row, or zeros at the end (no row has kind 0), again and
  * again; *refused_at is unchanged. Over a refused file each call gives its refusal: row is unchanged and *refused_at is its place.
- * walker is written by every call, a refused one too. The file must be the same in each call.
+ * walker is written by every call, a refused one too. The file must be the same in each call. Of walker[0], the refusal's number, and of walker[4]
+ * and walker[5] the low 32 bits count.
  */
 uint32_t dwj_open(const uint8_t *file, size_t file_length, uint64_t walker[6], uint32_t row[6], uint64_t *refused_at);
 uint32_t dwj_next(const uint8_t *file, size_t file_length, uint64_t walker[6], uint32_t row[6], uint64_t *refused_at);

@@ -72,7 +72,7 @@ def channels() -> tuple[Channel, ...]:
     """Every channel of every detector type, for the detector with the number 0."""
     found = []
     for type in range(100):
-        for position in range(32):
+        for position in range(100):
             try:
                 found.append(channel(type * 1_000_000 + position))
             except Refused:

@@ -41,7 +41,7 @@ def loaded(path: str) -> tuple[str, Bytes]:
             return "standard input", files.loaded(0, "standard input")
         descriptor = os.open(path, os.O_RDONLY | os.O_CLOEXEC)
         try:
-            return listing.spelled(path), files.loaded(descriptor, path)
+            return path, files.loaded(descriptor, path)
         finally:
             os.close(descriptor)
     except (OSError, ValueError) as error:
@@ -51,7 +51,7 @@ def loaded(path: str) -> tuple[str, Bytes]:
 
 def refused(answer: runs.Answer) -> NoReturn:
     """Says on standard error why a file is refused, with the bytes there: exit status 1."""
-    click.echo(f"dwj: {answer}", err=True)
+    click.echo(f"dwj: {listing.spelled(answer.name)}: {answer.refusal}", err=True)
     for line in answer.bytes_there:
         click.echo(line, err=True)
     raise SystemExit(REFUSED)
@@ -68,8 +68,8 @@ def opened(path: str) -> files.File:
 
 def place_of(text: str) -> int:
     """A place, decimal or with 0x before it."""
-    if not re.fullmatch("[0-9]+|0[xX][0-9a-fA-F]+", text):
-        raise click.BadParameter(f"'{listing.spelled(text)}' is no byte's number: decimal digits are expected, or hexadecimal ones behind 0x")
+    if not re.fullmatch("[0-9]{1,20}|0[xX][0-9a-fA-F]{1,16}", text):
+        raise click.BadParameter(f"'{text}' is no byte's number: decimal digits are expected, or hexadecimal ones behind 0x")
     return int(text, 16 if text[:2] in ("0x", "0X") else 10)
 
 
@@ -85,8 +85,8 @@ def event_of(file: files.File, text: str) -> records.Event:
 
 def number_of(text: str) -> int:
     """An event's number."""
-    if not (text.isascii() and text.isdigit()):
-        raise click.BadParameter(f"'{listing.spelled(text)}' is no event: its number is expected, or '@' and the byte where it begins")
+    if not re.fullmatch("[0-9]{1,20}", text):
+        raise click.BadParameter(f"'{text}' is no event: its number is expected, or '@' and the byte where it begins")
     return int(text)
 
 
@@ -152,7 +152,17 @@ def not_at_a_terminal(path: str, what: str) -> None:
 FILE = click.argument("file", type=click.Path(allow_dash=True, readable=False), metavar="FILE")
 
 
-@click.group(context_settings={"help_option_names": ["-h", "--help"], "max_content_width": 110}, no_args_is_help=False)
+class Commands(click.Group):
+    """The commands; a word that is none of them is wrong use, whatever it begins with."""
+
+    def resolve_command(self, context: click.Context, words: list[str]) -> tuple[Optional[str], Optional[click.Command], list[str]]:
+        """The command that is meant."""
+        if self.get_command(context, words[0]) is None:
+            context.fail(f"there is no command '{words[0]}'; a file is checked by: dwj check FILE")
+        return super().resolve_command(context, words)
+
+
+@click.group(cls=Commands, context_settings={"help_option_names": ["-h", "--help"], "max_content_width": 110}, no_args_is_help=False)
 @click.version_option(__version__, prog_name="dwj", message="%(prog)s %(version)s")
 def dwj() -> None:
     """Raw files of an underground dark matter search: checked, listed, drawn and written again by a proved library.
@@ -166,11 +176,8 @@ def dwj() -> None:
 def listed_in(path: str) -> Iterator[Iterable[bytes]]:
     """The lines of a list of files."""
     try:
-        if path == "-":
-            yield sys.stdin.buffer
-        else:
-            with open(path, "rb") as lines:
-                yield lines
+        with open(0 if path == "-" else path, "rb", closefd=path != "-") as lines:
+            yield lines
     except OSError as error:
         raise Trouble(f"{listing.spelled(path)}: {runs.reason(error)}") from None
 
@@ -194,7 +201,7 @@ def answers(wanted: list[str], workers: Optional[int], scheduler: Optional[str])
 
 def told(answer: runs.Answer, quiet: bool, as_json: bool) -> Iterator[str]:
     """One file's line, and the bytes where it is refused. A file that can't be read has none but as JSON: that goes to standard error."""
-    name = listing.spelled(answer.name)
+    name = answer.name if as_json else listing.spelled(answer.name)
     if as_json:
         found: dict[str, Any] = {"file": name, "length": answer.length, "rows": answer.count}
         if answer.refusal:
@@ -243,7 +250,13 @@ def progress(count: int) -> Iterator[Callable[[Iterable[str], str], None]]:
 
 @dwj.command(short_help="Check files, and say where a refused one is at fault.")
 @click.argument("names", nargs=-1, type=click.Path(allow_dash=True, readable=False), metavar="FILE..")
-@click.option("--from", "listed", type=click.Path(allow_dash=True, readable=False), metavar="LIST", help="Also the files that LIST names, a line each; - is standard input.")
+@click.option(
+    "--from",
+    "listed",
+    type=click.Path(allow_dash=True, readable=False),
+    metavar="LIST",
+    help="Also the files that LIST names, a line each; - is standard input.",
+)
 @click.option("-q", "--quiet", is_flag=True, help="Only say what is refused or can't be read.")
 @click.option("--json", "as_json", is_flag=True, help="A JSON object a line.")
 @click.option("-j", "--workers", type=click.IntRange(1, 1024), help="How many files at a time; else as many as there are processors.")
@@ -256,10 +269,10 @@ def check(names: tuple[str, ...], listed: Optional[str], quiet: bool, as_json: b
     wanted = [*names]
     if listed is not None:
         with listed_in(listed) as lines:
-            wanted += [os.fsdecode(line.rstrip(b"\n")) for line in lines if line != b"\n"]
+            wanted += [os.fsdecode(line.rstrip(b"\r\n")) for line in lines if line.strip(b"\r\n")]
     if not wanted:
         raise click.UsageError("no file is given")
-    if "-" in wanted and (wanted != ["-"] or scheduler):
+    if "-" in wanted and (wanted != ["-"] or scheduler or listed is not None):
         raise click.UsageError("standard input is checked alone")
     tally = [0, 0, 0]
     with progress(len(wanted)) as step:
@@ -338,6 +351,8 @@ def trace(file: str, event: str, name: str, as_csv: bool, as_npy: bool, plot: Op
         as_csv, as_npy = out.lower().endswith(".csv"), out.lower().endswith(".npy")
         if not (as_csv or as_npy):
             raise click.UsageError("with -o also give --csv or --npy, or a name that ends so")
+    if plot is not None and out != "-":
+        raise click.UsageError("--plot has its own OUT: leave -o away")
     if as_csv + as_npy + (plot is not None) > 1:
         raise click.UsageError("give only one of --csv, --npy and --plot")
     if as_npy:
@@ -385,7 +400,7 @@ def settings(file: str, as_csv: bool, as_json: bool) -> None:
     if as_json:
         click.echo(json.dumps(entries, indent=1))
         return
-    columns = ["channel", "code", "tower", "gain", "bias", "qet_bias", "squid_bias", "lockpoint", "rtf_offset", "variable_gain", "delta_t", "t0", "trace_length"]
+    columns = "channel code tower gain bias qet_bias squid_bias lockpoint rtf_offset variable_gain delta_t t0 trace_length".split()
     lines = []
     for entry in entries:
         entry["channel"] = str(channel(entry["code"]))
@@ -442,7 +457,7 @@ def rewrite(source: str, out: str) -> None:
     # Over the file itself too: they are the same bytes.
     with output(out, "") as stream:
         stream.write(again)
-    made(out, f"{len(again):,} bytes, {'the same as' if again == data.tobytes() else 'other than'} {name}")
+    made(out, f"{len(again):,} bytes, {'the same as' if again == data.tobytes() else 'other than'} {listing.spelled(name)}")
 
 
 @dwj.command(short_help="Draw all traces of an event, by detector and side.")
@@ -459,11 +474,11 @@ def plot(file: str, event: str, out: Optional[str]) -> None:
     kind = pictures.suffix(out) if out is not None else "png"
     found = event_of(opened(file), event)
     out = out or f"event-{found.number}.png"
-    figure = pictures.event_figure(found)
     not_at_a_terminal(out, "a picture")
+    figure, drawn, there = pictures.event_figure(found)
     with output(out, file) as stream:
         pictures.saved(figure, stream, kind)
-    made(out, f"event {found.number}, {len(found.traces)} traces")
+    made(out, f"event {found.number}, {listing.several(drawn, 'trace')}{f' of {there:,}, the others are left out' if drawn < there else ''}")
 
 
 @dwj.command(short_help="Make a page of a file, for a browser.")
@@ -503,20 +518,35 @@ def completion(shell: str) -> None:
 
 def main() -> NoReturn:
     """The command, as a process: it ends with a status, and standard output is written or said not to be."""
-    if hasattr(signal, "SIGPIPE"):
-        signal.signal(signal.SIGPIPE, signal.SIG_DFL)
+    signal.signal(signal.SIGPIPE, signal.SIG_DFL)
+    for number in (signal.SIGTERM, signal.SIGHUP):
+        signal.signal(number, stopped)
     if sys.stdout is None or sys.stderr is None:
         if sys.stderr is not None:
             print("dwj: standard output is closed", file=sys.stderr)
         sys.exit(WRONG)
+    for stream in (sys.stdout, sys.stderr):
+        if isinstance(stream, io.TextIOWrapper):
+            stream.reconfigure(errors="replace")
     status = ended()
     try:
         sys.stdout.flush()
     except OSError as error:
+        if status != WRONG:
+            click.echo(f"dwj: standard output: {runs.reason(error)}", err=True)
         status = WRONG
-        click.echo(f"dwj: standard output: {runs.reason(error)}", err=True)
         os.dup2(os.open(os.devnull, os.O_WRONLY), 1)
     sys.exit(status)
+
+
+def stopped(number: int, _: object) -> NoReturn:
+    """A signal to stop: what was begun is taken back, as at any other end."""
+    raise SystemExit(128 + number)
+
+
+def safe(text: str) -> str:
+    """Words that are about to be printed, with whatever a user gave in them: nothing that a terminal would obey."""
+    return "".join(c if c.isprintable() or c == "\n" else listing.spelled(c) for c in text)
 
 
 def ended() -> int:
@@ -531,9 +561,10 @@ def ended() -> int:
         click.echo("dwj: stopped", err=True)
         return 130
     except click.ClickException as trouble:
+        trouble.message = safe(trouble.message)
         trouble.show()
     except (faults.Absent, faults.Refused) as error:
-        click.echo(f"dwj: {error.args[0] if isinstance(error, faults.Absent) else error}", err=True)
+        click.echo(safe(f"dwj: {error.args[0] if isinstance(error, faults.Absent) else error}"), err=True)
     except ImportError as error:
         click.echo(f"dwj: {error.name} is missing: apt-get install {PACKAGES.get(str(error.name), 'python3-' + str(error.name))}", err=True)
     except OSError as error:
@@ -543,7 +574,10 @@ def ended() -> int:
     except Exception as error:
         if os.environ.get(DEBUG):
             raise
-        click.echo(f"dwj: a fault of dwj itself: {type(error).__name__}: {error} ({DEBUG}=1 shows where)", err=True)
+        if isinstance(error, RuntimeError) and "thread" in str(error):
+            click.echo("dwj: there is too little memory for so many files at a time (-j says how many)", err=True)
+            return WRONG
+        click.echo(safe(f"dwj: a fault of dwj itself: {type(error).__name__}: {error} ({DEBUG}=1 shows where)"), err=True)
     return WRONG
 
 

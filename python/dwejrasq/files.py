@@ -224,6 +224,8 @@ class File:
         except Refused:
             raise Absent(f"no channel {name} of a detector {number} of type {type} is listed") from None
         if isinstance(event, records.Event):
+            if event.file is not self:
+                raise ValueError("the event is another file's")
             found = next((trace for trace in event.traces if trace.code == code), None)
         else:
             found = self.find(event, code)
@@ -244,6 +246,7 @@ class File:
 
     def row_at(self, place: int) -> int:
         """The row, from 0, that the byte at a place belongs to: a container's own bytes are its first eight. Absent outside of the file."""
+        place = operator.index(place)
         if not 0 <= place < self._length:
             raise Absent(f"the file has no byte {place}: it has {self._length:,}")
         return int(np.searchsorted(self._starts, place, "right")) - 1
@@ -261,7 +264,10 @@ class File:
         return self.at_row(index)
 
     def at_row(self, index: int) -> records.Row:
-        """What a row is, by its number from 0."""
+        """What a row is, by its number from 0; IndexError for a number that no row has."""
+        index = operator.index(index)
+        if not 0 <= index < len(self.rows):
+            raise IndexError(f"there is no row {index}: there are {len(self.rows):,}, from 0 on")
         kind = int(self.rows["kind"][index])
         if kind == EVENT:
             return records.Event(self, index)

@@ -1,4 +1,4 @@
-"""Words for numbers, for people to read: of row kinds, detector types, event words and sites. No answer depends on them."""
+"""Words for numbers, for people to read and to type: of row kinds, detector types, event words and sites. Numbers without words stay numbers."""
 
 from __future__ import annotations
 
@@ -51,7 +51,7 @@ CATEGORIES: dict[int, str] = {0: "per trigger", 1: "occasional", 6: "per trigger
 EVENT_TYPES: dict[int, str] = {
     0: "WIMP search",
     1: "cobalt-60",
-    2: "cobalt-60, low energy",
+    2: "cobalt-60 at low energy",
     3: "neutrons",
     4: "random triggers",
     5: "pulser",

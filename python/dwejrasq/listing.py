@@ -18,13 +18,15 @@ from .files import File
 
 def spelled(name: str) -> str:
     """A name with what can't be printed in it spelled out, as in ``\\n``: bytes that are no text too."""
-    letters = (f"\\x{ord(c) - 0xDC00:02x}" if "\udc80" <= c <= "\udcff" else c if c.isprintable() else ascii(c)[1:-1] for c in name)
+    letters = (
+        f"\\x{ord(c) - 0xDC00:02x}" if "\udc80" <= c <= "\udcff" else c if c.isprintable() and c != "\\" else ascii(c)[1:-1] for c in name
+    )
     return "".join(letters) or "(no name)"
 
 
 def number(value: float) -> str:
     """A number as people write it."""
-    return f"{value:.10g}"
+    return f"{value:.15g}"
 
 
 def several(count: int, one: str, many: str = "") -> str:
@@ -79,7 +81,7 @@ def described(row: records.Row) -> str:
 
 def tree(file: File) -> Iterator[str]:
     """The file's structures, each inside of the one that holds it, a line each."""
-    yield f"{click.style(file.name, bold=True)}  {len(file):,} bytes, {len(file.rows):,} rows, {described(file.header)}"
+    yield f"{click.style(spelled(file.name), bold=True)}  {len(file):,} bytes, {len(file.rows):,} rows, {described(file.header)}"
     parents = file.rows["parent"]
     top = np.flatnonzero(parents == 0)
     last = {0: int(top[-1])}
@@ -105,6 +107,8 @@ def fields_of(row: records.Row) -> dict[str, Any]:
     found: dict[str, Any] = {"kind": row.label, "place": row.place, "length": row.length}
     if isinstance(row, records.Header):
         found |= {"daq": list(row.daq), "format": list(row.format)}
+    if row.kind == labels.CONFIGURATION:
+        found["entries"] = int(row.file.rows["one"][row.index])
     if isinstance(row, records.Event):
         found |= {"number": row.number, "time": row.time.isoformat(), "class": row.event_class, "category": row.category, "type": row.type}
     if isinstance(row, (records.Setting, records.Trace)):

@@ -504,7 +504,7 @@ def _card(contents: Contents, event: Event, index: int, opened: bool = False) ->
 def _record(record: Any) -> list[str]:
     """The facts of a record that is neither administrative nor a trace."""
     if isinstance(record, Gps):
-        date = f"{record.time:%Y-%m-%d} " if record.time else ""
+        date = f"{record.time.date().isoformat()} " if record.time else ""
         clock = f"{record.hour:02d}:{record.minute:02d}:{record.second:02d}.{record.tenths:07d}"
         return [_fact("GPS", f"{date}{clock} <span class=soft>day {record.day} of {record.year}, status {record.status}</span>", "two")]
     if isinstance(record, Trigger):

@@ -68,22 +68,33 @@ def trace_figure(trace: records.Trace) -> Figure:
     return figure
 
 
-def event_figure(event: records.Event) -> Figure:
-    """All traces of an event: a line of panels for each detector, and in it one for each side that its channels have."""
+# A picture holds so many detectors, and a panel so many traces: more can't be seen, and take minutes.
+DETECTORS = 24
+TRACES = 24
+
+
+def event_figure(event: records.Event) -> tuple[Figure, int, int]:
+    """All traces of an event: a line of panels for each detector, and in it one for each side that its channels have.
+
+    With it, how many traces are drawn and how many there are: of more detectors, or traces of a side, than a picture holds the first are drawn.
+    """
     panels: dict[tuple[int, int], dict[str, list[records.Trace]]] = {}
     for trace in event.traces:
         channel = trace.channel
         panels.setdefault((channel.type, channel.number), {}).setdefault(channel.side, []).append(trace)
     if not panels:
         raise Absent(f"event {event.number} has no traces")
-    across = max(len(sides) for sides in panels.values())
-    figure = Figure(figsize=(2 + 4.5 * across, 1 + 2.2 * len(panels)), layout="constrained")
-    axes = figure.subplots(len(panels), across, squeeze=False)
-    for line, (_, sides) in zip(axes, sorted(panels.items())):
+    there = sum(len(traces) for sides in panels.values() for traces in sides.values())
+    shown = dict(sorted(panels.items())[:DETECTORS])
+    across, count = max(len(sides) for sides in shown.values()), 0
+    figure = Figure(figsize=(2 + 4.5 * across, 1 + 2.2 * len(shown)), layout="constrained")
+    axes = figure.subplots(len(shown), across, squeeze=False)
+    for line, sides in zip(axes, shown.values()):
         for panel, (side, traces) in zip(line, sorted(sides.items())):
             first = traces[0].channel
             izip = f" (class {first.izip_class}), side {side}" if side else ""
-            drawn(panel, traces)
+            drawn(panel, traces[:TRACES])
+            count += len(traces[:TRACES])
             panel.set_title(f"{first.detector}{izip}", loc="left", fontsize=9)
             panel.set_ylabel("sample", fontsize=8)
             panel.tick_params(labelsize=7)
@@ -91,8 +102,9 @@ def event_figure(event: records.Event) -> Figure:
             panel.set_visible(False)
         for panel in line[: len(sides)]:
             panel.set_xlabel("µs from the trigger", fontsize=8)
-    figure.suptitle(f"event {event.number}, {described(event)}", fontsize=10)
-    return figure
+    part = f"; {count:,} of {there:,} traces" if count < there else ""
+    figure.suptitle(f"event {event.number}, {described(event)}{part}", fontsize=10)
+    return figure, count, there
 
 
 def saved(figure: Figure, out: Any, kind: str) -> None:

@@ -162,9 +162,11 @@ class Run:
     unread: pandas.DataFrame
     """The files that couldn't be read: name, words."""
 
+    accepted: int
+    """How many files were accepted, those twice that were named twice."""
+
     def __str__(self) -> str:
-        files = self.rows["file"].nunique()
-        return f"{files:,} files accepted, {len(self.rows):,} rows; {len(self.refused):,} refused; {len(self.unread):,} not read"
+        return f"{self.accepted:,} files accepted, {len(self.rows):,} rows; {len(self.refused):,} refused; {len(self.unread):,} not read"
 
 
 def run(
@@ -211,4 +213,5 @@ def run(
         table,
         pandas.DataFrame(refused, columns=["file", "number", "place", "structure", "words"]),
         pandas.DataFrame(unread, columns=["file", "words"]),
+        len(accepted),
     )

@@ -2,12 +2,13 @@
 
 from __future__ import annotations
 
+import errno
 import operator
 import os
 import secrets
 import stat
 from collections.abc import Iterator, Sequence
-from contextlib import contextmanager
+from contextlib import contextmanager, suppress
 from typing import Any, Callable, Union
 
 import numpy as np
@@ -213,7 +214,11 @@ def rewrite(data: Any) -> bytes:
 def save(path: Path, data: bytes) -> None:
     """Writes bytes to a file that is complete when it is there under its name."""
     name = os.path.realpath(os.fsdecode(path))
+    if os.fsdecode(path).endswith("/"):
+        raise IsADirectoryError(errno.EISDIR, os.strerror(errno.EISDIR), name)
     there = os.stat(name) if os.path.exists(name) else None
+    if there is not None and not os.access(name, os.W_OK):
+        raise PermissionError(errno.EACCES, os.strerror(errno.EACCES), name)
     if there is not None and not stat.S_ISREG(there.st_mode):
         with open(name, "wb") as out:
             out.write(data)
@@ -228,5 +233,6 @@ def save(path: Path, data: bytes) -> None:
             out.write(data)
         os.replace(beside, name)
     except BaseException:
-        os.unlink(beside)
+        with suppress(FileNotFoundError):
+            os.unlink(beside)
         raise

@@ -15,6 +15,8 @@ MODULE = TREE / "python"
 # Processes that the tests start, Dask's workers among them, find the module as the tests do.
 sys.dont_write_bytecode = True
 os.environ["PYTHONDONTWRITEBYTECODE"] = "1"
+# They write as the installed command does, whatever is set here.
+os.environ.pop("PYTHONUNBUFFERED", None)
 os.environ["PYTHONPATH"] = os.pathsep.join([str(MODULE), *filter(None, os.environ.get("PYTHONPATH", "").split(os.pathsep))])
 if str(MODULE) not in sys.path:
     sys.path.insert(0, str(MODULE))

@@ -5,16 +5,18 @@ from __future__ import annotations
 import io
 import json
 import os
+import re
 import signal
 import subprocess
 import sys
+import time
 from pathlib import Path
 
 import numpy as np
 import pytest
 
 import dwejrasq
-from dwejrasq import command, runs
+from dwejrasq import command, labels, runs
 
 ROOT = Path(__file__).resolve().parents[2]
 EXAMPLES = ROOT / "examples"
@@ -80,8 +82,11 @@ def test_check_many_names(capfd: pytest.CaptureFixture[str], tmp_path: Path) -> 
     assert dwj(capfd, "check", "--from", str(tmp_path))[0] == 2
     assert dwj(capfd, "check")[0] == 2
     assert dwj(capfd, "check", P14, "-")[0] == 2
-    piped = process("check", "--from", "-", given=os.fsencode(P14) + b"\n")
+    piped = process("check", "--from", "-", given=os.fsencode(P14) + b"\r\n")
     assert piped.returncode == 0 and piped.stdout.startswith(os.fsencode(P14))
+    assert process("check", "--from", "-", given=b"-\n").returncode == 2
+    closed = process("check", "--from", "-", preexec_fn=lambda: os.close(0))
+    assert closed.returncode == 2 and closed.stderr == b"dwj: -: is closed\n"
 
 
 @pytest.mark.parametrize("name", ["p14", "every-kind", "damaged"])
@@ -109,7 +114,8 @@ def test_ls_json(capfd: pytest.CaptureFixture[str]) -> None:
     status, out, _ = dwj(capfd, "ls", "--json", EVERY)
     found = json.loads(out)
     assert status == 0 and found["length"] == 6948 and len(found["events"]) == 3 and len(found["configuration"]) == 6
-    assert found["configuration"][3]["channel"] == {"type": 11, "number": 17, "name": "PAS2", "cold": "A1", "detector": "iZIP17", "class": "II", "side": "S2"}
+    channel = {"type": 11, "number": 17, "name": "PAS2", "cold": "A1", "detector": "iZIP17", "class": "II", "side": "S2"}
+    assert found["configuration"][3]["channel"] == channel
     assert found["configuration"][3]["squid_bias"] == -3.33 and "bias" not in found["configuration"][3]
     kinds = [record["kind"] for record in found["events"][0]["records"]]
     assert kinds == ["administrative", "trigger", "TLB mask", "GPS", "history"] + 6 * ["trace"]
@@ -230,14 +236,38 @@ def test_plot(capfd: pytest.CaptureFixture[str], tmp_path: Path) -> None:
     svg = tmp_path / "e.svg"
     assert dwj(capfd, "plot", EVERY, "7", "-o", str(svg)) == (0, f"{svg}: event 7, 6 traces\n", "")
     text = svg.read_text()
-    for words in ("iZIP1 (class I), side S1", "iZIP1 (class I), side S2", "iZIP17 (class II), side S1", "iZIP17 (class II), side S2", "µs from the trigger"):
-        assert words in text
+    for detector in ("iZIP1 (class I)", "iZIP17 (class II)"):
+        assert f"{detector}, side S1" in text and f"{detector}, side S2" in text
+    assert "µs from the trigger" in text
     dwj(capfd, "plot", EVERY, "7", "-o", str(tmp_path / "f.svg"))
     assert (tmp_path / "f.svg").read_bytes() == svg.read_bytes()
     assert dwj(capfd, "plot", EVERY, "@5752", "-o", str(tmp_path / "e.png"))[0] == 0
     assert dwj(capfd, "plot", P14, "7", "-o", str(tmp_path / "n.png")) == (2, "", "dwj: event 7 has no traces\n")
     assert dwj(capfd, "plot", EVERY, "7", "-o", "e.gif")[0] == 2
     assert dwj(capfd, "plot", DAMAGED, "7", "-o", str(svg))[0] == 1
+    assert dwj(capfd, "plot", EVERY, "9" * 5000, "-o", str(svg))[0] == 2
+    piped = process("plot", EVERY, "7", "-o", "-")
+    assert piped.returncode == 0 and piped.stdout.startswith(b"\x89PNG")
+
+
+def test_plot_of_many(capfd: pytest.CaptureFixture[str], tmp_path: Path) -> None:
+    """More detectors, and more traces of one, than a picture holds: the first are drawn, and it is said."""
+    writer = dwejrasq.Writer()
+    with writer.configuration():
+        pass
+    with writer.event():
+        writer.administrative(date=1100115, hour=1630, number=1, seconds=0)
+        for number in range(300):
+            writer.trace((4, number, "PA"), [0, 1])
+    with writer.event():
+        writer.administrative(date=1100115, hour=1630, number=2, seconds=0)
+        for _ in range(500):
+            writer.trace((4, 3, "PA"), [0, 1])
+    name, out = str(tmp_path / "many.raw"), str(tmp_path / "m.svg")
+    writer.save(name)
+    assert dwj(capfd, "plot", name, "1", "-o", out) == (0, f"{out}: event 1, 24 traces of 300, the others are left out\n", "")
+    assert dwj(capfd, "plot", name, "2", "-o", out) == (0, f"{out}: event 2, 24 traces of 500, the others are left out\n", "")
+    assert "24 of 500 traces" in Path(out).read_text()
 
 
 def test_page(capfd: pytest.CaptureFixture[str], tmp_path: Path) -> None:
@@ -271,7 +301,8 @@ def test_bad_input(capfd: pytest.CaptureFixture[str], tmp_path: Path) -> None:
     for path, length in ((limit, 16_777_216), (over, 16_777_217)):
         path.touch()
         os.truncate(path, length)
-    every = [["check"], ["ls"], ["ls", "--json"], ["settings"], ["show", "PLACE"], ["trace", "EVENT"], ["plot", "EVENT"], ["page", "OUT"], ["rewrite", "OUT"]]
+    places = [["show", "PLACE"], ["trace", "EVENT"], ["plot", "EVENT"], ["page", "OUT"], ["rewrite", "OUT"]]
+    every = [["check"], ["ls"], ["ls", "--json"], ["settings"], *places]
     for path, status, words in (
         (empty, 1, "refused at byte 0: header: too few bytes"),
         (limit, 1, "refused at byte 0: header: the file doesn't begin"),
@@ -306,7 +337,7 @@ def test_no_permission() -> None:
 
 
 def test_odd_names(capfd: pytest.CaptureFixture[str], tmp_path: Path) -> None:
-    for name in (b"\xff\xfe", "tèst µ".encode(), b"a\nb", b"--x"):
+    for name in (b"\xff\xfe", "tèst µ".encode(), b"a\nb", b"a\\nb", b"\x1b]0;t\a", b"--x"):
         path = os.path.join(os.fsencode(tmp_path), name)
         Path(os.fsdecode(path)).write_bytes(Path(EVERY).read_bytes())
         for words in (("check",), ("ls",), ("ls", "--json"), ("settings",)):
@@ -314,6 +345,14 @@ def test_odd_names(capfd: pytest.CaptureFixture[str], tmp_path: Path) -> None:
         assert dwj(capfd, "rewrite", os.fsdecode(path), os.fsdecode(path))[0] == 0
         page = dwj(capfd, "page", os.fsdecode(path), "-o", str(tmp_path / "p.html"))
         assert page[0] == 0, page
+        # For people what a terminal would obey is spelled out; for programs the name is the name.
+        assert json.loads(dwj(capfd, "check", "--json", os.fsdecode(path))[1])["file"] == os.fsdecode(path)
+        assert json.loads(dwj(capfd, "ls", "--json", os.fsdecode(path))[1])["file"] == os.fsdecode(path)
+        for words in (("check", os.fsdecode(path)), ("ls", os.fsdecode(path))):
+            assert all(c.isprintable() for c in dwj(capfd, *words)[1].splitlines()[0])
+    for words in (("plot", EVERY, "7", "-o", "x\x1b]0;t\a.gif"), ("trace", EVERY, "7", "q\x1b]0;t\a"), ("show", EVERY, "q\x1b"), ("q\x1b",)):
+        status, out, err = dwj(capfd, *words)
+        assert (status, out) == (2, "") and "\x1b" not in err and "\a" not in err
 
 
 def test_help_and_wrong_use(capfd: pytest.CaptureFixture[str]) -> None:
@@ -328,6 +367,9 @@ def test_help_and_wrong_use(capfd: pytest.CaptureFixture[str]) -> None:
     assert dwj(capfd, "--version") == (0, f"dwj {(ROOT / 'VERSION').read_text()}", "")
     assert dwj(capfd, "nonsense")[0] == 2
     assert dwj(capfd)[:2] == (2, "")
+    for word in (DAMAGED, "./x", "@7", ".", "", "_x"):
+        status, out, err = dwj(capfd, word)
+        assert (status, out) == (2, "") and "dwj check FILE" in err, word
     assert dwj(capfd, "ls")[0] == 2
     for shell in ("bash", "zsh", "fish"):
         assert "_DWJ_COMPLETE" in dwj(capfd, "completion", shell)[1]
@@ -382,6 +424,61 @@ def test_pipes_and_terminals(tmp_path: Path) -> None:
             stdin=subprocess.DEVNULL,
         )
         assert b"\x1b[" not in plain.stdout and b"refused at" in plain.stdout
+
+
+def test_outputs_that_fail(tmp_path: Path) -> None:
+    """A write that fails in the middle, or a signal to stop, leaves neither half a file nor a part beside it, and what was there stays."""
+    name, out = tmp_path / "big.raw", tmp_path / "out.raw"
+    writer = dwejrasq.Writer()
+    with writer.configuration():
+        pass
+    with writer.event():
+        writer.administrative(date=1100115, hour=1630, number=1, seconds=0)
+        for _ in range(200):
+            writer.trace((4, 3, "PA"), np.zeros(32768, np.uint16))
+    writer.save(name)
+    out.write_bytes(b"there")
+    limits = "import resource, signal; resource.setrlimit(resource.RLIMIT_FSIZE, (100000, 100000)); signal.signal(signal.SIGXFSZ, signal.SIG_IGN)\n"
+    code = limits + f"import sys; sys.argv = ['dwj', 'rewrite', {str(name)!r}, {str(out)!r}]; from dwejrasq.command import main; main()"
+    done = subprocess.run([sys.executable, "-c", code], capture_output=True, timeout=60)
+    assert done.returncode == 2 and done.stderr == f"dwj: {out}: file too large\n".encode()
+    assert sorted(path.name for path in tmp_path.iterdir()) == ["big.raw", "out.raw"] and out.read_bytes() == b"there"
+    for wait in (0.15, 0.2, 0.25, 0.3, 0.35):
+        with subprocess.Popen([sys.executable, "-m", "dwejrasq", "rewrite", str(name), str(out)], stdout=subprocess.DEVNULL) as process:
+            time.sleep(wait)
+            process.terminate()
+        assert process.returncode in (0, 128 + signal.SIGTERM, -signal.SIGTERM)
+        assert sorted(path.name for path in tmp_path.iterdir()) == ["big.raw", "out.raw"]
+        assert out.read_bytes() in (b"there", name.read_bytes())
+    read_only = tmp_path / "closed.raw"
+    read_only.write_bytes(b"there")
+    read_only.chmod(0o444)
+    os.chmod(tmp_path, 0o777)
+    code = f"import os, sys; os.geteuid() or os.setuid(65534); sys.argv = ['dwj', 'rewrite', {EVERY!r}, {str(read_only)!r}]\n"
+    assert subprocess.run([sys.executable, "-c", "import dwejrasq.command\n" + code + "dwejrasq.command.main()"], timeout=60).returncode == 2
+    assert read_only.read_bytes() == b"there"
+
+
+def test_labels_are_the_formats() -> None:
+    """The words for numbers are those of docs/FORMAT.md."""
+    text = " ".join((ROOT / "docs/FORMAT.md").read_text().split())
+    sites = re.search(r"LL is one of (.*?), or of", text)
+    assert sites and {int(n): word for n, word in re.findall(r"(\d+) \((\w+)\)", sites.group(1))} == labels.SITES
+    kinds = re.search(r"Types are (0 WIMP search.*?)\.", text)
+    assert kinds is not None
+    assert {int(n, 16): word for n, word in (part.split(" ", 1) for part in re.sub("0xA", "A", kinds.group(1)).split(", "))} == labels.EVENT_TYPES
+    types = re.search(r"The types are (1 BLIP.*?) iZIP II\.", text)
+    assert types is not None
+    for number, label in labels.DETECTORS.items():
+        word = re.search(rf"\b{number} ([A-Za-z ]+)", types.group(1) + " iZIP II")
+        said = {"mZIP": "mercedes ZIP"}.get(label, label)
+        assert word and word.group(1).replace(" ", "").lower().startswith(said.replace(" ", "").lower()), label
+    rows = dict(re.findall(r"\| (\d+) \| ([A-Za-z ]+?) \|", (ROOT / "docs/FORMAT.md").read_text().split("### 7.2")[1].split("### 7.3")[0]))
+    assert {int(n): word for n, word in rows.items()} == labels.KINDS
+    classes = re.search(r"\| class \| unsigned \| (.*?);", text)
+    categories = re.search(r"\| category \| unsigned \| (.*?);", text)
+    for found, words in ((classes, labels.EVENT_CLASSES), (categories, labels.CATEGORIES)):
+        assert found and {int(n): word for n, word in re.findall(r"(\d+) \(([^)]*)\)", found.group(1))} == words
 
 
 def test_files_that_change(tmp_path: Path) -> None:

@@ -1441,6 +1441,22 @@ def test_find_is_the_first_by_the_rows(tree: Tree) -> None:
         file.trace(7, 11, 17, "PAS3")
 
 
+def test_rows_by_number(examples: Path) -> None:
+    """A row's number is from 0 on, and a whole number; an event of another file isn't looked for."""
+    file, other = (dwejrasq.open(examples / "every-kind.raw") for _ in range(2))
+    assert [file.at_row(index).index for index in range(len(file.rows))] == list(range(32))
+    for index in (-1, -5, 32, 2**70):
+        with pytest.raises(IndexError):
+            file.at_row(index)
+    for place in (1.5, "8"):
+        with pytest.raises(TypeError):
+            file.at(place)  # type: ignore[arg-type]
+    with pytest.raises(ValueError):
+        file.trace(other.events[0], 11, 17, "PAS2")
+    trace = file.trace(file.events[0], 11, 17, "PAS2")
+    assert trace.event == file.events[0] and trace.event != other.events[0]
+
+
 @given(files.trees(), st.slices(6), st.integers(-7, 7))
 @settings(max_examples=60)
 def test_events_are_a_sequence(tree: Tree, part: slice, index: int) -> None:
