@@ -76,7 +76,10 @@ def described(row: records.Row) -> str:
     if isinstance(row, records.Tlb):
         found = [f"tower {tower} ZIP {' '.join(map(str, zips))}" for tower, zips in row.zips.items() if zips]
         return ", ".join(found) or "no ZIP"
-    return several(int(row.file.rows["one"][row.index]), "entry", "entries")
+    if row.kind == labels.CONFIGURATION:
+        return several(int(row.file.rows["one"][row.index]), "entry", "entries")
+    # A kind that has no line of its own here: its fields, by name.
+    return ", ".join(f"{f.name.replace('_', ' ')} {getattr(row, f.name)}" for f in fields(row) if f.name not in ("file", "index"))
 
 
 def tree(file: File) -> Iterator[str]:

@@ -21,7 +21,7 @@ from ._native import VERSION, library
 from .damaged import Reopened, before_fault, refusal_of, reopened
 from .faults import Refused, hexadecimal, structure_at
 from .files import File, read
-from .listing import spelled
+from .listing import described, spelled
 from .records import Event, Gps, History, Samples, Setting, Tlb, Trace, Trigger
 
 # What a page holds at most; what is left out is counted on it.
@@ -517,7 +517,7 @@ def _record(record: Any) -> list[str]:
             _fact(f"History: {_count(len(record.veto_times), 'veto time')}, µs", _times(record.veto_times, record.veto_masks), "line"),
             _fact(f"History: {_count(len(record.trigger_times), 'trigger time')}, µs", _times(record.trigger_times, record.trigger_masks), "line"),
         ]
-    return []
+    return [_fact(record.label, _text(described(record)), "line")]
 
 
 def _times(times: npt.NDArray[np.int32], masks: npt.NDArray[np.uint32]) -> str:

@@ -1441,6 +1441,30 @@ def test_find_is_the_first_by_the_rows(tree: Tree) -> None:
         file.trace(7, 11, 17, "PAS3")
 
 
+def test_samples_are_the_calls(examples: Path) -> None:
+    """Each sample of a view is the one that the library gives for its number."""
+    from dwejrasq._native import ffi, library, pointer
+
+    file = dwejrasq.open(examples / "every-kind.raw")
+    value, refused_at = ffi.new("uint32_t *"), ffi.new("uint64_t *")
+    for trace in (trace for event in file.events for trace in event.traces):
+        for number, sample in enumerate(trace.samples.tolist(), 1):
+            assert library.dwj_sample(pointer(file.data), len(file), trace.place, number, value, refused_at) == 0 and value[0] == sample
+        assert library.dwj_sample(pointer(file.data), len(file), trace.place, trace.n + 1, value, refused_at) == library.DWJ_WRONG_COUNT
+
+
+def test_every_row_kind_has_a_class(examples: Path) -> None:
+    """Each row kind of the header has a word, and an object with its fields; the example has all of them."""
+    from dwejrasq import labels, records
+
+    header = re.findall(r"^ \*\s+(\d+)  [A-Za-z ]+?  +\S", (examples.parent / "include/dwejrasq.h").read_text().split("The row kinds")[1], re.MULTILINE)
+    assert [int(kind) for kind in header[: len(labels.KINDS)]] == list(labels.KINDS) == list(range(1, len(labels.KINDS) + 1))
+    file = dwejrasq.open(examples / "every-kind.raw")
+    found = {int(row["kind"]): type(file.at_row(index)) for index, row in enumerate(file.rows)}
+    assert set(found) == set(labels.KINDS) and len(set(found.values())) == len(found) - 1
+    assert [kind for kind, made in found.items() if made is records.Row] == [labels.CONFIGURATION]
+
+
 def test_rows_by_number(examples: Path) -> None:
     """A row's number is from 0 on, and a whole number; an event of another file isn't looked for."""
     file, other = (dwejrasq.open(examples / "every-kind.raw") for _ in range(2))
