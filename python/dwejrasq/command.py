@@ -495,7 +495,7 @@ def page(file: str, out: str) -> None:
     made_page = pages.page(data.data, name).encode("utf-8", "replace")
     with output(out, file) as stream:
         stream.write(made_page)
-    made(out, f"{len(made_page):,} bytes")
+    made(out, f"a page of {listing.spelled(name)}")
     answer = runs.answered(data, name)
     if answer.refusal:
         refused(answer)

@@ -22,7 +22,7 @@ from .damaged import Reopened, before_fault, refusal_of, reopened
 from .faults import Refused, hexadecimal, structure_at
 from .files import File, read
 from .listing import described, spelled
-from .records import Event, Gps, History, Samples, Setting, Tlb, Trace, Trigger
+from .records import Administrative, Event, Gps, History, Samples, Setting, Tlb, Trace, Trigger
 
 # What a page holds at most; what is left out is counted on it.
 COLUMNS = 300
@@ -502,7 +502,9 @@ def _card(contents: Contents, event: Event, index: int, opened: bool = False) ->
 
 
 def _record(record: Any) -> list[str]:
-    """The facts of a record that is neither administrative nor a trace."""
+    """The facts of a record; an administrative one's stand above, and a trace is drawn."""
+    if isinstance(record, (Administrative, Trace)):
+        return []
     if isinstance(record, Gps):
         date = f"{record.time.date().isoformat()} " if record.time else ""
         clock = f"{record.hour:02d}:{record.minute:02d}:{record.second:02d}.{record.tenths:07d}"

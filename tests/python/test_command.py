@@ -272,7 +272,7 @@ def test_plot_of_many(capfd: pytest.CaptureFixture[str], tmp_path: Path) -> None
 
 def test_page(capfd: pytest.CaptureFixture[str], tmp_path: Path) -> None:
     page = tmp_path / "event.html"
-    assert dwj(capfd, "page", EVERY, "-o", str(page)) == (0, f"{page}: {page.stat().st_size:,} bytes\n", "")
+    assert dwj(capfd, "page", EVERY, "-o", str(page)) == (0, f"{page}: a page of {EVERY}\n", "")
     assert page.read_text().lower().startswith("<!doctype html>") and "PAS2" in page.read_text()
     status, _, err = dwj(capfd, "page", DAMAGED, "-o", str(page))
     assert status == 1 and "refused at byte 3948" in err and "3948" in page.read_text()
