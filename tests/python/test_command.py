@@ -60,7 +60,7 @@ def test_check(capfd: pytest.CaptureFixture[str]) -> None:
 
 
 def test_check_says_a_trace(capfd: pytest.CaptureFixture[str], tmp_path: Path) -> None:
-    """A trace whose code isn't listed, as the issue tracker's example has it: byte, structure, words, number."""
+    """A trace whose code isn't listed: byte, structure, words, number; and its bytes."""
     data = bytearray(Path(EVERY).read_bytes())
     data[500 + 8 + 16 + 3] = 0xFF
     name = tmp_path / "f.raw"
