@@ -13,6 +13,7 @@ from typing import Any
 
 import numpy as np
 import numpy.typing as npt
+
 Bytes = npt.NDArray[np.uint8]
 
 _PACKAGE = Path(__file__).resolve().parent

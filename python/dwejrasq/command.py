@@ -321,10 +321,13 @@ def show(file: str, place: str, as_json: bool) -> None:
     name, data = loaded(file)
     try:
         found = files.read(data, name)
-    except faults.Refused:
-        structure = faults.structure_at(data, at) if at < len(data) else "past the end"
-        click.echo(f"byte {at}: {structure or 'no word that names a structure'}")
-        said(faults.hexadecimal(data, at))
+    except faults.Refused as refusal:
+        if as_json:
+            click.echo(json.dumps(listing.refusal(name, refusal), indent=1))
+        else:
+            structure = faults.structure_at(data, at) if at < len(data) else "past the end"
+            click.echo(f"byte {at}: {structure or 'no word that names a structure'}")
+            said(faults.hexadecimal(data, at))
         refused(runs.answered(data, name))
     if as_json:
         click.echo(json.dumps(listing.fields_of(found.at_row(found.row_at(at))), indent=1))

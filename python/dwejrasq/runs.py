@@ -161,7 +161,6 @@ class Run:
     """The files that were refused: name, number, place, structure, words."""
     unread: pandas.DataFrame
     """The files that couldn't be read: name, words."""
-
     accepted: int
     """How many files were accepted, those twice that were named twice."""
 

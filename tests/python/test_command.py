@@ -150,6 +150,8 @@ def test_show(capfd: pytest.CaptureFixture[str]) -> None:
         assert dwj(capfd, "show", EVERY, wrong)[0] == 2
     assert dwj(capfd, "show", DAMAGED, "3948")[:2] == (1, "byte 3948: GPS\n" + HEX)
     assert dwj(capfd, "show", DAMAGED, "99999999999")[0] == 1
+    status, out, _ = dwj(capfd, "show", "--json", DAMAGED, "500")
+    assert status == 1 and json.loads(out)["refused"]["place"] == 3948
 
 
 def test_trace(capfd: pytest.CaptureFixture[str], tmp_path: Path) -> None:
