@@ -12,9 +12,7 @@ endif
 override PREFIX := $(abspath $(PREFIX))
 PYTHON ?= /usr/bin/python3
 VERSION := $(shell cat VERSION)
-# What the shared library's soname ends with: the version's first number, and the first two while that is 0 (build/shared).
 MAJOR := $(firstword $(subst ., ,$(VERSION)))
-INTERFACE := $(if $(filter 0,$(MAJOR)),$(basename $(VERSION)),$(MAJOR))
 NATIVE := target/native
 STATIC := $(NATIVE)/libdwejrasq.a
 SHARED := $(NATIVE)/libdwejrasq.so.$(VERSION)
@@ -44,8 +42,8 @@ install: all
 	umask 022 && install -d $(into)/lib/pkgconfig $(into)/include $(into)/bin $(modules)/dwejrasq $(completions)
 	install -m 644 $(STATIC) $(into)/lib/libdwejrasq.a
 	install -m 755 $(SHARED) $(into)/lib/libdwejrasq.so.$(VERSION)
-	ln -sf libdwejrasq.so.$(VERSION) $(into)/lib/libdwejrasq.so.$(INTERFACE)
-	ln -sf libdwejrasq.so.$(INTERFACE) $(into)/lib/libdwejrasq.so
+	ln -sf libdwejrasq.so.$(VERSION) $(into)/lib/libdwejrasq.so.$(MAJOR)
+	ln -sf libdwejrasq.so.$(MAJOR) $(into)/lib/libdwejrasq.so
 	install -m 644 include/dwejrasq.h $(into)/include/dwejrasq.h
 	sed 's#@PREFIX@#$(PREFIX)#; s#@VERSION@#$(VERSION)#' build/dwejrasq.pc >$(into)/lib/pkgconfig/dwejrasq.pc
 	rm -rf $(modules)/dwejrasq
@@ -62,7 +60,7 @@ install: all
 	@echo 'make: dwj $(VERSION) is in $(PREFIX)/bin, and for Python in $(patsubst $(DESTDIR)%,%,$(modules))'
 
 uninstall:
-	rm -f $(into)/lib/libdwejrasq.a $(into)/lib/libdwejrasq.so $(into)/lib/libdwejrasq.so.$(INTERFACE) $(into)/lib/libdwejrasq.so.$(INTERFACE).*
+	rm -f $(into)/lib/libdwejrasq.a $(into)/lib/libdwejrasq.so $(into)/lib/libdwejrasq.so.$(MAJOR) $(into)/lib/libdwejrasq.so.$(MAJOR).*
 	rm -f $(into)/include/dwejrasq.h $(into)/lib/pkgconfig/dwejrasq.pc $(into)/bin/dwj $(completions)/dwj
 	rm -rf $(modules)/dwejrasq
 	@rmdir $(modules) $(dir $(modules)) $(completions) $(dir $(completions)) $(into)/share $(into)/lib/pkgconfig $(into)/lib $(into)/include \

@@ -10,8 +10,8 @@
  *    5  a kind that may not stand here, in a structure's first word or inside a trace, or an event's word without 0xA980
  *    6  a length that doesn't go with the kind, or with the counts inside
  *    7  an event's class, category or type isn't admitted
- *    8  a kind that monitoring events have, of a layout that isn't known
- *    9  an event has no records; or, unless it is a monitoring one, another first record than the administrative, or twice a kind that comes once
+ *    8  an event of type 7, which isn't read
+ *    9  an event has no records, doesn't begin with its administrative record, or has a kind twice that may stand in it once
  *   10  a field is outside its rule
  *   11  a trace's count of samples is odd, under 2, over 32,768 or unlike the count that repeats it; or no sample has this number
  *   12  the rows need more room than was lent
@@ -34,9 +34,9 @@
 #include <stdint.h>
 
 /* The version, as the file VERSION has it; CHANGELOG.md says what a caller must know of each. */
-#define DWJ_VERSION "0.6.0"
+#define DWJ_VERSION "0.5.0"
 #define DWJ_VERSION_MAJOR 0
-#define DWJ_VERSION_MINOR 6
+#define DWJ_VERSION_MINOR 5
 #define DWJ_VERSION_PATCH 0
 
 /* The longest file and the longest output, in bytes. */
@@ -50,7 +50,7 @@
 #define DWJ_WRONG_KIND 5
 #define DWJ_WRONG_LENGTH 6
 #define DWJ_NOT_ADMITTED 7
-#define DWJ_NO_LAYOUT 8
+#define DWJ_MONITORING 8
 #define DWJ_MISPLACED 9
 #define DWJ_WRONG_FIELD 10
 #define DWJ_WRONG_COUNT 11
@@ -62,7 +62,7 @@
  *    2  configuration   count of its entries; 0
  *    3  phonon entry    detector code; tower, as an unsigned number (-1 is 4,294,967,295)
  *    4  charge entry    detector code; tower, as an unsigned number
- *    5  event           class in bits 12 to 15, category in 8 to 11, type in 0 to 7 (7: a monitoring event); count of its records
+ *    5  event           class in bits 12 to 15, category in 8 to 11, type in 0 to 7; count of its records
  *    6  administrative  event number; event time, seconds from 1970 on
  *    7  trace           detector code; count of samples
  *    8  history         count of veto times; count of trigger times
@@ -70,11 +70,6 @@
  *                       second, two digits each
  *   10  trigger         first mask; second mask
  *   11  TLB             word of the first tower; of the second
- *   12  thresholds      tower; 0
- *   13  trigger rates   tower; 0
- *   14  veto rates      count of its entries; 0
- * Kinds 12 to 14 stand in monitoring events, which have no other records; 6 to 11 in all others. So the first row behind an event's is its
- * administrative record, which has its number, unless the event's type is 7: a monitoring event has none.
  */
 #define DWJ_HEADER 1
 #define DWJ_CONFIGURATION 2
@@ -87,9 +82,6 @@
 #define DWJ_GPS 9
 #define DWJ_TRIGGER 10
 #define DWJ_TLB 11
-#define DWJ_THRESHOLDS 12
-#define DWJ_TRIGGER_RATES 13
-#define DWJ_VETO_RATES 14
 
 #ifdef __cplusplus
 extern "C" {
@@ -106,52 +98,44 @@ extern "C" {
  */
 uint32_t dwj_table(const uint8_t *file, size_t file_length, uint32_t *rows, size_t rows_length, uint64_t *count, uint64_t *place);
 
-/* Record: the record or entry at a place of the file, without an event's rules. What a kind word means depends on the event, which isn't looked
- * at: the caller says by monitoring whether the place is read as in a monitoring event. With 0 the entries and the records of all other events
- * are known, rows 3 to 11, and any other kind is 5. With any other number those of monitoring events alone are, rows 12 to 14: the kinds 0x00,
- * 0x10, 0x20, 0x30, 0x32, 0x40, 0x50 and 0xF0 are 8 then, and all others 5. On 0 values[0] is the row kind, then the fields in
+/* Record: the record or entry at a place of the file, without an event's rules. On 0 values[0] is the row kind, then the fields in
  * this order, then zeros up to twelve; *refused_at is unchanged. On a refusal values is unchanged and *refused_at is its place.
  *    3  phonon: code, tower; gain, QET bias, SQUID bias and lockpoint, these four x100; RTF offset, variable gain, delta t (ns), t0 (ns),
  *       trace length (samples)
  *    4  charge: code, tower, gain x100, bias, RTF offset, delta t, t0, trace length
  *    6  administrative: the series as LLYYMMDD and HHMM, event number, event time, milliseconds since the last event, live milliseconds
  *    7  trace: base address, digitizer channel, detector code, t0 (ns), delta t (ns), count of samples
- *    8  history (times in microseconds, signed words): count of veto times, where they start, words of a veto mask, where the masks start; the
- *       same four for the trigger. A list that is empty starts behind its count or width: where the next word stands, or the record ends
+ *    8  history (times in microseconds, signed words): count of veto times, where they start, words of a veto mask, where the masks start; the same four for the trigger;
+ *       a start is a place of the file. A list that is empty starts behind its count or width: where the next word stands, or the record ends
  *    9  GPS: year, day, status, hour, minute, second, tenths of a microsecond
  *   10  trigger: six masks
  *   11  TLB: six words, by tower
- *   12  thresholds: least voltage, largest voltage, range, tower; where the 6 detector codes start, the 9 operation codes, the 54 values (nine for
- *       each detector, in the operations' order)
- *   13  trigger rates: interval (microseconds), tower; where the 6 detector codes start, the 5 codes of lines, the 30 counters (five for each
- *       detector, in the lines' order)
- *   14  veto rates: interval (microseconds), count of entries; where their codes start, and their counters, one for each code
- * Where a list starts is a place of the file; its words stand one after the other there. Entry words, and a trace's t0, are signed.
+ * Entry words, and a trace's t0, are signed.
  */
-uint32_t dwj_record(const uint8_t *file, size_t file_length, size_t place, uint32_t monitoring, int64_t values[12], uint64_t *refused_at);
+uint32_t dwj_record(const uint8_t *file, size_t file_length, size_t place, int64_t values[12], uint64_t *refused_at);
 
-/* Setting: an entry in working units; Record's refusals with monitoring 0, then 5 there for another kind. On 0 *refused_at is unchanged; on a
- * refusal whole and units are unchanged, both of them, and *refused_at is its place.
+/* Setting: an entry in working units; Record's refusals, then 5 there for another kind. On 0 *refused_at is unchanged; on a refusal whole and
+ * units are unchanged, both of them, and *refused_at is its place.
  *    3  phonon: whole = 3, code, tower, RTF offset, variable gain, delta t, t0, trace length;
  *       units = gain, QET bias, SQUID bias, lockpoint
  *    4  charge: whole = 4, code, tower, bias, RTF offset, delta t, t0, trace length; units = gain, 0, 0, 0
  */
 uint32_t dwj_setting(const uint8_t *file, size_t file_length, size_t place, int64_t whole[8], double units[4], uint64_t *refused_at);
 
-/* Samples: of the trace at a place, the part of the file that holds its samples: *size bytes from *offset on. Both are 0 where Record, with
- * monitoring 0, finds no trace there; nothing is refused. A sample has 16 bits, the lower byte first, and the earlier sample stands first:
- * sample k, from 1, is file[*offset + 2 * (k - 1)] + 256 * file[*offset + 2 * (k - 1) + 1].
+/* Samples: of the trace at a place, the part of the file that holds its samples: *size bytes from *offset on. Both are 0 where Record
+ * finds no trace there; nothing is refused. A sample has 16 bits, the lower byte first, and the earlier sample stands first: sample k, from 1, is
+ * file[*offset + 2 * (k - 1)] + 256 * file[*offset + 2 * (k - 1) + 1].
  */
 void dwj_samples(const uint8_t *file, size_t file_length, size_t place, uint64_t *offset, uint64_t *size);
 
-/* Sample: of the trace at a place, the sample with a number, from 1. Record's refusals with monitoring 0; then, at the place asked, 5 for another
- * kind and 11 for a number out of range. On a refusal *value is unchanged and *refused_at is its place, on 0 *refused_at is unchanged.
+/* Sample: of the trace at a place, the sample with a number, from 1. Record's refusals; then, at the place asked, 5 for another kind and
+ * 11 for a number out of range. On a refusal *value is unchanged and *refused_at is its place, on 0 *refused_at is unchanged.
  */
 uint32_t dwj_sample(const uint8_t *file, size_t file_length, size_t place, size_t number, uint32_t *value, uint64_t *refused_at);
 
-/* Find: of the traces with a code in events with a number, the one that stands first in the file; monitoring events have neither, and are passed
- * over. On 0 *place is its place, or 0 for nothing (no trace stands there); *refused_at is unchanged. On a refusal, which is the file's, *place is
- * unchanged and *refused_at is the refusal's place.
+/* Find: of the traces with a code in events with a number, the one that stands first in the file. On 0 *place is its place, or 0 for
+ * nothing (no trace stands there); *refused_at is unchanged. On a refusal, which is the file's, *place is unchanged and *refused_at is the
+ * refusal's place.
  */
 uint32_t dwj_find(const uint8_t *file, size_t file_length, uint32_t number, uint32_t code, uint64_t *place, uint64_t *refused_at);
 
@@ -160,10 +144,10 @@ uint32_t dwj_find(const uint8_t *file, size_t file_length, uint32_t number, uint
  * once and gives the first row; dwj_next gives the next one. On 0 row is the row, or zeros at the end (no row has kind 0), again and
  * again; *refused_at is unchanged. Over a refused file each call gives its refusal: row is unchanged and *refused_at is its place.
  * walker is written by every call, a refused one too. The file must be the same in each call. Of walker[0], the refusal's number, and of walker[4]
- * and walker[5] the low 32 bits count; of walker[6] all 64 do: 0 is outside of a monitoring event, and any other number inside of one.
+ * and walker[5] the low 32 bits count.
  */
-uint32_t dwj_open(const uint8_t *file, size_t file_length, uint64_t walker[7], uint32_t row[6], uint64_t *refused_at);
-uint32_t dwj_next(const uint8_t *file, size_t file_length, uint64_t walker[7], uint32_t row[6], uint64_t *refused_at);
+uint32_t dwj_open(const uint8_t *file, size_t file_length, uint64_t walker[6], uint32_t row[6], uint64_t *refused_at);
+uint32_t dwj_next(const uint8_t *file, size_t file_length, uint64_t walker[6], uint32_t row[6], uint64_t *refused_at);
 
 /* Visitor: a file's rows from the number first on, counted from 0, up to the last or until rows is full; so a file is read in pieces, the
  * next from first + *count on, until *count is 0. Each call checks the file and passes over the rows before. With room for no row, rows_length
@@ -187,9 +171,9 @@ uint32_t dwj_zip(uint32_t word, uint32_t zip);
 /* Writers: each writes one record or entry into an output, from a place on. On 0 the record's bytes stand there, every other byte of the
  * output is unchanged, *next is the place behind it and *refused_at is unchanged. On a refusal no byte is changed, *next is unchanged
  * and *refused_at is its place: 1 for an output longer than 16,777,216 bytes, at place 0; else at the place given, the first of the
- * fields in the order of their words (as Record would refuse it; 6 for lent bytes that are not as many as their count asks, before what is asked
- * of the words in them), then 13 where the record does not fit from there on. Lent bytes stand as in a file, in its byte order, and must not
- * overlap the output. They have no limit of their own: what isn't of the size that its count asks is 6, however long it is.
+ * fields in the order of their words (as Record would refuse it; 6 for lent bytes that are not as many as their count asks), then
+ * 13 where the record does not fit from there on. Lent bytes stand as in a file, in its byte order, and must not overlap the output. They have no
+ * limit of their own: what isn't of the size that its count asks is 6, however long it is.
  */
 
 /* An entry's words in Record's order, those x100 as they stand in the file. */
@@ -210,30 +194,13 @@ uint32_t dwj_write_trace(uint8_t *out, size_t out_length, size_t place, uint32_t
  */
 uint32_t dwj_write_history(uint8_t *out, size_t out_length, size_t place, uint32_t veto_times, const uint8_t *veto_times_bytes, size_t veto_times_length, uint32_t veto_width, const uint8_t *veto_masks, size_t veto_masks_length, uint32_t trigger_times, const uint8_t *trigger_times_bytes, size_t trigger_times_length, uint32_t trigger_width, const uint8_t *trigger_masks, size_t trigger_masks_length, uint64_t *next, uint64_t *refused_at);
 
-/* Thresholds, of a monitoring event: four numbers, then 24 bytes of detector codes, 36 of operation codes and 216 of values. The fields that are
- * refused are, in this order: the size of the codes (6), the codes (10), the size of the operations (6), the operations (10), the size of the
- * values (6). Detector codes are 101 to 199, 201 to 299 and so on up to 601 to 699, and 300; operation codes 1001 to 1004 and 2001 to 2005.
- */
-uint32_t dwj_write_thresholds(uint8_t *out, size_t out_length, size_t place, uint32_t minimum, uint32_t maximum, uint32_t range, uint32_t tower, const uint8_t *codes, size_t codes_length, const uint8_t *operations, size_t operations_length, const uint8_t *values, size_t values_length, uint64_t *next, uint64_t *refused_at);
-
-/* Trigger rates, of a monitoring event: two numbers, then 24 bytes of detector codes, 20 of codes of lines, which are 1 to 5, and 120 of counters;
- * refused in the same order.
- */
-uint32_t dwj_write_trigger_rates(uint8_t *out, size_t out_length, size_t place, uint32_t interval, uint32_t tower, const uint8_t *codes, size_t codes_length, const uint8_t *lines, size_t lines_length, const uint8_t *counters, size_t counters_length, uint64_t *next, uint64_t *refused_at);
-
-/* Veto rates, of a monitoring event: the interval and the count of entries, then four bytes of code and four of counter for each entry, codes
- * first; refused are the size of the codes (6), the codes (10), which are 300 to 399, then the size of the counters (6). No count wraps.
- */
-uint32_t dwj_write_veto_rates(uint8_t *out, size_t out_length, size_t place, uint32_t interval, uint32_t entries, const uint8_t *codes, size_t codes_length, const uint8_t *counters, size_t counters_length, uint64_t *next, uint64_t *refused_at);
-
 /* The file header, 8 bytes from byte 0 on: the two DAQ bytes. On 0 *next is 8; on 1 or 13, both at 0, it is unchanged, and so is the output. */
 uint32_t dwj_write_header(uint8_t *out, size_t out_length, uint8_t major, uint8_t minor, uint64_t *next, uint64_t *refused_at);
 
 /* Closings: a container from place to end, over the contents already written from place + 8 on. 1; 13 at place, where place or end is
- * past the output or end below place + 8; an event's class, category and type (7), then 9 where it has no contents, at place; then
- * the contents as the reader refuses them in an event of that type (7: a monitoring event), at their places. On 0 the eight bytes from place on
- * are written, all else is unchanged, *next is end and *refused_at is unchanged. On a refusal the output, the eight bytes too, and *next are
- * unchanged, and *refused_at is its place.
+ * past the output or end below place + 8; an event's class, category and type (7, 8), then 9 where it has no contents, at place; then
+ * the contents as the reader refuses them, at their places. On 0 the eight bytes from place on are written, all else is unchanged, *next is end
+ * and *refused_at is unchanged. On a refusal the output, the eight bytes too, and *next are unchanged, and *refused_at is its place.
  */
 uint32_t dwj_close_configuration(uint8_t *out, size_t out_length, size_t place, size_t end, uint64_t *next, uint64_t *refused_at);
 uint32_t dwj_close_event(uint8_t *out, size_t out_length, size_t place, size_t end, uint32_t event_class, uint32_t category, uint32_t type, uint64_t *next, uint64_t *refused_at);

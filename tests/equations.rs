@@ -7,20 +7,10 @@ use std::io::{self, BufRead};
 const CASES_IN_A_MODULE: usize = 100;
 const NAMES_IN_A_CASE: usize = 50;
 
-/// The aimed files that put one code after another at each position of thresholds and trigger rates (FORMAT 5.7) are long and many: one in
-/// so many is asked, a number that lets every position and every code have its turn.
-const CODES_ASKED: usize = 5;
-const CODE_CASES: [&str; 2] = ["thresholds-word-", "trigger-rates-word-"];
-/// Record is asked at every place as the file has it. Told that it reads in a monitoring event it is asked, in a file without one, at one place
-/// in so many; told that it doesn't, in a file with one, at every other place.
-const TOLD_IN: usize = 6;
-const TOLD_OUTSIDE: usize = 2;
-
 const HEADER: &str = "\
 -- Generated: what the outside implementation answers, as equations.
 use Prim.Native.Nat.{ℕ}
 use mathlib.Core.Path.{_≡_, refl}
-use mathlib.Core.Bool.{true, false}
 use mathlib.Core.List.{List, [], _∷_, _++_}
 use lib.IntN.{pos, negsuc}
 use lib.Ieee.{binary64, div, ofInt, ofBits}
@@ -117,8 +107,7 @@ fn equation(line: &[String], name: &str) -> String {
         }
     };
     match line[0].as_str() {
-        "record" => format!("(record_at Little false {} {} ≡ {})", name, line[1], given(2)),
-        "mrecord" => format!("(record_at Little true {} {} ≡ {})", name, line[1], given(2)),
+        "record" => format!("(record_at Little {} {} ≡ {})", name, line[1], given(2)),
         "sample" => format!("(sample_at Little {} {} {} ≡ {})", name, line[1], line[2], given(3)),
         "setting" if line[2] == "0" => {
             let fields: Vec<String> = line[3..]
@@ -170,40 +159,6 @@ fn declaration(number: usize, case: &Case) -> String {
     )
 }
 
-/// Whether a file has an event of type 7, as far as it can be followed by its lengths.
-fn has_monitoring(bytes: &[u8]) -> bool {
-    let word = |at: usize| bytes.get(at..at + 4).map(|w| u32::from_le_bytes([w[0], w[1], w[2], w[3]]));
-    let mut at = 8;
-    while let (Some(kind), Some(length)) = (word(at), word(at + 4)) {
-        if kind >> 16 == 0xA980 && kind & 0xFF == 7 {
-            return true;
-        }
-        at += 8 + length as usize;
-    }
-    false
-}
-
-/// The cases that are asked, of those that are made: see CODES_ASKED, TOLD_IN and TOLD_OUTSIDE.
-fn asked(cases: Vec<Case>) -> Vec<Case> {
-    let (mut codes, mut places) = (0, 0);
-    let mut left = Vec::new();
-    for mut case in cases {
-        if CODE_CASES.iter().any(|begin| case.name.starts_with(begin)) {
-            codes += 1;
-            if codes % CODES_ASKED != 1 {
-                continue;
-            }
-        }
-        let (sampled, one_in) = if has_monitoring(&case.bytes) { ("record", TOLD_OUTSIDE) } else { ("mrecord", TOLD_IN) };
-        case.rest.retain(|line| {
-            places += usize::from(line[0] == sampled);
-            line[0] != sampled || places % one_in == 0
-        });
-        left.push(case);
-    }
-    left
-}
-
 fn cases() -> Vec<Case> {
     let mut cases: Vec<Case> = Vec::new();
     for line in io::stdin().lock().lines() {
@@ -230,7 +185,7 @@ fn cases() -> Vec<Case> {
 
 fn main() {
     let dir = std::env::args().nth(1).expect("usage: equations DIR");
-    let cases = asked(cases());
+    let cases = cases();
     let files = cases.iter().filter(|c| !c.list.is_empty()).count();
     let equations: usize = files + cases.iter().map(|c| c.rest.len()).sum::<usize>();
     let mut root = String::new();
@@ -243,11 +198,5 @@ fn main() {
         writeln!(root, "pub mod Cases{}", m).unwrap();
     }
     fs::write(format!("{}/specs/Lib.antt", dir), root).expect("written");
-    let told = cases.iter().flat_map(|c| &c.rest).filter(|line| line[0] == "mrecord").count();
-    let monitoring = cases.iter().filter(|c| has_monitoring(&c.bytes)).count();
-    let random = cases.iter().filter(|c| c.name.starts_with("random-")).count();
-    println!(
-        "{} files ({} with a monitoring event, {} random), {} equations ({} of Record told that it reads in such an event)",
-        files, monitoring, random, equations, told
-    );
+    println!("{} files, {} equations", files, equations);
 }

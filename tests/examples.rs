@@ -23,7 +23,7 @@ use std::path::Path;
 
 use files::{
     bcd, configuration, event, structure_of, words, ADMINISTRATIVE, CHARGE, EVENT, GPS, HISTORY,
-    MAGIC, MONITORING, PHONON, THRESHOLDS, TLB, TRACE, TRIGGER, TRIGGER_RATES, VETO_RATES,
+    MAGIC, PHONON, TLB, TRACE, TRIGGER,
 };
 
 /// DAQ 3.5, format 2.0.
@@ -40,15 +40,6 @@ const FIRST_TIME: u32 = 1_263_573_000;
 const DELTA_T: u32 = 800;
 const SAMPLES: u32 = 256;
 const T0: i32 = -51_200;
-
-/// The ZIPs of the first tower as detector codes, the nine operation codes, the five trigger lines (FORMAT 5.7);
-/// the clocking interval of the counters in microseconds.
-const ZIPS: [u32; 6] = [401, 402, 403, 404, 405, 406];
-const OPERATIONS: [u32; 9] = [
-    1_001, 1_002, 1_003, 1_004, 2_001, 2_002, 2_003, 2_004, 2_005,
-];
-const LINES: [u32; 5] = [1, 2, 3, 4, 5];
-const INTERVAL: u32 = 1_000_000;
 
 /// Where the first event of every-kind.raw begins.
 const FIRST_EVENT: usize = 304;
@@ -84,7 +75,6 @@ fn main() -> io::Result<()> {
             ("p14.raw", aimed::p14()),
             ("every-kind.raw", every_kind),
             ("damaged.raw", damaged),
-            ("monitoring.raw", monitoring()),
         ]
     };
     for (name, bytes) in files {
@@ -143,36 +133,6 @@ fn every_kind() -> (Vec<u8>, usize) {
     bytes.extend(event(EVENT | RAW_BARIUM_SELECTIVE, &barium));
     bytes.extend(event(EVENT | MONTE_CARLO_NEUTRON, &simulated));
     (bytes, gps_word)
-}
-
-// The event of P14, and two monitoring events (FORMAT 6.2): thresholds and trigger rates of the first
-// tower; rates of the veto's OR and of forty panels.
-fn monitoring() -> Vec<u8> {
-    let tower = 1;
-    let mut thresholds = vec![0, 5, 0x3FFF, tower];
-    thresholds.extend(ZIPS);
-    thresholds.extend(OPERATIONS);
-    thresholds.extend((0..54).map(|value| 1_000 * (value / 9 + 1) + value % 9));
-    let mut trigger_rates = vec![INTERVAL, tower];
-    trigger_rates.extend(ZIPS);
-    trigger_rates.extend(LINES);
-    trigger_rates.extend((0..30).map(|counter| 100 * (counter / 5 + 1) + counter % 5));
-    let panels = 300..=340;
-    let mut veto_rates = vec![INTERVAL, 41];
-    veto_rates.extend(panels.clone());
-    veto_rates.extend(panels.map(|panel| if panel == 300 { 12_345 } else { panel }));
-    let mut bytes = words(&[MAGIC, VERSION]);
-    bytes.extend(configuration(&[]));
-    bytes.extend(&aimed::p14()[16..]);
-    bytes.extend(event(
-        MONITORING,
-        &[
-            structure_of(THRESHOLDS, &thresholds),
-            structure_of(TRIGGER_RATES, &trigger_rates),
-        ],
-    ));
-    bytes.extend(event(MONITORING, &[structure_of(VETO_RATES, &veto_rates)]));
-    bytes
 }
 
 // 408 of the smallest events, two of them with an empty history: 820 rows in as many bytes as the

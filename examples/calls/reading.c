@@ -6,7 +6,7 @@
 #include <stdlib.h>
 
 /* Kinds of rows. */
-enum { PHONON = 3, CHARGE = 4, EVENT = 5, TRACE = 7, TLB = 11, THRESHOLDS = 12, VETO_RATES = 14 };
+enum { PHONON = 3, CHARGE = 4, EVENT = 5, TRACE = 7, TLB = 11 };
 /* Rows that the visitor is lent room for. Each of its calls checks the file, so that many small pieces take long. */
 enum { PIECE = 8192 };
 
@@ -30,10 +30,10 @@ static int refused(const char *call, uint32_t number, uint64_t place) {
     return 1;
 }
 
-/* The first row of a kind, or of one up to another, or NULL. */
-static const uint32_t *first_of(uint32_t kind, uint32_t last, const uint32_t *rows, uint64_t count) {
+/* The first row of one of two kinds, or NULL. */
+static const uint32_t *first_of(uint32_t kind, uint32_t other, const uint32_t *rows, uint64_t count) {
     for (const uint32_t *row = rows; row < rows + 6 * count; row += 6)
-        if (row[0] >= kind && row[0] <= last) return row;
+        if (row[0] == kind || row[0] == other) return row;
     return NULL;
 }
 
@@ -54,16 +54,15 @@ int main(int argc, char **argv) {
     if (number != 0) return refused("table", number, place);
     printf("table: %" PRIu64 " rows in %" PRIu64 " bytes\n", count, place);
 
-    /* A row is a trace, an entry, a TLB or a monitoring record only where its kind says so; a file may have none of them. */
+    /* A row is a trace, an entry or a TLB record only where its kind says so; a file may have none of them. */
     const uint32_t *trace = first_of(TRACE, TRACE, rows, count);
     const uint32_t *entry = first_of(PHONON, CHARGE, rows, count);
     const uint32_t *tlb = first_of(TLB, TLB, rows, count);
-    const uint32_t *rates = first_of(THRESHOLDS, VETO_RATES, rows, count);
 
     if (trace) {
-        /* Record: the fields of the record at a place, here outside a monitoring event: 0. */
+        /* Record: the fields of the record at a place. */
         int64_t values[12];
-        number = dwj_record(file, length, trace[1], 0, values, &refused_at);
+        number = dwj_record(file, length, trace[1], values, &refused_at);
         if (number != 0) return refused("record", number, refused_at);
         uint32_t code = (uint32_t)values[3], last = (uint32_t)values[6];
         printf("record: code %" PRIu32 ", t0 %" PRId64 " ns, %" PRIu32 " samples\n", code, values[4], last);
@@ -111,18 +110,8 @@ int main(int argc, char **argv) {
     for (uint32_t zip = 1; tlb && zip <= 24; zip++)
         if (dwj_zip(tlb[4], zip)) printf("zip: %" PRIu32 " of the first tower\n", zip);
 
-    if (rates) {
-        /* Record in a monitoring event, told by a number that isn't 0: numbers, then where each list starts, codes first; a word has four bytes. */
-        int64_t values[12];
-        number = dwj_record(file, length, rates[1], 1, values, &refused_at);
-        if (number != 0) return refused("monitoring", number, refused_at);
-        int64_t codes = values[values[0] == THRESHOLDS ? 5 : 3];
-        printf("monitoring: kind %" PRId64 ", %s %" PRIu32 ", ", values[0], values[0] == VETO_RATES ? "entries" : "tower", rates[4]);
-        printf("codes from byte %" PRId64 " on\n", codes);
-    }
-
     /* Walker: a row at a time; kind 0 is the end. */
-    uint64_t walker[7], events = 0;
+    uint64_t walker[6], events = 0;
     uint32_t row[6];
     number = dwj_open(file, length, walker, row, &refused_at);
     while (number == 0 && row[0] != 0) {

@@ -7,13 +7,13 @@ use std::process::ExitCode;
 #[rustfmt::skip]
 extern "C" {
     fn dwj_table(file: *const u8, length: usize, rows: *mut u32, rows_length: usize, count: &mut u64, place: &mut u64) -> u32;
-    fn dwj_record(file: *const u8, length: usize, place: usize, monitoring: u32, values: &mut [i64; 12], refused_at: &mut u64) -> u32;
+    fn dwj_record(file: *const u8, length: usize, place: usize, values: &mut [i64; 12], refused_at: &mut u64) -> u32;
     fn dwj_setting(file: *const u8, length: usize, place: usize, setting: &mut [i64; 8], units: &mut [f64; 4], refused_at: &mut u64) -> u32;
     fn dwj_samples(file: *const u8, length: usize, place: usize, offset: &mut u64, size: &mut u64);
     fn dwj_sample(file: *const u8, length: usize, place: usize, number: usize, value: &mut u32, refused_at: &mut u64) -> u32;
     fn dwj_find(file: *const u8, length: usize, number: u32, code: u32, place: &mut u64, refused_at: &mut u64) -> u32;
-    fn dwj_open(file: *const u8, length: usize, walker: &mut [u64; 7], row: &mut [u32; 6], refused_at: &mut u64) -> u32;
-    fn dwj_next(file: *const u8, length: usize, walker: &mut [u64; 7], row: &mut [u32; 6], refused_at: &mut u64) -> u32;
+    fn dwj_open(file: *const u8, length: usize, walker: &mut [u64; 6], row: &mut [u32; 6], refused_at: &mut u64) -> u32;
+    fn dwj_next(file: *const u8, length: usize, walker: &mut [u64; 6], row: &mut [u32; 6], refused_at: &mut u64) -> u32;
     fn dwj_visit(file: *const u8, length: usize, first: usize, rows: *mut u32, rows_length: usize, count: &mut u64, place: &mut u64) -> u32;
     fn dwj_channel(code: u32, numbers: &mut [u32; 4], analysis: &mut [u8; 4], cold: &mut [u8; 4]) -> u32;
     fn dwj_code(kind: u32, number: u32, name: *const u8, name_length: usize, code: &mut u32) -> u32;
@@ -26,8 +26,6 @@ const CHARGE: u32 = 4;
 const EVENT: u32 = 5;
 const TRACE: u32 = 7;
 const TLB: u32 = 11;
-const THRESHOLDS: u32 = 12;
-const VETO_RATES: u32 = 14;
 /// Rows that the visitor is lent room for. Each of its calls checks the file, so that many small pieces take long.
 const PIECE: usize = 8192;
 
@@ -65,12 +63,12 @@ fn read(bytes: &[u8]) -> Result<(), Refusal> {
     rows.truncate(count as usize);
     println!("table: {count} rows in {place} bytes");
 
-    // A row is a trace, an entry, a TLB or a monitoring record only where its kind says so; a file may have none of them.
+    // A row is a trace, an entry or a TLB record only where its kind says so; a file may have none of them.
     if let Some(trace) = rows.iter().find(|row| row[0] == TRACE) {
-        // Record: the fields of the record at a place, here outside a monitoring event: 0.
+        // Record: the fields of the record at a place.
         let at = trace[1] as usize;
         let mut values = [0; 12];
-        let number = unsafe { dwj_record(file, length, at, 0, &mut values, &mut refused_at) };
+        let number = unsafe { dwj_record(file, length, at, &mut values, &mut refused_at) };
         accepted("record", number, refused_at)?;
         let (code, last) = (values[3] as u32, values[6] as usize);
         println!("record: code {code}, t0 {} ns, {last} samples", values[4]);
@@ -120,18 +118,8 @@ fn read(bytes: &[u8]) -> Result<(), Refusal> {
         }
     }
 
-    if let Some(rates) = rows.iter().find(|row| (THRESHOLDS..=VETO_RATES).contains(&row[0])) {
-        // Record in a monitoring event, told by a number that isn't 0: numbers, then where each list starts, codes first; a word has four bytes.
-        let mut values = [0; 12];
-        let number = unsafe { dwj_record(file, length, rates[1] as usize, 1, &mut values, &mut refused_at) };
-        accepted("monitoring", number, refused_at)?;
-        let codes = values[if rates[0] == THRESHOLDS { 5 } else { 3 }];
-        let what = if rates[0] == VETO_RATES { "entries" } else { "tower" };
-        println!("monitoring: kind {}, {what} {}, codes from byte {codes} on", values[0], rates[4]);
-    }
-
     // Walker: a row at a time; kind 0 is the end.
-    let (mut walker, mut row, mut events) = ([0; 7], [0; 6], 0);
+    let (mut walker, mut row, mut events) = ([0; 6], [0; 6], 0);
     let mut number = unsafe { dwj_open(file, length, &mut walker, &mut row, &mut refused_at) };
     while number == 0 && row[0] != 0 {
         events += u64::from(row[0] == EVENT);

@@ -27,11 +27,6 @@ static int refused(const char *call, uint32_t number, uint64_t place) {
     return 1;
 }
 
-/* Words as they stand in a file, the lowest byte first. */
-static void put_words(uint8_t *bytes, const uint32_t *words, size_t count) {
-    for (size_t i = 0; i < 4 * count; i++) bytes[i] = (uint8_t)(words[i / 4] >> 8 * (i % 4));
-}
-
 /* A file in an output of so many bytes: 0, and *end is its length; or the first refusal, after which nothing more is written. Each call gives the
  * place behind what it wrote. A container is closed over eight free bytes and what was written behind them. */
 static uint32_t assembled(uint8_t *out, size_t room, uint64_t *end, uint64_t *refused_at) {
@@ -46,7 +41,7 @@ static uint32_t assembled(uint8_t *out, size_t room, uint64_t *end, uint64_t *re
     if (!number) number = dwj_write_charge(out, room, at, charge, &at, refused_at);
     if (!number) number = dwj_close_configuration(out, room, start, at, &at, refused_at);
 
-    /* An event of its six record kinds, administrative first; lent bytes stand as in a file. */
+    /* An event of all six record kinds, administrative first; lent bytes stand as in a file. */
     const uint32_t administrative[6] = {1100115, 1630, 7, 1263573000, 0, 0};
     const uint8_t samples[8] = {0xD0, 0x07, 0xD1, 0x07, 0xD3, 0x07, 0xD0, 0x07};
     const uint8_t time[4] = {0x88, 0xFF, 0xFF, 0xFF}, mask[4] = {0x01, 0x00, 0x00, 0x00};
@@ -60,20 +55,6 @@ static uint32_t assembled(uint8_t *out, size_t room, uint64_t *end, uint64_t *re
     if (!number) number = dwj_write_trigger(out, room, at, trigger, &at, refused_at);
     if (!number) number = dwj_write_tlb(out, room, at, tlb, &at, refused_at);
     if (!number) number = dwj_close_event(out, room, start, at, 0, 0, 0, &at, refused_at);
-
-    /* A monitoring event, which is of type 7: thresholds and trigger rates of a tower's six detectors, rates of two vetoes. */
-    const uint32_t zips[6] = {401, 402, 403, 404, 405, 406}, phonons_and_lines[9] = {1001, 1002, 1003, 1004, 2001, 2002, 2003, 2004, 2005};
-    const uint32_t line_numbers[5] = {1, 2, 3, 4, 5}, vetoes[2] = {300, 301};
-    uint8_t codes[24], operations[36], lines[20], veto_codes[8], values[216] = {0}, counters[120] = {0};
-    put_words(codes, zips, 6);
-    put_words(operations, phonons_and_lines, 9);
-    put_words(lines, line_numbers, 5);
-    put_words(veto_codes, vetoes, 2);
-    start = at;
-    if (!number) number = dwj_write_thresholds(out, room, start + 8, 0, 5, 0x3FFF, 1, codes, 24, operations, 36, values, 216, &at, refused_at);
-    if (!number) number = dwj_write_trigger_rates(out, room, at, 1000000, 1, codes, 24, lines, 20, counters, 120, &at, refused_at);
-    if (!number) number = dwj_write_veto_rates(out, room, at, 1000000, 2, veto_codes, 8, counters, 8, &at, refused_at);
-    if (!number) number = dwj_close_event(out, room, start, at, 0, 0, 7, &at, refused_at);
     *end = at;
     return number;
 }

@@ -20,13 +20,6 @@ extern "C" {
     fn dwj_write_gps(out: *mut u8, length: usize, place: usize, fields: &[u32; 7], next: &mut u64, refused_at: &mut u64) -> u32;
     fn dwj_write_trigger(out: *mut u8, length: usize, place: usize, fields: &[u32; 6], next: &mut u64, refused_at: &mut u64) -> u32;
     fn dwj_write_tlb(out: *mut u8, length: usize, place: usize, fields: &[u32; 6], next: &mut u64, refused_at: &mut u64) -> u32;
-    fn dwj_write_thresholds(out: *mut u8, length: usize, place: usize, minimum: u32, maximum: u32, range: u32, tower: u32,
-        codes: *const u8, codes_length: usize, operations: *const u8, operations_length: usize, values: *const u8, values_length: usize,
-        next: &mut u64, refused_at: &mut u64) -> u32;
-    fn dwj_write_trigger_rates(out: *mut u8, length: usize, place: usize, interval: u32, tower: u32, codes: *const u8, codes_length: usize,
-        lines: *const u8, lines_length: usize, counters: *const u8, counters_length: usize, next: &mut u64, refused_at: &mut u64) -> u32;
-    fn dwj_write_veto_rates(out: *mut u8, length: usize, place: usize, interval: u32, entries: u32, codes: *const u8, codes_length: usize,
-        counters: *const u8, counters_length: usize, next: &mut u64, refused_at: &mut u64) -> u32;
     fn dwj_close_configuration(out: *mut u8, length: usize, place: usize, end: usize, next: &mut u64, refused_at: &mut u64) -> u32;
     fn dwj_close_event(out: *mut u8, length: usize, place: usize, end: usize, class: u32, category: u32, kind: u32, next: &mut u64, refused_at: &mut u64) -> u32;
     fn dwj_rewrite(file: *const u8, file_length: usize, out: *mut u8, length: usize, next: &mut u64, refused_at: &mut u64) -> u32;
@@ -45,11 +38,6 @@ fn told(name: &'static str, call: impl FnOnce(&mut u64, &mut u64) -> u32) -> Res
     }
 }
 
-// Words as they stand in a file, the lowest byte first.
-fn bytes_of(words: &[u32]) -> Vec<u8> {
-    words.iter().flat_map(|word| word.to_le_bytes()).collect()
-}
-
 // A file in an output: its length, or the first refusal, after which nothing more is written. A container is closed over eight free
 // bytes and what was written behind them.
 #[rustfmt::skip]
@@ -64,7 +52,7 @@ fn assembled(output: &mut [u8]) -> Result<usize, Refusal> {
     let at = told(call, |next, refused| unsafe { dwj_write_charge(out, room, at, &charge, next, refused) })?;
     let start = told(call, |next, refused| unsafe { dwj_close_configuration(out, room, start, at, next, refused) })?;
 
-    // An event of its six record kinds, administrative first; lent bytes stand as in a file.
+    // An event of all six record kinds, administrative first; lent bytes stand as in a file.
     let administrative = [1_100_115, 1_630, 7, 1_263_573_000, 0, 0];
     let (samples, time, mask) = ([0xD0, 0x07, 0xD1, 0x07, 0xD3, 0x07, 0xD0, 0x07], [0x88, 0xFF, 0xFF, 0xFF], [0x01, 0x00, 0x00, 0x00]);
     let (samples, time, mask) = (samples.as_ptr(), time.as_ptr(), mask.as_ptr());
@@ -76,22 +64,7 @@ fn assembled(output: &mut [u8]) -> Result<usize, Refusal> {
     let at = told(call, |next, refused| unsafe { dwj_write_gps(out, room, at, &gps, next, refused) })?;
     let at = told(call, |next, refused| unsafe { dwj_write_trigger(out, room, at, &trigger, next, refused) })?;
     let at = told(call, |next, refused| unsafe { dwj_write_tlb(out, room, at, &tlb, next, refused) })?;
-    let start = told(call, |next, refused| unsafe { dwj_close_event(out, room, start, at, 0, 0, 0, next, refused) })?;
-
-    // A monitoring event, which is of type 7: thresholds and trigger rates of a tower's six detectors, rates of two vetoes.
-    let (codes, lines) = (bytes_of(&[401, 402, 403, 404, 405, 406]), bytes_of(&[1, 2, 3, 4, 5]));
-    let operations = bytes_of(&[1001, 1002, 1003, 1004, 2001, 2002, 2003, 2004, 2005]);
-    let (veto_codes, values, counters) = (bytes_of(&[300, 301]), [0; 216], [0; 120]);
-    let (codes, lines, operations, veto_codes) = (codes.as_ptr(), lines.as_ptr(), operations.as_ptr(), veto_codes.as_ptr());
-    let (values, counters) = (values.as_ptr(), counters.as_ptr());
-    let at = told(call, |next, refused| unsafe {
-        dwj_write_thresholds(out, room, start + 8, 0, 5, 0x3FFF, 1, codes, 24, operations, 36, values, 216, next, refused)
-    })?;
-    let at = told(call, |next, refused| unsafe {
-        dwj_write_trigger_rates(out, room, at, 1_000_000, 1, codes, 24, lines, 20, counters, 120, next, refused)
-    })?;
-    let at = told(call, |next, refused| unsafe { dwj_write_veto_rates(out, room, at, 1_000_000, 2, veto_codes, 8, counters, 8, next, refused) })?;
-    told(call, |next, refused| unsafe { dwj_close_event(out, room, start, at, 0, 0, 7, next, refused) })
+    told(call, |next, refused| unsafe { dwj_close_event(out, room, start, at, 0, 0, 0, next, refused) })
 }
 
 fn main() -> ExitCode {

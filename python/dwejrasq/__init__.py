@@ -11,8 +11,7 @@ from ._native import VERSION as __version__
 from .channels import Channel, channel, channels, code, zips
 from .faults import Absent, Changed, Refused
 from .files import File, open, read
-from .records import Administrative, Event, Events, Gps, Header, History, Record, Row, Setting, Thresholds, Tlb, Trace, Trigger
-from .records import TriggerRates, VetoRates
+from .records import Administrative, Event, Events, Gps, Header, History, Record, Row, Setting, Tlb, Trace, Trigger
 from .runs import Run, check, run
 from .writing import Writer, rewrite
 
@@ -32,12 +31,9 @@ __all__ = [
     "Row",
     "Run",
     "Setting",
-    "Thresholds",
     "Tlb",
     "Trace",
     "Trigger",
-    "TriggerRates",
-    "VetoRates",
     "Writer",
     "__version__",
     "channel",

@@ -312,14 +312,11 @@ def ls(file: str, as_json: bool, as_rows: bool) -> None:
 @FILE
 @click.argument("place")
 @click.option("--json", "as_json", is_flag=True, help="As a JSON object.")
-@click.option("--csv", "as_csv", is_flag=True, help="Of thresholds and rates, their table: as lines with commas.")
-def show(file: str, place: str, as_json: bool, as_csv: bool) -> None:
+def show(file: str, place: str, as_json: bool) -> None:
     """Show the structure that the byte at PLACE belongs to: its fields, and its bytes in hex.
 
     PLACE is a byte's number, from 0, or hexadecimal behind 0x. In a refused file the refusal is shown, and then the bytes at PLACE.
     """
-    if as_json and as_csv:
-        raise click.UsageError("either --json or --csv")
     at = place_of(place)
     name, data = loaded(file)
     try:
@@ -327,18 +324,13 @@ def show(file: str, place: str, as_json: bool, as_csv: bool) -> None:
     except faults.Refused as refusal:
         if as_json:
             click.echo(json.dumps(listing.refusal(name, refusal), indent=1))
-        elif not as_csv:
+        else:
             structure = faults.structure_at(data, at) if at < len(data) else "past the end"
             click.echo(f"byte {at}: {structure or 'no word that names a structure'}")
             said(faults.hexadecimal(data, at))
         refused(runs.answered(data, name))
-    row = found.at_row(found.row_at(at))
     if as_json:
-        click.echo(json.dumps(listing.fields_of(row), indent=1))
-    elif as_csv:
-        if not isinstance(row, (records.Thresholds, records.TriggerRates, records.VetoRates)):
-            raise faults.Absent(f"the {row.label} at byte {row.place} is no table: thresholds and rates are, in monitoring events")
-        tabulated(*listing.table_of(row), True)
+        click.echo(json.dumps(listing.fields_of(found.at_row(found.row_at(at))), indent=1))
     else:
         said(listing.shown(found, at))
 
@@ -432,8 +424,10 @@ def tabulated(titles: list[str], lines: list[list[str]], as_csv: bool) -> None:
         csv.writer(text, lineterminator="\n").writerows([titles, *lines])
         click.echo(text.getvalue(), nl=False)
         return
-    for index, line in enumerate(listing.columned(titles, lines)):
-        click.echo(click.style(line, bold=True) if index == 0 else line)
+    widths = [max(map(len, column)) for column in zip(titles, *lines)]
+    for index, line in enumerate([titles, *lines]):
+        text_line = "  ".join(word.ljust(width) for word, width in zip(line, widths)).rstrip()
+        click.echo(click.style(text_line, bold=True) if index == 0 else text_line)
 
 
 @dwj.command("channels", short_help="The channel list: types, analysis and cold names, sides.")
@@ -487,7 +481,7 @@ def plot(file: str, event: str, out: Optional[str]) -> None:
     figure, drawn, there = pictures.event_figure(found)
     with output(out, file) as stream:
         pictures.saved(figure, stream, kind)
-    made(out, f"{found.title}, {listing.several(drawn, 'trace')}{f' of {there:,}, the others are left out' if drawn < there else ''}")
+    made(out, f"event {found.number}, {listing.several(drawn, 'trace')}{f' of {there:,}, the others are left out' if drawn < there else ''}")
 
 
 @dwj.command(short_help="Make a page of a file, for a browser.")

@@ -27,8 +27,7 @@ class Reopened:
     event: bool
     """Whether it is an event, or the configuration."""
     own: bool
-    """Whether its own first word, with an event's class, category and type, is admitted; else they say nothing (they are 0, or for the records of a
-    monitoring event the type alone is its own)."""
+    """Whether its own first word, with an event's class, category and type, is admitted; else they are 0, and say nothing."""
 
 
 def refusal_of(data: memoryview) -> Optional[Refused]:
@@ -78,9 +77,7 @@ def reopened(data: memoryview) -> Optional[Reopened]:
     if structure_at(data, start) != labels.KINDS[library.DWJ_EVENT]:
         return None
     word = int.from_bytes(data[start : start + 2], "little")
-    # Where they aren't admitted, the type alone still tells what sort of records it holds.
-    type = labels.MONITORING if word & 255 == labels.MONITORING else 0
-    for own, words in ((True, (word >> 12, word >> 8 & 15, word & 255)), (False, (0, 0, type))):
+    for own, words in ((True, (word >> 12, word >> 8 & 15, word & 255)), (False, (0, 0, 0))):
         file = _closed(data, start, end, library.dwj_close_event, *words)
         if file:
             return Reopened(file, start, len(file), True, own)

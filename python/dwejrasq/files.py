@@ -3,7 +3,6 @@
 from __future__ import annotations
 
 import errno
-import math
 import mmap
 import operator
 import os
@@ -20,8 +19,7 @@ from . import records
 from ._native import Bytes, ffi, guard, lent, library, places, pointer
 from .channels import code as code_of
 from .faults import Absent, Changed, Refused, structure_at
-from .labels import ADMINISTRATIVE, CHARGE, CONFIGURATION, EVENT, GPS, HEADER, MONITORING, PHONON, THRESHOLDS, TLB, TRACE, TRIGGER
-from .labels import TRIGGER_RATES, VETO_RATES
+from .labels import ADMINISTRATIVE, CHARGE, CONFIGURATION, EVENT, GPS, HEADER, PHONON, TLB, TRACE, TRIGGER
 
 if TYPE_CHECKING:
     import pandas
@@ -204,7 +202,6 @@ class File:
     def find(self, event: int, code: int) -> Optional[records.Trace]:
         """Find: of the traces with a code in events with a number, the one that stands first in the file; None where there is none.
 
-        Monitoring events have neither, and are passed over.
         Each call checks the whole file, which takes a long one some milliseconds; ``Event.trace`` looks at one event.
         """
         place, refused_at = places()
@@ -233,8 +230,6 @@ class File:
         else:
             found = self.find(event, code)
         if found is None:
-            if isinstance(event, records.Event) and event.monitoring:
-                raise Absent(f"a monitoring event has no traces, so none of {name} of detector {number} of type {type}")
             asked = event.number if isinstance(event, records.Event) else event
             raise Absent(f"no event with the number {asked} has a trace of {name} of detector {number} of type {type}")
         return found
@@ -297,15 +292,9 @@ class File:
         code, tower, bias, rtf_offset, delta_t, t0, length = list(whole)[1:]
         return records.Setting(self, index, code, tower, units[0], rtf_offset, delta_t, t0, length, bias=bias)
 
-    def _monitored(self, index: int) -> bool:
-        """Whether a record's event is a monitoring event: so its row says, which is the parent."""
-        parent = int(self.rows["parent"][index]) - 1
-        return int(self.rows["one"][parent]) & 255 == MONITORING
-
     def _record(self, index: int) -> records.Record:
         values, refused_at = ffi.new("int64_t[12]"), ffi.new("uint64_t *")
-        place, monitoring = int(self.rows["start"][index]), self._monitored(index)
-        number = library.dwj_record(self._bytes(), self._length, place, monitoring, values, refused_at)
+        number = library.dwj_record(self._bytes(), self._length, int(self.rows["start"][index]), values, refused_at)
         self._unchanged()
         if number != 0:
             raise Refused(number, refused_at[0])
@@ -320,24 +309,10 @@ class File:
             return records.Trigger(self, index, tuple(fields[:6]))
         if kind == TLB:
             return records.Tlb(self, index, tuple(fields[:6]))
-        if kind == THRESHOLDS:
-            minimum, maximum, most, tower, codes, operations, numbers = fields[:7]
-            table = self._words(numbers, 6, 9)
-            return records.Thresholds(self, index, minimum, maximum, most, tower, self._words(codes, 6), self._words(operations, 9), table)
-        if kind == TRIGGER_RATES:
-            interval, tower, codes, lines, counters = fields[:5]
-            return records.TriggerRates(self, index, interval, tower, self._words(codes, 6), self._words(lines, 5), self._words(counters, 6, 5))
-        if kind == VETO_RATES:
-            interval, entries, codes, counters = fields[:4]
-            return records.VetoRates(self, index, interval, self._words(codes, entries), self._words(counters, entries))
         views = []
         for count, times, width, masks in (fields[:4], fields[4:8]):
-            views += [self._view(np.dtype("<i4"), times, count), self._words(masks, count, width)]
+            views += [self._view(np.dtype("<i4"), times, count), self._view(np.dtype("<u4"), masks, count * width).reshape(count, width)]
         return records.History(self, index, *views)
-
-    def _words(self, place: int, *shape: int) -> records.Words:
-        """A list of words that begins at a place, as a view."""
-        return self._view(np.dtype("<u4"), place, math.prod(shape)).reshape(shape)
 
 
 def open(path: Path, *, copy: bool = False) -> File:

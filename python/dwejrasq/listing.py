@@ -44,10 +44,6 @@ def titled(channel: Channel) -> str:
     return f"{channel} (class {channel.izip_class})" if channel.izip_class else str(channel)
 
 
-# So many veto panels are named in a line.
-PANELS = 3
-
-
 def described(row: records.Row) -> str:
     """What a structure holds, in a line."""
     if isinstance(row, records.Header):
@@ -64,7 +60,7 @@ def described(row: records.Row) -> str:
             labels.of(labels.CATEGORIES, row.category),
             labels.of(labels.EVENT_TYPES, row.type),
         )
-        return ", ".join((moment(row.time), *words) if row.time else words)
+        return f"{moment(row.time)}, {', '.join(words)}"
     if isinstance(row, records.Administrative):
         return f"number {row.number}, {moment(row.time)}, series {row.series} ({row.site}), {row.since} ms since the last, {row.live} ms live"
     if isinstance(row, records.Trace):
@@ -80,13 +76,6 @@ def described(row: records.Row) -> str:
     if isinstance(row, records.Tlb):
         found = [f"tower {tower} ZIP {' '.join(map(str, zips))}" for tower, zips in row.zips.items() if zips]
         return ", ".join(found) or "no ZIP"
-    if isinstance(row, records.Thresholds):
-        return f"tower {row.tower}, {' '.join(row.detectors)}, {row.values.size} values, {row.minimum:,} to {row.maximum:,} V, range {row.range:,}"
-    if isinstance(row, records.TriggerRates):
-        return f"tower {row.tower}, {' '.join(row.detectors)}, {row.counters.size} counters, {several(row.interval, 'µs', 'µs')}"
-    if isinstance(row, records.VetoRates):
-        shown = " ".join(map(labels.monitored, row.codes[:PANELS].tolist())) + (" .." if row.entries > PANELS else "")
-        return f"{several(row.entries, 'panel')}{f' ({shown})' if row.entries else ''}, {several(row.interval, 'µs', 'µs')}"
     if row.kind == labels.CONFIGURATION:
         return several(int(row.file.rows["one"][row.index]), "entry", "entries")
     # A kind that has no line of its own here: its fields, by name.
@@ -104,7 +93,7 @@ def tree(file: File) -> Iterator[str]:
         inside = parents[index] != 0
         ends = index + 1 == len(file.rows) or (parents[index + 1] == 0 if inside else index == last[0])
         within = "" if not inside else ("   " if int(parents[index]) - 1 == last[0] else "│  ")
-        label = row.title if isinstance(row, records.Event) else row.label
+        label = f"event {row.number}" if isinstance(row, records.Event) else row.label
         styled = click.style(label, fg="cyan" if isinstance(row, records.Trace) else "green" if not inside else None)
         yield f"{within}{'└─' if ends else '├─'} {styled} at {row.place}: {described(row)}"
 
@@ -124,9 +113,7 @@ def fields_of(row: records.Row) -> dict[str, Any]:
     if row.kind == labels.CONFIGURATION:
         found["entries"] = int(row.file.rows["one"][row.index])
     if isinstance(row, records.Event):
-        time = row.time.isoformat() if row.time else None
-        found |= {"number": row.number, "time": time, "class": row.event_class, "category": row.category, "type": row.type}
-        found["monitoring"] = row.monitoring
+        found |= {"number": row.number, "time": row.time.isoformat(), "class": row.event_class, "category": row.category, "type": row.type}
     if isinstance(row, (records.Setting, records.Trace)):
         channel = row.channel
         found["channel"] = {
@@ -142,8 +129,6 @@ def fields_of(row: records.Row) -> dict[str, Any]:
         found |= {"series": row.series, "site": row.site, "time": row.time.isoformat()}
     if isinstance(row, records.Tlb):
         found["zips"] = row.zips
-    if isinstance(row, (records.Thresholds, records.TriggerRates, records.VetoRates)):
-        found |= {"detectors": row.detectors, "columns": row.columns}
     found |= {f.name: plain(getattr(row, f.name)) for f in fields(row) if f.name not in ("file", "index") and getattr(row, f.name) is not None}
     return found
 
@@ -178,31 +163,12 @@ def lines(file: File) -> Iterator[str]:
 
 # Units of fields, behind their names.
 UNITS = {"t0": ", ns", "delta_t": ", ns", "tenths": " of a µs", "since": ", ms", "live": ", ms", "veto_times": ", µs", "trigger_times": ", µs"}
-UNITS |= {"interval": ", µs", "minimum": ", V", "maximum": ", V"}
-
-
-def table_of(row: records.Monitored) -> tuple[list[str], list[list[str]]]:
-    """The table of a monitoring record: titles, and a line for each detector with its code, its name and its numbers."""
-    numbers = row.values if isinstance(row, records.Thresholds) else row.counters
-    lines = zip(row.codes.tolist(), row.detectors, numbers.reshape(len(row.codes), len(row.columns)).tolist())
-    return ["code", "detector", *row.columns], [[str(code), name, *map(str, own)] for code, name, own in lines]
-
-
-def columned(titles: list[str], lines: list[list[str]]) -> Iterator[str]:
-    """A table for people: its columns under each other."""
-    widths = [max(map(len, column)) for column in zip(titles, *lines)]
-    for line in [titles, *lines]:
-        yield "  ".join(word.ljust(width) for word, width in zip(line, widths)).rstrip()
-
-
-# So many lines of a table are shown with a structure.
-LINES = 100
 
 
 def shown(file: File, place: int) -> Iterator[str]:
     """The structure that a byte belongs to: its fields, and its bytes."""
     row = file.at_row(file.row_at(place))
-    label = row.title if isinstance(row, records.Event) else row.label
+    label = f"event {row.number}" if isinstance(row, records.Event) else row.label
     if row.place != place:
         yield f"byte {place} is inside:"
     yield click.style(f"{label} at {row.place}", bold=True) + f", {row.length:,} bytes, row {row.index + 1}"
@@ -218,19 +184,11 @@ def shown(file: File, place: int) -> Iterator[str]:
             "category": f"{row.category} ({labels.of(labels.CATEGORIES, row.category)})",
             "type": f"{row.type} ({labels.of(labels.EVENT_TYPES, row.type)})",
         }
-        found = {name: value for name, value in found.items() if value is not None and name != "monitoring"}
     if isinstance(row, records.Tlb):
         found["zips"] = described(row)
         found["words"] = " ".join(f"{word:08x}" for word in row.words)
     if isinstance(row, records.Trigger):
         found["masks"] = " ".join(f"{mask:08x}" for mask in row.masks)
-    table: list[str] = []
-    if isinstance(row, (records.Thresholds, records.TriggerRates, records.VetoRates)):
-        found = {name: value for name, value in found.items() if isinstance(value, int)}
-        titles, lines = table_of(row)
-        table = [f"  {line}" for line in columned(titles, lines[:LINES])]
-        if len(lines) > LINES:
-            table.append(f"  and {len(lines) - LINES:,} more (--csv has all)")
     for name, value in found.items():
         title = name.replace("_", " ") + UNITS.get(name, "")
         yield f"  {title:<16}{number(value) if isinstance(value, float) else value}"
@@ -238,5 +196,4 @@ def shown(file: File, place: int) -> Iterator[str]:
         samples = row.samples
         yield f"  {'samples':<16}{' '.join(map(str, samples[:12]))}{' ..' if len(samples) > 12 else ''}"
         yield f"  {'least, most':<16}{samples.min()}, {samples.max()}"
-    yield from table
     yield from hexadecimal(file.data, row.place)

@@ -21,8 +21,8 @@ from ._native import VERSION, library
 from .damaged import Reopened, before_fault, refusal_of, reopened
 from .faults import Refused, hexadecimal, structure_at
 from .files import File, read
-from .listing import described, spelled, table_of
-from .records import Administrative, Event, Gps, History, Samples, Setting, Thresholds, Tlb, Trace, Trigger, TriggerRates, VetoRates
+from .listing import described, spelled
+from .records import Administrative, Event, Gps, History, Samples, Setting, Tlb, Trace, Trigger
 
 # What a page holds at most; what is left out is counted on it.
 COLUMNS = 300
@@ -41,10 +41,6 @@ TIMES = 60
 """Veto times, and trigger times, of an event."""
 WORDS = 8
 """Mask words of a veto or trigger time."""
-TABLES = 100
-"""Records of a monitoring event."""
-LINES = 400
-"""Detectors of such a record."""
 SEGMENTS = 1_000
 """Segments of the strip."""
 
@@ -200,15 +196,13 @@ def _summary(contents: Contents) -> list[str]:
     events = file.events
     damaged = ", and a damaged one" if contents.damaged_event else ""
     facts.append(_fact("Events before the fault" if contents.refusal else "Events", f"{contents.whole:,}{damaged}"))
-    seconds = file.rows["two"][file.rows["kind"] == library.DWJ_ADMINISTRATIVE]
-    # Monitoring events have neither series nor time.
-    if len(seconds) == 0:
+    if len(events) == 0:
         return facts
     looked = events[:CARDS]
-    told = (event.administrative for event in looked)
-    series = dict.fromkeys((one.series, one.site) for one in told if one is not None)
+    series = dict.fromkeys((event.administrative.series, event.administrative.site) for event in looked)
     more = f" and {len(series) - 3:,} more" if len(series) > 3 else ""
     of = f" (of the first {len(looked):,} events)" if len(looked) < len(events) else ""
+    seconds = file.rows["two"][file.rows["kind"] == library.DWJ_ADMINISTRATIVE]
     first, last = int(seconds.min()), int(seconds.max())
     return facts + [
         _fact("Series", _text(", ".join(list(dict.fromkeys(one for one, _ in series))[:3]) + more + of)),
@@ -256,7 +250,7 @@ def _segments(contents: Contents, file: File, on_page: int) -> Iterable[str]:
             colour, words = _type(contents, int(rows["one"][index]), at == len(file.events) - 1)
             others = " and others" if start + own < stop else ""
             to = f"event-{at + 1}" if at < on_page or (contents.damaged_event and at == contents.whole) else ""
-            yield _segment(contents, start, stop, colour, f"{Event(file, index).title}, {words}{others}", to)
+            yield _segment(contents, start, stop, colour, f"event {rows['one'][index + 1]}, {words}{others}", to)
         elif kind == library.DWJ_HEADER:
             yield _segment(contents, start, stop, "type-header", labels.KINDS[kind])
         elif not contents.unconfigured:
@@ -449,17 +443,10 @@ def _lines(contents: Contents, listed: range, left: int) -> str:
     numbers, seconds, words, counts, places = (
         column.tolist() for column in (rows["one"][at + 1], rows["two"][at + 1], rows["one"][at], rows["two"][at], rows["start"][at])
     )
-
-    def own(index: int, number: int, second: int, word: int) -> str:
-        """What stands first in a line: number and time, which a monitoring event doesn't have."""
-        if word & 255 == labels.MONITORING:
-            return f'<tr id="event-{index + 1}"><td></td><td class=word></td>'
-        return f'<tr id="event-{index + 1}" data-number="{number}"><td>{number}</td><td class=word>{_time(second)}</td>'
-
     head = "<th>Event</th><th class=word>Time</th><th class=word>Type</th><th>Records</th><th>Byte</th>"
     lines = "".join(
-        f"{own(index, number, second, word)}<td class=word>{labels.of(labels.EVENT_TYPES, word & 255)}</td>"
-        f"<td>{count:,}</td><td>{place:,}</td></tr>\n"
+        f'<tr id="event-{index + 1}" data-number="{number}"><td>{number}</td><td class=word>{_time(second)}</td>'
+        f"<td class=word>{labels.of(labels.EVENT_TYPES, word & 255)}</td><td>{count:,}</td><td>{place:,}</td></tr>\n"
         for index, number, second, word, count, place in zip(listed, numbers, seconds, words, counts, places)
     )
     said = f"<p>{left:,} events more are in the file and not on this page.</p>" if left else ""
@@ -477,7 +464,7 @@ def _card(contents: Contents, event: Event, index: int, opened: bool = False) ->
     behind = event.index + 1 + int(file.rows["two"][event.index])
     kinds = file.rows["kind"][event.index + 1 : behind]
     traces = event.index + 1 + np.flatnonzero(kinds == library.DWJ_TRACE)
-    others = [file.at_row(event.index + 1 + int(at)) for at in np.flatnonzero(kinds != library.DWJ_TRACE)[:TABLES]]
+    others = [file.at_row(event.index + 1 + int(at)) for at in np.flatnonzero(kinds != library.DWJ_TRACE)]
     admitted = colour != "type-none"
     facts: list[str] = []
     if admitted:
@@ -489,19 +476,13 @@ def _card(contents: Contents, event: Event, index: int, opened: bool = False) ->
     else:
         facts += [_fact("Class, category, type", f"not admitted: 0x{int.from_bytes(contents.data[event.place : event.place + 2], 'little'):04X}")]
     administrative = event.administrative
-    if administrative is not None:
-        facts += [
-            _fact("Time", _text(f"{_time(administrative.seconds)} UTC")),
-            _fact("Series", _text(f"{administrative.series}, {administrative.site}")),
-            _fact("Since the event before", f"{administrative.since:,} ms, {administrative.live:,} ms live"),
-        ]
+    facts += [
+        _fact("Time", _text(f"{_time(administrative.seconds)} UTC")),
+        _fact("Series", _text(f"{administrative.series}, {administrative.site}")),
+        _fact("Since the event before", f"{administrative.since:,} ms, {administrative.live:,} ms live"),
+    ]
     for record in sorted(others, key=lambda record: bool(record.kind == library.DWJ_GPS), reverse=True):
         facts += _record(record)
-    if event.monitoring:
-        data, when, held, inside = "", "", _count(len(kinds), "record"), _tables(others, len(kinds))
-    else:
-        data, held, inside = f' data-number="{event.number}"', _count(len(traces), "trace"), _traces(file, traces)
-        when = f"<span>{_time(administrative.seconds)}</span>" if administrative else ""
     damaged = last and contents.refusal is not None
     note = ""
     if damaged and contents.refusal and contents.damaged:
@@ -512,16 +493,17 @@ def _card(contents: Contents, event: Event, index: int, opened: bool = False) ->
         note = f'<p class="note">This event is damaged at byte {place:,}.</p>\n<p>{what}</p>\n'
     state = " open" if opened or damaged else ""
     return (
-        f'<details class="event{" damaged" if damaged else ""}" id="event-{index + 1}"{data}{state}>\n'
-        f'<summary><strong>{_capital(event.title)}</strong><span class="type"><span class="dot {colour}"></span>{_text(type)}</span>'
-        f'{when}<span class="soft">{held}</span><span class="end">byte {event.place:,}</span></summary>\n'
-        f'<div class="inside">\n{note}{_facts(facts)}{inside}</div></details>\n'
+        f'<details class="event{" damaged" if damaged else ""}" id="event-{index + 1}" data-number="{event.number}"{state}>\n'
+        f'<summary><strong>Event {event.number}</strong><span class="type"><span class="dot {colour}"></span>{_text(type)}</span>'
+        f'<span>{_time(administrative.seconds)}</span><span class="soft">{_count(len(traces), "trace")}</span>'
+        f'<span class="end">byte {event.place:,}</span></summary>\n'
+        f'<div class="inside">\n{note}{_facts(facts)}{_traces(file, traces)}</div></details>\n'
     )
 
 
 def _record(record: Any) -> list[str]:
-    """The facts of a record; an administrative one's stand above, a trace is drawn, and a monitoring record is a table."""
-    if isinstance(record, (Administrative, Trace, Thresholds, TriggerRates, VetoRates)):
+    """The facts of a record; an administrative one's stand above, and a trace is drawn."""
+    if isinstance(record, (Administrative, Trace)):
         return []
     if isinstance(record, Gps):
         date = f"{record.time.date().isoformat()} " if record.time else ""
@@ -548,30 +530,6 @@ def _times(times: npt.NDArray[np.int32], masks: npt.NDArray[np.uint32]) -> str:
     items = "".join(f'<li>{_signed(time)} <span class="soft mono">{_hex(mask)}{cut}</span></li>' for time, mask in rows)
     left = len(times) - TIMES
     return f'<ul class="times">{items}{f"<li>and {left:,} more, left out</li>" if left > 0 else ""}</ul>'
-
-
-# Monitoring records.
-
-
-def _tables(records: Sequence[Any], there: int) -> str:
-    """The first records of a monitoring event, of so many, each as a table."""
-    told = [f"<p>The first {len(records):,} of {there:,} records; {there - len(records):,} are left out.</p>\n"] if there > len(records) else []
-    for record in records:
-        titles, lines = table_of(record)
-        caption = f"{_capital(record.label)} at byte {record.place:,}: {_about(record)}"
-        told.append(_table(caption, [_capital(title) for title in titles], lines[:LINES], 2))
-        if len(lines) > LINES:
-            told.append(f"<p>The first {LINES:,} of {len(lines):,} detectors; {len(lines) - LINES:,} are left out.</p>\n")
-    return "".join(told)
-
-
-def _about(record: Any) -> str:
-    """What stands in a monitoring record beside its table."""
-    if isinstance(record, Thresholds):
-        return f"tower {record.tower:,}, {record.minimum:,} to {record.maximum:,} V, range {record.range:,}"
-    if isinstance(record, TriggerRates):
-        return f"tower {record.tower:,}, counted for {record.interval:,} µs"
-    return f"{_count(record.entries, 'panel')}, counted for {record.interval:,} µs" if isinstance(record, VetoRates) else described(record)
 
 
 # Traces.

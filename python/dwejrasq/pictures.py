@@ -62,7 +62,7 @@ def trace_figure(trace: records.Trace) -> Figure:
     figure = Figure(figsize=(8, 3.2), layout="constrained")
     axes = figure.subplots()
     drawn(axes, [trace])
-    axes.set_title(f"{trace.event.title}, {titled(trace.channel)}", loc="left", fontsize=10)
+    axes.set_title(f"event {trace.event.number}, {titled(trace.channel)}", loc="left", fontsize=10)
     axes.set_xlabel("µs from the trigger")
     axes.set_ylabel("sample")
     return figure
@@ -83,7 +83,7 @@ def event_figure(event: records.Event) -> tuple[Figure, int, int]:
         channel = trace.channel
         panels.setdefault((channel.type, channel.number), {}).setdefault(channel.side, []).append(trace)
     if not panels:
-        raise Absent(f"{f'the monitoring event at byte {event.place}' if event.monitoring else event.title} has no traces")
+        raise Absent(f"event {event.number} has no traces")
     there = sum(len(traces) for sides in panels.values() for traces in sides.values())
     shown = dict(sorted(panels.items())[:DETECTORS])
     across, count = max(len(sides) for sides in shown.values()), 0
@@ -103,7 +103,7 @@ def event_figure(event: records.Event) -> tuple[Figure, int, int]:
         for panel in line[: len(sides)]:
             panel.set_xlabel("µs from the trigger", fontsize=8)
     part = f"; {count:,} of {there:,} traces" if count < there else ""
-    figure.suptitle(f"{event.title}, {described(event)}{part}", fontsize=10)
+    figure.suptitle(f"event {event.number}, {described(event)}{part}", fontsize=10)
     return figure, count, there
 
 

@@ -6,7 +6,7 @@ import operator
 from collections.abc import Iterator, Sequence
 from dataclasses import dataclass, field
 from datetime import datetime, timedelta, timezone
-from typing import TYPE_CHECKING, Any, ClassVar, Optional, Union, overload
+from typing import TYPE_CHECKING, ClassVar, Optional, Union, overload
 
 import numpy as np
 import numpy.typing as npt
@@ -19,7 +19,6 @@ if TYPE_CHECKING:
     from .files import File
 
 Samples = npt.NDArray[np.uint16]
-Words = npt.NDArray[np.uint32]
 
 
 @dataclass(frozen=True, eq=False)
@@ -234,94 +233,12 @@ class Tlb(Row):
         return {tower: zips(word) for tower, word in enumerate(self.words, 1)}
 
 
-@dataclass(frozen=True, eq=False)
-class Thresholds(Row):
-    """Trigger thresholds and phonon offsets of a tower's detectors, as they were read by an ADC. The lists are views of the file's own bytes."""
-
-    minimum: int
-    """The least voltage, V."""
-    maximum: int
-    """The largest voltage, V."""
-    range: int
-    """The ADC's largest value: 0x3fff has 14 bits."""
-    tower: int
-    codes: Words
-    """Six detectors' codes (FORMAT 5.7)."""
-    operations: Words
-    """The codes of the nine columns."""
-    values: Words
-    """A line for each detector, a column for each operation."""
-
-    @property
-    def detectors(self) -> list[str]:
-        """The detectors in words, as in ``ZIP3``."""
-        return [labels.monitored(code) for code in self.codes.tolist()]
-
-    @property
-    def columns(self) -> list[str]:
-        """The operations in words, as in ``phonon offset A``."""
-        return [labels.of(labels.OPERATIONS, code) for code in self.operations.tolist()]
-
-
-@dataclass(frozen=True, eq=False)
-class TriggerRates(Row):
-    """How often the trigger lines of a tower's detectors fired in an interval. The lists are views of the file's own bytes."""
-
-    interval: int
-    """Microseconds."""
-    tower: int
-    codes: Words
-    """Six detectors' codes (FORMAT 5.7)."""
-    lines: Words
-    """The codes of the five columns."""
-    counters: Words
-    """A line for each detector, a column for each trigger line."""
-
-    @property
-    def detectors(self) -> list[str]:
-        """The detectors in words, as in ``ZIP3``."""
-        return [labels.monitored(code) for code in self.codes.tolist()]
-
-    @property
-    def columns(self) -> list[str]:
-        """The trigger lines in words, as in ``Qhigh``."""
-        return [labels.of(labels.LINES, code) for code in self.lines.tolist()]
-
-
-@dataclass(frozen=True, eq=False)
-class VetoRates(Row):
-    """How often veto panels fired in an interval. The lists are views of the file's own bytes."""
-
-    interval: int
-    """Microseconds."""
-    codes: Words
-    """The panels' codes; 300 is all of them (FORMAT 5.7)."""
-    counters: Words
-    """A number for each panel."""
-
-    @property
-    def detectors(self) -> list[str]:
-        """The panels in words, as in ``Veto7``."""
-        return [labels.monitored(code) for code in self.codes.tolist()]
-
-    @property
-    def entries(self) -> int:
-        """How many panels."""
-        return len(self.codes)
-
-    @property
-    def columns(self) -> list[str]:
-        """The title of the one column of numbers."""
-        return ["counter"]
-
-
-Monitored = Union[Thresholds, TriggerRates, VetoRates]
-Record = Union[Administrative, Trace, History, Gps, Trigger, Tlb, Thresholds, TriggerRates, VetoRates]
+Record = Union[Administrative, Trace, History, Gps, Trigger, Tlb]
 
 
 @dataclass(frozen=True, eq=False)
 class Event(Row):
-    """An event: its records, and what its administrative record says of it. A monitoring event has no such record, so no number and no time."""
+    """An event: its records, and what its administrative record says of it."""
 
     label_of_time: ClassVar[str] = "%Y-%m-%d %H:%M:%S"
 
@@ -346,26 +263,14 @@ class Event(Row):
         return self.word & 255
 
     @property
-    def monitoring(self) -> bool:
-        """Whether it is a monitoring event: its records are thresholds and rates, and there are no others."""
-        return self.type == labels.MONITORING
+    def number(self) -> int:
+        """Its number, which others in the file may have too."""
+        return int(self.file.rows["one"][self.index + 1])
 
     @property
-    def number(self) -> Optional[int]:
-        """Its number, which others in the file may have too; None for a monitoring event."""
-        return None if self.monitoring else int(self.file.rows["one"][self.index + 1])
-
-    @property
-    def time(self) -> Optional[datetime]:
-        """Its time; None for a monitoring event."""
-        if self.monitoring:
-            return None
+    def time(self) -> datetime:
+        """Its time."""
         return datetime(1970, 1, 1, tzinfo=timezone.utc) + timedelta(seconds=int(self.file.rows["two"][self.index + 1]))
-
-    @property
-    def title(self) -> str:
-        """What it is called: ``event 7``, or ``monitoring event``."""
-        return "monitoring event" if self.monitoring else f"event {self.number}"
 
     def _indices(self) -> range:
         return range(self.index + 1, self.index + 1 + int(self.file.rows["two"][self.index]))
@@ -388,9 +293,9 @@ class Event(Row):
         return next((self.file.at_row(index) for index in self._of(kind)), None)
 
     @property
-    def administrative(self) -> Optional[Administrative]:
-        """Its first record; None for a monitoring event, which has none."""
-        return None if self.monitoring else self.file.at_row(self.index + 1)  # type: ignore[return-value]
+    def administrative(self) -> Administrative:
+        """Its first record."""
+        return self.file.at_row(self.index + 1)  # type: ignore[return-value]
 
     @property
     def history(self) -> Optional[History]:
@@ -412,29 +317,13 @@ class Event(Row):
         """Its TLB words, where it has them."""
         return self._first(labels.TLB)  # type: ignore[return-value]
 
-    @property
-    def thresholds(self) -> list[Thresholds]:
-        """Its thresholds, in the file's order: none but in a monitoring event."""
-        return [self.file.at_row(index) for index in self._of(labels.THRESHOLDS)]  # type: ignore[misc]
-
-    @property
-    def trigger_rates(self) -> list[TriggerRates]:
-        """Its trigger rates, in the file's order: none but in a monitoring event."""
-        return [self.file.at_row(index) for index in self._of(labels.TRIGGER_RATES)]  # type: ignore[misc]
-
-    @property
-    def veto_rates(self) -> list[VetoRates]:
-        """Its veto rates, in the file's order: none but in a monitoring event."""
-        return [self.file.at_row(index) for index in self._of(labels.VETO_RATES)]  # type: ignore[misc]
-
     def trace(self, type: int, number: int, name: str) -> Trace:
         """Its first trace of a detector's channel; Absent where it has none."""
         return self.file.trace(self, type, number, name)
 
     def __str__(self) -> str:
-        when = f"{self.time.strftime(self.label_of_time)} UTC" if self.time else f"byte {self.place}"
-        words = labels.of(labels.EVENT_CLASSES, self.event_class), labels.of(labels.EVENT_TYPES, self.type)
-        return ", ".join((self.title, when, *words))
+        kind = labels.of(labels.EVENT_TYPES, self.type)
+        return f"event {self.number}, {self.time.strftime(self.label_of_time)} UTC, {labels.of(labels.EVENT_CLASSES, self.event_class)}, {kind}"
 
 
 class Events(Sequence[Event]):
@@ -465,24 +354,16 @@ class Events(Sequence[Event]):
         return (Event(self._file, int(index)) for index in self._indices)
 
     @property
-    def monitoring(self) -> npt.NDArray[np.bool_]:
-        """Which of the events are monitoring events."""
-        found: npt.NDArray[np.bool_] = self._file.rows["one"][self._indices] & 255 == labels.MONITORING
-        return found
-
-    @property
-    def numbers(self) -> np.ma.MaskedArray[Any, np.dtype[np.uint32]]:
-        """The events' numbers; of monitoring events, which have none, they are masked."""
-        return np.ma.MaskedArray(self._file.rows["one"][self._indices + 1], mask=self.monitoring)  # type: ignore[no-untyped-call]
+    def numbers(self) -> npt.NDArray[np.uint32]:
+        """The events' numbers."""
+        numbers: npt.NDArray[np.uint32] = self._file.rows["one"][self._indices + 1]
+        return numbers
 
     def numbered(self, number: int) -> Event:
         """The first event with a number; Absent where there is none."""
-        numbered = np.flatnonzero(~self.monitoring)
-        numbers = self._file.rows["one"][self._indices[numbered] + 1]
-        found = np.flatnonzero(numbers == operator.index(number))
+        found = np.flatnonzero(self.numbers == operator.index(number))
         if len(found) == 0:
-            there = f"there are {len(numbers):,}, with numbers from {numbers.min()} to {numbers.max()}" if len(numbers) else "there are none"
-            others = len(self) - len(numbers)
-            more = f", and {others:,} monitoring event{'s' if others > 1 else ''}, without numbers" if others else ""
-            raise Absent(f"no event has the number {number}; {there}{more}")
-        return self[int(numbered[found[0]])]
+            numbers = self.numbers
+            there = f"there are {len(self):,}, with numbers from {numbers.min()} to {numbers.max()}" if len(self) else "there are none"
+            raise Absent(f"no event has the number {number}; {there}")
+        return self[int(found[0])]

@@ -14,7 +14,6 @@ from typing import Any, Callable, Union
 import numpy as np
 import numpy.typing as npt
 
-from . import labels
 from ._native import lent, library, places, pointer
 from .channels import code as code_of
 from .faults import Refused
@@ -39,8 +38,6 @@ class Writer:
         with w.event():
             w.administrative(date=1100115, hour=1630, number=7, seconds=1263573000)
             w.trace((11, 17, "PAS2"), samples, t0=-51200, delta_t=800)
-        with w.event(category=1, type=7):
-            w.veto_rates(range(300, 341), counters, interval=1_000_000)
         w.save("run.raw")
     """
 
@@ -85,10 +82,7 @@ class Writer:
         return self._container(library.dwj_close_configuration)
 
     def event(self, event_class: int = 0, category: int = 0, type: int = 0) -> Any:
-        """An event: a ``with`` block of records, the administrative one first; of type 7, a monitoring event, thresholds and rates alone.
-
-        What was written in it is dropped where the block or the closing fails.
-        """
+        """An event: a ``with`` block of records, the administrative one first. What was written in it is dropped where the block or the closing fails."""
         return self._container(
             lambda out, room, at, end, *after: library.dwj_close_event(out, room, at, end, event_class, category, type, *after)
         )
@@ -170,42 +164,6 @@ class Writer:
         """The six towers' words."""
         self._write(lambda out, room, at, *after: library.dwj_write_tlb(out, room, at, _six(words), *after))
 
-    def thresholds(
-        self,
-        codes: npt.ArrayLike,
-        values: npt.ArrayLike,
-        *,
-        tower: int = 0,
-        minimum: int = 0,
-        maximum: int = 0,
-        range: int = 0x3FFF,
-        operations: npt.ArrayLike = tuple(labels.OPERATIONS),
-    ) -> None:
-        """Thresholds and offsets of six detectors, in a monitoring event: for each detector a row of nine values, one for each operation."""
-        words = _whole((minimum, maximum, range, tower))
-        parts = _parts(codes, operations, values)
-        self._write(lambda out, room, at, *after: library.dwj_write_thresholds(out, room, at, *words, *parts, *after))
-
-    def trigger_rates(
-        self,
-        codes: npt.ArrayLike,
-        counters: npt.ArrayLike,
-        *,
-        interval: int = 0,
-        tower: int = 0,
-        lines: npt.ArrayLike = tuple(labels.LINES),
-    ) -> None:
-        """Trigger rates of six detectors, in a monitoring event: for each detector a row of five counters, one for each line; microseconds."""
-        words = _whole((interval, tower))
-        parts = _parts(codes, lines, counters)
-        self._write(lambda out, room, at, *after: library.dwj_write_trigger_rates(out, room, at, *words, *parts, *after))
-
-    def veto_rates(self, codes: npt.ArrayLike, counters: npt.ArrayLike, *, interval: int = 0) -> None:
-        """Veto rates, in a monitoring event: for each code a counter; microseconds."""
-        parts = _parts(codes, counters)
-        words = _whole((interval, parts[1] // 4))
-        self._write(lambda out, room, at, *after: library.dwj_write_veto_rates(out, room, at, *words, *parts, *after))
-
     def bytes(self) -> bytes:
         """What was written so far: a file, where header and configuration and any events are."""
         return bytes(memoryview(self._out)[: self._next])
@@ -241,12 +199,6 @@ def _part(numbers: npt.ArrayLike, kind: str) -> bytes:
     if int(given.min()) < limits.min or int(given.max()) > limits.max:
         raise OverflowError(f"numbers from {limits.min} to {limits.max} are asked")
     return given.astype(kind).tobytes()
-
-
-def _parts(*lists: npt.ArrayLike) -> list[Any]:
-    """Lists of words as a call takes them: the bytes of each, and how many they are."""
-    parts = (_part(words, "<u4") for words in lists)
-    return [word for part in parts for word in (lent(part), len(part))]
 
 
 def rewrite(data: Any) -> bytes:

@@ -2,9 +2,7 @@
 
 use super::aimed::full;
 use super::big::trace_of;
-use super::files::{
-    configuration, event, header, set_word, structure, structure_of, EVENT, MONITORING, VETO_RATES,
-};
+use super::files::{configuration, event, header, set_word, structure, EVENT};
 use super::large::full_of_events;
 use super::reader::{table, MOST_BYTES};
 
@@ -16,8 +14,6 @@ const AROUND_SAMPLES: usize = 56;
 const BEFORE_EVENTS: usize = 16;
 /// The samples of a mixed event's traces.
 const MIXED_SAMPLES: [u32; 4] = [2, 32, 128, 512];
-/// The entries of a monitoring event's veto rates: the veto's OR and forty panels.
-const ENTRIES: u32 = 41;
 /// Where an event has its number: in the administrative record, which comes first.
 const NUMBER_AT: usize = 24;
 
@@ -101,20 +97,6 @@ pub fn mixed_records() -> Vec<u8> {
         }
         set_word(&mut one, NUMBER_AT, number);
         bytes.extend(one);
-    }
-    bytes
-}
-
-/// Monitoring events to the limit, each with one veto rates record of an entry for the veto's OR and for
-/// each of forty panels.
-pub fn veto_rates_events() -> Vec<u8> {
-    let mut body = vec![1_000, ENTRIES];
-    body.extend((0..ENTRIES).map(|entry| 300 + entry));
-    body.extend((0..ENTRIES).map(|entry| 7 * entry));
-    let one = event(MONITORING, &[structure_of(VETO_RATES, &body)]);
-    let mut bytes = [header(), configuration(&[])].concat();
-    while bytes.len() + one.len() <= MOST_BYTES {
-        bytes.extend_from_slice(&one);
     }
     bytes
 }

@@ -20,7 +20,7 @@
 //! implementation, which makes vectors of rows and of each record's words, and against memcpy.
 //!
 //! Table beside a C reader (peer.c): a plain reader of the whole format in C, as each compiler at
-//! hand builds it, on files of six shapes; it reads a file once, and may leave rows behind under a
+//! hand builds it, on files of five shapes; it reads a file once, and may leave rows behind under a
 //! refusal. All sides fill one row buffer. The check alone is the same call without room for a row. The
 //! goal is asked against the faster of this machine's own compilers; the clang that built the exports
 //! stands beside them. Before the first timing its answers are held against the outside implementation's.
@@ -63,7 +63,6 @@ mod writing;
 use std::arch::asm;
 use std::time::Instant;
 
-use inputs::veto_rates_events;
 use inputs::{events_with_traces, mixed_records, most_events, small_file, smallest_events};
 use peer::{Peer, TableCall, PEERS};
 use trees::Call;
@@ -92,9 +91,8 @@ const SMALL_PEER_GOAL: f64 = 1.6;
 const SIDES: usize = 1 + PEERS.len();
 /// A code that names no channel.
 const NO_CODE: u32 = 0;
-/// The row kinds of entries and records; those of a monitoring event's records are the last three.
-const RECORD_KINDS: [u32; 11] = [3, 4, 6, 7, 8, 9, 10, 11, 12, 13, 14];
-const FIRST_MONITORED: u32 = 12;
+/// The row kinds of entries and records.
+const RECORD_KINDS: [u32; 8] = [3, 4, 6, 7, 8, 9, 10, 11];
 
 // A value that the compiler has to have ready in memory, and knows nothing about afterwards.
 fn opaque<T>(value: T) -> T {
@@ -206,38 +204,33 @@ fn time_peers(file: &[u8], rows_lent: usize) -> [[f64; SIDES]; 2] {
 fn time_records(file: &[u8]) -> [f64; 3] {
     let rows = reader::table(file).rows;
     let records = rows.iter().filter(|row| RECORD_KINDS.contains(&row[0]));
-    let places: Vec<(usize, bool)> = records
-        .map(|row| (row[1] as usize, row[0] >= FIRST_MONITORED))
-        .collect();
+    let places: Vec<usize> = records.map(|row| row[1] as usize).collect();
     let mut values = [0; 12];
     let mut refused_at = 0;
-    for (place, inside) in &places {
-        let told = u32::from(*inside);
-        let number = interface::record(file, *place, told, &mut values, &mut refused_at);
-        let found = reader::record(file, *place as u64, *inside);
-        let expected = found.map(|found| reader::row_kind(&found));
+    for place in &places {
+        let number = interface::record(file, *place, &mut values, &mut refused_at);
+        let expected = reader::record(file, *place as u64).map(|found| reader::row_kind(&found));
         assert_eq!((number, Ok(values[0] as u32)), (0, expected));
     }
     middle([
         &mut || {
-            for (place, inside) in &places {
+            for place in &places {
                 let file = opaque(file);
                 opaque(interface::record(
                     file,
                     *place,
-                    u32::from(*inside),
                     &mut values,
                     &mut refused_at,
                 ));
             }
         },
         &mut || {
-            for (place, inside) in &places {
-                opaque(reader::record(opaque(file), *place as u64, *inside)).ok();
+            for place in &places {
+                opaque(reader::record(opaque(file), *place as u64)).ok();
             }
         },
         &mut || {
-            for (place, _) in &places {
+            for place in &places {
                 let file = opaque(file);
                 opaque(unsafe { floor_record(file.as_ptr(), *place) });
             }
@@ -265,7 +258,7 @@ fn time_find(file: &[u8], number: u32, code: u32) -> [f64; 2] {
 
 // A whole walk: a row for each call; gives how many there were.
 fn walk(file: &[u8], row: &mut [u32; 6]) -> u64 {
-    let (mut walker, mut refused_at) = ([0; 7], 0);
+    let (mut walker, mut refused_at) = ([0; 6], 0);
     let mut rows = 0;
     interface::open(file, &mut walker, row, &mut refused_at);
     while row[0] != 0 {
@@ -508,9 +501,6 @@ fn main() {
     print_case("(c) a small file", &file, None);
     print_further(&file, None, None);
 
-    let file = veto_rates_events();
-    print_case("(d) veto rates of 41 entries to 16 MiB", &file, None);
-
     println!("Table beside a C reader of the whole format (peer.c, -O3): the middle of the rounds and the best");
     let file = events_with_traces(most_events(2_048), 2_048);
     print_peers("(1) traces of 2,048 samples to 16 MiB", &file, PEER_GOAL);
@@ -520,10 +510,4 @@ fn main() {
     let file = smallest_events();
     print_peers("(4) smallest events to 16 MiB", &file, SMALL_PEER_GOAL);
     print_peers("(5) a 2 KB file", &small_file(), SMALL_PEER_GOAL);
-    let file = veto_rates_events();
-    print_peers(
-        "(6) veto rates of 41 entries to 16 MiB",
-        &file,
-        SMALL_PEER_GOAL,
-    );
 }

@@ -10,25 +10,24 @@
 
 /* The answers, from 0. */
 enum {
-    ACCEPTED, TOO_LARGE, NO_ROOM, NOT_A_FILE, WRONG_FORMAT, WRONG_KIND, WRONG_LENGTH, WRONG_EVENT, NO_LAYOUT,
+    ACCEPTED, TOO_LARGE, NO_ROOM, NOT_A_FILE, WRONG_FORMAT, WRONG_KIND, WRONG_LENGTH, WRONG_EVENT, MONITORING,
     WRONG_ORDER, WRONG_FIELD, WRONG_COUNT, ROWS_DO_NOT_FIT
 };
 
-/* Kind words as they stand in a file; of an event, the upper half. The last three stand in events of type 7 alone. */
+/* Kind words as they stand in a file; of an event, the upper half. */
 enum {
     MAGIC = 0x01020304, CONFIGURATION = 0x00010000, PHONON = 0x00010001, CHARGE = 0x00010002, EVENT = 0xA980,
     ADMINISTRATIVE = 0x02, TRACE = 0x11, TRACE_TIMES = 0x12, TRACE_SAMPLES = 0x13, HISTORY = 0x21, GPS = 0x60,
-    TRIGGER = 0x80, TLB = 0x81,
-    THRESHOLDS = 0x21, TRIGGER_RATES = 0x22, VETO_RATES = 0x31
+    TRIGGER = 0x80, TLB = 0x81
 };
 
 /* Kinds of rows, from 1. */
 enum {
     ROW_HEADER = 1, ROW_CONFIGURATION, ROW_PHONON, ROW_CHARGE, ROW_EVENT, ROW_ADMINISTRATIVE, ROW_TRACE,
-    ROW_HISTORY, ROW_GPS, ROW_TRIGGER, ROW_TLB, ROW_THRESHOLDS, ROW_TRIGGER_RATES, ROW_VETO_RATES
+    ROW_HISTORY, ROW_GPS, ROW_TRIGGER, ROW_TLB
 };
 
-enum { LIMIT = 16777216, ROW = 6, MONITORING = 7 };
+enum { LIMIT = 16777216, ROW = 6 };
 
 #define LIKELY(x) __builtin_expect(!!(x), 1)
 #define UNLIKELY(x) __builtin_expect(!!(x), 0)
@@ -199,60 +198,6 @@ static inline uint32_t check_tlb(const uint8_t *p, uint32_t length)
     return ACCEPTED;
 }
 
-/* Codes of monitoring records: a detector by its type and two digits, which are 00 for the veto's OR alone; a veto; a DAC operation; a trigger
-   line. All codes of a list are looked at, so that the loops have no way out. */
-
-static inline uint32_t bad_detectors(const uint8_t *p, size_t first)
-{
-    uint32_t bad = 0;
-
-    for (size_t i = first; i < first + 6; i++) {
-        uint32_t code = word(p, i);
-
-        bad |= (code - 101 > 598) | ((code % 100 == 0) & (code != 300));
-    }
-    return bad;
-}
-
-static inline uint32_t check_thresholds(const uint8_t *p, uint32_t length)
-{
-    if (UNLIKELY(length != 292))
-        return WRONG_LENGTH;
-
-    uint32_t bad = bad_detectors(p, 4);
-
-    for (size_t i = 10; i < 19; i++)
-        bad |= (word(p, i) - 1001 > 3) & (word(p, i) - 2001 > 4);
-    return LIKELY(bad == 0) ? ACCEPTED : WRONG_FIELD;
-}
-
-static inline uint32_t check_trigger_rates(const uint8_t *p, uint32_t length)
-{
-    if (UNLIKELY(length != 172))
-        return WRONG_LENGTH;
-
-    uint32_t bad = bad_detectors(p, 2);
-
-    for (size_t i = 8; i < 13; i++)
-        bad |= word(p, i) - 1 > 4;
-    return LIKELY(bad == 0) ? ACCEPTED : WRONG_FIELD;
-}
-
-static inline uint32_t check_veto_rates(const uint8_t *p, uint32_t length)
-{
-    if (UNLIKELY(length < 8))
-        return WRONG_LENGTH;
-
-    uint64_t entries = word(p, 1);
-    uint32_t bad = 0;
-
-    if (UNLIKELY(length != 8 + 8 * entries))
-        return WRONG_LENGTH;
-    for (size_t i = 2; i < 2 + entries; i++)
-        bad |= word(p, i) - 300 > 99;
-    return LIKELY(bad == 0) ? ACCEPTED : WRONG_FIELD;
-}
-
 static inline void put(uint32_t *row, uint32_t kind, size_t start, size_t length, size_t parent, uint32_t first,
                        uint32_t second)
 {
@@ -364,6 +309,8 @@ uint32_t peer_table(const uint8_t *file, size_t length, uint32_t *rows, size_t c
         /* Bit masks of the classes 0 and 2, the categories 0, 1 and 6, the types 0 to 10. */
         if (UNLIKELY(!(0x05 >> (first >> 12 & 15) & 0x43 >> (first >> 8 & 15) & 1) || (first & 0xFF) > 10))
             REFUSE(WRONG_EVENT);
+        if (UNLIKELY((first & 0xFF) == 7))
+            REFUSE(MONITORING);
         size = word(p, 1);
         if (UNLIKELY(size > length - at - 8))
             REFUSE(NO_ROOM);
@@ -374,48 +321,8 @@ uint32_t peer_table(const uint8_t *file, size_t length, uint32_t *rows, size_t c
 
         size_t parent = number;    /* the event's row, counted from 1 */
 
-        at += 8;
-
-        /* A monitoring event: records of three kinds in any order and number. */
-        if ((first & 0xFF) == MONITORING) {
-            for (; at < end; at += 8 + size) {
-                uint32_t row, one;
-
-                p = file + at;
-                if (UNLIKELY(end - at < 8))
-                    REFUSE(NO_ROOM);
-                kind = word(p, 0);
-                size = word(p, 1);
-
-                switch (kind) {
-                case THRESHOLDS:
-                    INSIDE();
-                    PASS(check_thresholds(p + 8, size));
-                    row = ROW_THRESHOLDS, one = word(p, 5);
-                    break;
-                case TRIGGER_RATES:
-                    INSIDE();
-                    PASS(check_trigger_rates(p + 8, size));
-                    row = ROW_TRIGGER_RATES, one = word(p, 3);
-                    break;
-                case VETO_RATES:
-                    INSIDE();
-                    PASS(check_veto_rates(p + 8, size));
-                    row = ROW_VETO_RATES, one = word(p, 3);
-                    break;
-                case 0x00: case 0x10: case 0x20: case 0x30: case 0x32: case 0x40: case 0x50: case 0xF0:
-                    REFUSE(NO_LAYOUT);
-                default:
-                    REFUSE(WRONG_KIND);
-                }
-                if (LIKELY(number < fitting))
-                    put(rows + ROW * number, row, at, 8 + size, parent, one, 0);
-                number++;
-            }
-            goto event_ended;
-        }
-
         /* The first record: administrative, or refused. */
+        at += 8;
         p = file + at;
         if (UNLIKELY(end - at < 8))
             REFUSE(NO_ROOM);
@@ -485,7 +392,6 @@ uint32_t peer_table(const uint8_t *file, size_t length, uint32_t *rows, size_t c
                 put(rows + ROW * number, row, at, 8 + size, parent, one, two);
             number++;
         }
-    event_ended:
         if (LIKELY(parent <= fitting))
             put(rows + ROW * (parent - 1), ROW_EVENT, event, end - event, 0, first & 0xFFFF,
                 (uint32_t)(number - parent));

@@ -12,10 +12,9 @@ fn padded<const N: usize>(values: &[i64]) -> [i64; N] {
     all
 }
 
-/// Record, told whether it reads in a monitoring event: the row kind, then the fields in order,
-/// zeros after them. Of a list the answer has the place where it starts.
-pub fn record(file: &[u8], place: usize, monitoring: bool) -> Result<[i64; 12], Refusal> {
-    let found = reader::record(file, place as u64, monitoring)?;
+/// Record: the row kind, then the fields in order, zeros after them.
+pub fn record(file: &[u8], place: usize) -> Result<[i64; 12], Refusal> {
+    let found = reader::record(file, place as u64)?;
     let mut values = vec![i64::from(reader::row_kind(&found))];
     match found {
         Record::Phonon(words) => values.extend(words.map(i64::from)),
@@ -80,37 +79,6 @@ pub fn record(file: &[u8], place: usize, monitoring: bool) -> Result<[i64; 12], 
         } => values.extend([year, day, status, hour, minute, second, tenths].map(i64::from)),
         Record::Trigger(masks) => values.extend(masks.map(i64::from)),
         Record::Tlb(masks) => values.extend(masks.map(i64::from)),
-        Record::Thresholds {
-            minimum,
-            maximum,
-            range,
-            tower,
-            codes,
-            operations,
-            values: threshold_values,
-        } => {
-            values.extend([minimum, maximum, range, tower].map(i64::from));
-            values.extend([codes, operations, threshold_values].map(|start| start as i64));
-        }
-        Record::TriggerRates {
-            interval,
-            tower,
-            codes,
-            lines,
-            counters,
-        } => {
-            values.extend([interval, tower].map(i64::from));
-            values.extend([codes, lines, counters].map(|start| start as i64));
-        }
-        Record::VetoRates {
-            interval,
-            entries,
-            codes,
-            counters,
-        } => {
-            values.extend([interval, entries].map(i64::from));
-            values.extend([codes, counters].map(|start| start as i64));
-        }
     }
     Ok(padded(&values))
 }

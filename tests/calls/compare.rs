@@ -12,7 +12,6 @@ use super::interface;
 use super::random::Random;
 use super::reader::{self, table, table_within, Row, Table};
 use super::tally::Tally;
-use super::walks::Numbers;
 
 /// A call whose two answers differ.
 pub struct Difference {
@@ -23,8 +22,6 @@ pub struct Difference {
 
 /// Numbers before and after each lent part that are not lent.
 pub const MARGIN: usize = 8;
-/// Numbers besides 0 that tell Record that it reads in a monitoring event (FORMAT 8.5), some of them 0 when bits are lost.
-const TOLD: [u32; 6] = [1, 2, 7, 0x100, 0x1_0000, 0x8000_0000];
 /// How much of a file is searched for likely starts.
 const SEARCHED: usize = 4_096;
 /// Places that no file has, some of them near the edge of a width.
@@ -70,7 +67,7 @@ pub struct Comparison {
     pub random: Random,
     pub tally: Tally,
     /// Where a walk over an earlier file stood.
-    pub earlier_walker: Numbers,
+    pub earlier_walker: [u64; 6],
     around: Vec<u8>,
     rows: Vec<u32>,
     rows_after: Vec<u32>,
@@ -169,7 +166,7 @@ impl Comparison {
         Comparison {
             random: Random::new(seed),
             tally: Tally::default(),
-            earlier_walker: Numbers::default(),
+            earlier_walker: [0; 6],
             around: Vec::new(),
             rows: Vec::new(),
             rows_after: Vec::new(),
@@ -204,8 +201,7 @@ impl Comparison {
         }
         for row in &expected.rows {
             let place = row[1] as usize;
-            let answers = self.record(file, place)?;
-            self.tally.told_wrongly(row[0], answers);
+            self.record(file, place)?;
             self.samples(file, place)?;
             if row[0] == 3 || row[0] == 4 || self.random.once_in(3) {
                 self.setting(file, place)?;
@@ -330,21 +326,8 @@ impl Comparison {
         }
     }
 
-    // Record at a place, told that it doesn't read in a monitoring event, and told that it does: gives
-    // both numbers.
-    fn record(&mut self, file: File, place: usize) -> Result<[u32; 2], Difference> {
-        let told = match self.random.below(8) {
-            0 => u32::MAX - self.random.below(1 << 16) as u32,
-            _ => self.random.pick(&TOLD),
-        };
-        Ok([
-            self.record_told(file, place, 0)?,
-            self.record_told(file, place, told)?,
-        ])
-    }
-
-    // One of the two: its answer, the values, the place of a refusal.
-    fn record_told(&mut self, file: File, place: usize, told: u32) -> Result<u32, Difference> {
+    // Record at a place: its answer, the values, the place of a refusal.
+    fn record(&mut self, file: File, place: usize) -> Result<(), Difference> {
         let pattern = self.random.draw();
         let before = RecordLeft {
             number: 0,
@@ -352,7 +335,7 @@ impl Comparison {
             refused_at: !pattern,
         };
         let mut expected = before.clone();
-        match answers::record(file.copy, place, told != 0) {
+        match answers::record(file.copy, place) {
             Ok(values) => *lent(&mut expected.values) = values,
             Err((number, at)) => {
                 expected.number = number;
@@ -363,26 +346,21 @@ impl Comparison {
         left.number = interface::record(
             file.lent,
             place,
-            told,
             lent(&mut left.values),
             &mut left.refused_at,
         );
         if left != expected {
             return Err(Difference {
-                call: format!("dwj_record at {place}, told {told}"),
+                call: format!("dwj_record at {place}"),
                 outside: expected.shown(&before),
                 archive: left.shown(&before),
             });
         }
-        let answers = match told {
-            0 => &mut self.tally.record,
-            _ => &mut self.tally.monitored,
-        };
-        answers.numbers[left.number as usize] += 1;
+        self.tally.record.numbers[left.number as usize] += 1;
         if left.number == 0 {
-            answers.kinds[left.values[MARGIN] as usize] += 1;
+            self.tally.record.kinds[left.values[MARGIN] as usize] += 1;
         }
-        Ok(left.number)
+        Ok(())
     }
 
     // Samples at a place, and some of them by number: around the first and the last, between, far off.

@@ -14,7 +14,6 @@ extern "C" {
         file: *const u8,
         file_length: usize,
         place: usize,
-        monitoring: u32,
         values: *mut i64,
         refused_at: *mut u64,
     ) -> u32;
@@ -97,21 +96,13 @@ pub fn table(file: &[u8], rows: &mut [u32], count: &mut u64, place: &mut u64) ->
     }
 }
 
-/// Record, told by 0 that it doesn't read in a monitoring event, and by any other number that it
-/// does: 0 with the row kind and the fields, or a refusal's number with its place.
-pub fn record(
-    file: &[u8],
-    place: usize,
-    monitoring: u32,
-    values: &mut [i64; 12],
-    refused_at: &mut u64,
-) -> u32 {
+/// Record: 0 with the row kind and the fields, or a refusal's number with its place.
+pub fn record(file: &[u8], place: usize, values: &mut [i64; 12], refused_at: &mut u64) -> u32 {
     unsafe {
         dwj_record(
             file.as_ptr(),
             file.len(),
             place,
-            monitoring,
             values.as_mut_ptr(),
             refused_at,
         )
@@ -161,7 +152,7 @@ pub fn find(file: &[u8], number: u32, code: u32, place: &mut u64, refused_at: &m
 }
 
 /// Open: 0 with a walker's numbers and the first row, or a refusal's number with its place.
-pub fn open(file: &[u8], walker: &mut [u64; 7], row: &mut [u32; 6], refused_at: &mut u64) -> u32 {
+pub fn open(file: &[u8], walker: &mut [u64; 6], row: &mut [u32; 6], refused_at: &mut u64) -> u32 {
     unsafe {
         dwj_open(
             file.as_ptr(),
@@ -174,7 +165,7 @@ pub fn open(file: &[u8], walker: &mut [u64; 7], row: &mut [u32; 6], refused_at: 
 }
 
 /// Next: 0 with the next row, zeros at the end; or a refusal's number with its place.
-pub fn next(file: &[u8], walker: &mut [u64; 7], row: &mut [u32; 6], refused_at: &mut u64) -> u32 {
+pub fn next(file: &[u8], walker: &mut [u64; 6], row: &mut [u32; 6], refused_at: &mut u64) -> u32 {
     unsafe {
         dwj_next(
             file.as_ptr(),

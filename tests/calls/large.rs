@@ -1,15 +1,12 @@
-//! Large files: traces around the most samples, files of exactly the most bytes, of ordinary events and
-//! of monitoring events.
+//! Large files: traces around the most samples, files of exactly the most bytes.
 
 use super::aimed::{p14, with_record};
-use super::big::{full_of_history, full_of_traces, full_of_veto_rates, trace_of};
-use super::files::{
-    configuration, event, header, set_word, structure, structure_of, EVENT, MONITORING, VETO_RATES,
-};
+use super::big::{full_of_history, full_of_traces, trace_of};
+use super::files::{configuration, header, structure, EVENT};
 use super::reader::MOST_BYTES;
 
 /// Each with its name; it is made when its turn comes.
-pub const LARGE: [(&str, fn() -> Vec<u8>); 13] = [
+pub const LARGE: [(&str, fn() -> Vec<u8>); 9] = [
     ("a trace of 32,768 samples", || {
         with_record(trace_of(32_768))
     }),
@@ -33,26 +30,7 @@ pub const LARGE: [(&str, fn() -> Vec<u8>); 13] = [
         bytes.pop();
         bytes
     }),
-    ("veto rates to the limit", full_of_veto_rates),
-    ("veto rates to the limit, the last code none", || {
-        let mut bytes = full_of_veto_rates();
-        set_word(&mut bytes, LAST_CODE, 400);
-        bytes
-    }),
-    (
-        "smallest monitoring events to the limit",
-        full_of_monitoring,
-    ),
-    ("smallest monitoring events, the last one cut", || {
-        let mut bytes = full_of_monitoring();
-        bytes.pop();
-        bytes
-    }),
 ];
-
-/// Where the last code of the one record stands whose codes and counters fill a file: behind the record's
-/// first four words, which begin at 24, half of the rest is codes.
-const LAST_CODE: usize = 40 + (MOST_BYTES - 40) / 2 - 4;
 
 /// The smallest events, of one administrative record each, as many as the limit allows.
 pub fn full_of_events() -> Vec<u8> {
@@ -61,16 +39,6 @@ pub fn full_of_events() -> Vec<u8> {
     let mut bytes = [header(), configuration(&[])].concat();
     while bytes.len() + event.len() <= MOST_BYTES {
         bytes.extend_from_slice(&event);
-    }
-    bytes
-}
-
-/// The smallest monitoring events, of veto rates without an entry each, as many as the limit allows.
-pub fn full_of_monitoring() -> Vec<u8> {
-    let shortest = event(MONITORING, &[structure_of(VETO_RATES, &[1, 0])]);
-    let mut bytes = [header(), configuration(&[])].concat();
-    while bytes.len() + shortest.len() <= MOST_BYTES {
-        bytes.extend_from_slice(&shortest);
     }
     bytes
 }

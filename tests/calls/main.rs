@@ -41,7 +41,7 @@ const DEFAULT_COUNT: u64 = 200_000;
 /// How many files over the limit, and by how much at most.
 const OVER_LIMIT: usize = 64;
 const MOST_OVER: usize = 4_096;
-/// One random file in so many has events that come again, and one monitoring events that Find passes over.
+/// One random file in so many has events that come again.
 const REPEATING: u64 = 16;
 /// A file longer than this is shown by its first bytes.
 const SHOWN_WHOLE: usize = 65_536;
@@ -117,7 +117,6 @@ fn run(comparison: &mut Comparison, count: u64) -> Result<u64, String> {
     while files < count {
         let bytes = match comparison.random.below(REPEATING) {
             0 => finds::repeating(&mut comparison.random),
-            1 => finds::passed_over(&mut comparison.random),
             _ => files::random_file(&mut comparison.random),
         };
         let compared = comparison

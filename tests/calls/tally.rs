@@ -6,19 +6,16 @@ use std::fmt::Write;
 const LEAST: u64 = 100;
 const LEAST_OVER_LIMIT: u64 = 20;
 
-/// The numbers that Table can give, that a call over a whole file can, that Record, Setting
-/// and Sample can, and Record told that it reads in a monitoring event.
+/// The numbers that Table can give, that a call over a whole file can, and that Record, Setting
+/// and Sample can.
 const TABLE_NUMBERS: &[usize] = &[0, 1, 2, 3, 4, 5, 6, 7, 8, 9, 10, 11, 12];
 const FILE_NUMBERS: &[usize] = &[0, 1, 2, 3, 4, 5, 6, 7, 8, 9, 10, 11];
 const RECORD_NUMBERS: &[usize] = &[0, 1, 2, 5, 6, 10, 11];
-const MONITORED_NUMBERS: &[usize] = &[0, 1, 2, 5, 6, 8, 10];
-/// The row kinds of a file, those after the header's, those of entries and records, of entries, and of
-/// a monitoring event's records.
-const FILE_KINDS: &[usize] = &[1, 2, 3, 4, 5, 6, 7, 8, 9, 10, 11, 12, 13, 14];
-const LATER_KINDS: &[usize] = &[2, 3, 4, 5, 6, 7, 8, 9, 10, 11, 12, 13, 14];
+/// The row kinds of a file, those after the header's, those of entries and records, and of entries.
+const FILE_KINDS: &[usize] = &[1, 2, 3, 4, 5, 6, 7, 8, 9, 10, 11];
+const LATER_KINDS: &[usize] = &[2, 3, 4, 5, 6, 7, 8, 9, 10, 11];
 const RECORD_KINDS: &[usize] = &[3, 4, 6, 7, 8, 9, 10, 11];
 const ENTRY_KINDS: &[usize] = &[3, 4];
-const MONITORED_KINDS: &[usize] = &[12, 13, 14];
 
 const NUMBER_NAMES: [&str; 13] = [
     "accepted",
@@ -29,13 +26,13 @@ const NUMBER_NAMES: [&str; 13] = [
     "kind",
     "length",
     "class, category or type",
-    "kind without a layout",
+    "type 7",
     "event's own rule",
     "field",
     "n",
     "rows don't fit",
 ];
-const KIND_NAMES: [&str; 15] = [
+const KIND_NAMES: [&str; 12] = [
     "",
     "header",
     "configuration",
@@ -48,16 +45,13 @@ const KIND_NAMES: [&str; 15] = [
     "GPS",
     "trigger",
     "TLB",
-    "thresholds",
-    "trigger rates",
-    "veto rates",
 ];
 
 /// The answers of one call: by number, and by the row kinds given under 0.
 #[derive(Default)]
 pub struct Answers {
     pub numbers: [u64; 13],
-    pub kinds: [u64; 15],
+    pub kinds: [u64; 12],
 }
 
 /// All answers that were compared; of the small calls those that were given, and refused.
@@ -65,8 +59,6 @@ pub struct Answers {
 pub struct Tally {
     pub table: Answers,
     pub record: Answers,
-    /// Record, told that it reads in a monitoring event.
-    pub monitored: Answers,
     pub setting: Answers,
     pub sample: Answers,
     pub find: Answers,
@@ -76,23 +68,12 @@ pub struct Tally {
     /// Traces found: the only one, the first of several in its event, one that another event has
     /// too; and none.
     pub found: [u64; 4],
-    /// Asked for a number that stands in a monitoring event too, where another has its own: found, and
-    /// nothing; asked of a file whose last event is a monitoring event of the shortest sort.
-    pub passed: [u64; 3],
-    /// Record told wrongly at a row: a record of another event, or an entry, as in a monitoring event; a
-    /// monitoring event's record as outside one; each read as something else, and refused.
-    pub wrongly: [u64; 4],
     /// Walkers' answers at the end.
     pub ends: u64,
-    /// Visits from past the last row, and from a row inside a monitoring event.
+    /// Visits from past the last row.
     pub nothing_left: u64,
-    pub begun_inside: u64,
     /// Rows, ends and refusals from numbers that no walker need have.
     pub any_numbers: [u64; 3],
-    /// Walks that are told they are inside a monitoring event and aren't; that are and are told they aren't;
-    /// and steps inside one by another number that isn't 0.
-    pub turned: [u64; 2],
-    pub other_inside: u64,
     pub samples: [u64; 2],
     pub channel: [u64; 2],
     pub code: [u64; 2],
@@ -103,16 +84,10 @@ pub struct Tally {
 type Numbered<'a> = (&'a str, &'a Answers, &'a [usize], &'a [usize]);
 
 impl Tally {
-    fn numbered(&self) -> [Numbered<'_>; 9] {
+    fn numbered(&self) -> [Numbered<'_>; 8] {
         [
             ("Table", &self.table, TABLE_NUMBERS, FILE_KINDS),
             ("Record", &self.record, RECORD_NUMBERS, RECORD_KINDS),
-            (
-                "in type 7",
-                &self.monitored,
-                MONITORED_NUMBERS,
-                MONITORED_KINDS,
-            ),
             ("Setting", &self.setting, RECORD_NUMBERS, ENTRY_KINDS),
             ("Sample", &self.sample, RECORD_NUMBERS, &[]),
             ("Find", &self.find, FILE_NUMBERS, &[]),
@@ -123,19 +98,11 @@ impl Tally {
     }
 
     // The calls and answers that have no column: what each is, and how often it occurred.
-    fn others(&self) -> [(&'static str, &[u64]); 13] {
+    fn others(&self) -> [(&'static str, &[u64]); 8] {
         [
             (
                 "Find: the only one, of several in an event, of several events', none",
                 &self.found,
-            ),
-            (
-                "Find: a monitoring event's number, found and none; of a file that ends with a monitoring event of 24 bytes",
-                &self.passed,
-            ),
-            (
-                "Record told wrongly: in type 7, read and refused; outside it, read and refused",
-                &self.wrongly,
             ),
             ("Next: ends", std::slice::from_ref(&self.ends)),
             (
@@ -143,20 +110,8 @@ impl Tally {
                 std::slice::from_ref(&self.nothing_left),
             ),
             (
-                "Visit: from a row inside a monitoring event",
-                std::slice::from_ref(&self.begun_inside),
-            ),
-            (
                 "Next from any numbers: rows, ends, refusals",
                 &self.any_numbers,
-            ),
-            (
-                "Next told wrongly: inside a monitoring event, outside it",
-                &self.turned,
-            ),
-            (
-                "Next inside a monitoring event, by another number that isn't 0",
-                std::slice::from_ref(&self.other_inside),
             ),
             ("Samples: some, none", &self.samples),
             ("Channel: given, refused", &self.channel),
@@ -165,21 +120,12 @@ impl Tally {
         ]
     }
 
-    /// What Record answered at a row, told that it is outside a monitoring event and told that it is in one.
-    pub fn told_wrongly(&mut self, kind: u32, [outside, inside]: [u32; 2]) {
-        match kind {
-            1 | 2 | 5 => {}
-            12..=14 => self.wrongly[2 + usize::from(outside != 0)] += 1,
-            _ => self.wrongly[usize::from(inside != 0)] += 1,
-        }
-    }
-
     /// How many calls were compared.
     pub fn calls(&self) -> u64 {
         let numbered = self.numbered();
         let large: u64 = numbered.iter().flat_map(|call| call.1.numbers).sum();
         let small = [self.samples, self.channel, self.code, self.zip];
-        let twice = 2 * (self.any_numbers.iter().sum::<u64>() + self.other_inside);
+        let twice = 2 * self.any_numbers.iter().sum::<u64>();
         large + twice + small.iter().flatten().sum::<u64>()
     }
 
@@ -188,7 +134,7 @@ impl Tally {
         let numbered = self.numbered();
         let mut text = format!("{:>32}", "");
         for (name, ..) in numbered {
-            let _ = write!(text, "{name:>10}");
+            let _ = write!(text, "{name:>9}");
         }
         text.push('\n');
         for (number, name) in NUMBER_NAMES.iter().enumerate() {
@@ -237,10 +183,10 @@ impl Tally {
 }
 
 // One line of counts, a call to a column.
-fn line(what: &str, number: usize, name: &str, times: [u64; 9]) -> String {
+fn line(what: &str, number: usize, name: &str, times: [u64; 8]) -> String {
     let mut text = format!("{what:<7}{number:>2} {name:<22}");
     for times in times {
-        let _ = write!(text, "{times:>10}");
+        let _ = write!(text, "{times:>9}");
     }
     text.push('\n');
     text

@@ -91,9 +91,6 @@ impl Comparison {
         if number == 0 && left.is_empty() {
             self.tally.nothing_left += 1;
         }
-        if rows.first().is_some_and(|row| row[0] >= 12) {
-            self.tally.begun_inside += 1;
-        }
         Ok(rows.len())
     }
 }

@@ -6,10 +6,8 @@ use super::compare::{Comparison, Difference, File, FAR_PLACES, MARGIN};
 use super::interface;
 use super::reader::{self, Row, Yield};
 
-/// A walker's numbers; the last one is not 0 while the walk is inside a monitoring event.
-pub type Numbers = [u64; 7];
-/// The last one's place.
-const INSIDE: usize = 6;
+/// A walker's numbers.
+pub type Numbers = [u64; 6];
 /// A walker's call: it opens the file, or goes on from the numbers.
 type Call = fn(&[u8], &mut Numbers, &mut Row, &mut u64) -> u32;
 
@@ -23,7 +21,7 @@ const SHORT: usize = 4_096;
 #[derive(Clone, PartialEq)]
 struct Left {
     number: u32,
-    walker: [u64; 7 + 2 * MARGIN],
+    walker: [u64; 6 + 2 * MARGIN],
     row: [u32; 6 + 2 * MARGIN],
     refused_at: u64,
 }
@@ -74,7 +72,7 @@ impl Comparison {
     pub fn walk(&mut self, file: File) -> Result<(), Difference> {
         let mut outside = reader::walk(file.copy);
         let mut numbers = None;
-        let mut held = Numbers::default();
+        let mut held = [0; 6];
         let (mut steps, mut without_row) = (0, 0);
         while without_row < LAST_ANSWERS {
             let given = outside.step();
@@ -142,62 +140,23 @@ impl Comparison {
     // Numbers that no walker has, and a walk from each: numbers of any sort, those of a walker over
     // this file with one changed, and those of a walker over an earlier file.
     fn any_numbers(&mut self, file: File, held: Numbers) -> Result<(), Difference> {
-        let mut any = Numbers::default();
+        let mut any = [0; 6];
         for number in &mut any {
             *number = self.any_number(file, held[2]);
         }
         any[0] = self.any_refusal();
         let mut changed = [held; 2];
         for numbers in &mut changed {
-            let which = self.random.below(held.len() as u64) as usize;
+            let which = self.random.below(6) as usize;
             numbers[which] = match which {
                 0 => self.any_refusal(),
                 _ => self.any_number(file, held[which]),
             };
         }
-        let mut turned = held;
-        turned[INSIDE] = self.turned(held[INSIDE]);
         let earlier = std::mem::replace(&mut self.earlier_walker, held);
-        for numbers in [any, changed[0], changed[1], turned, earlier] {
+        for numbers in [any, changed[0], changed[1], earlier] {
             self.walk_from(file, numbers)?;
         }
-        self.other_inside(file, held)
-    }
-
-    // The last number as it isn't: 0 for any other, and some other for 0.
-    fn turned(&mut self, inside: u64) -> u64 {
-        self.tally.turned[usize::from(inside != 0)] += 1;
-        match inside {
-            0 => self.some_inside(),
-            _ => 0,
-        }
-    }
-
-    // A number that isn't 0, though a part of its bits may be.
-    fn some_inside(&mut self) -> u64 {
-        match self.random.below(3) {
-            0 => 1,
-            1 => 1 << self.random.below(64),
-            _ => self.random.draw().max(1),
-        }
-    }
-
-    // Inside a monitoring event any number that isn't 0 says so: the same row comes next.
-    fn other_inside(&mut self, file: File, held: Numbers) -> Result<(), Difference> {
-        if held[0] as u32 != 0 || held[INSIDE] == 0 {
-            return Ok(());
-        }
-        let mut other = held;
-        other[INSIDE] = self.some_inside();
-        let pattern = self.random.draw();
-        let [row, other_row] = [held, other].map(|numbers| {
-            let before = Left::before(pattern, Some(numbers));
-            before.after(file.lent, interface::next).row()
-        });
-        alike(&row, &other_row, || {
-            format!("dwj_next from {other:?} for {held:?}")
-        })?;
-        self.tally.other_inside += 1;
         Ok(())
     }
 
@@ -290,7 +249,7 @@ impl Comparison {
         }
         let [kind, start, whole, ..] = row;
         let end = u64::from(start) + u64::from(whole);
-        let inside = (1..=14).contains(&kind) && whole >= 8 && end <= file.lent.len() as u64;
+        let inside = (1..=11).contains(&kind) && whole >= 8 && end <= file.lent.len() as u64;
         alike(&true, &inside, || {
             call() + &format!(": its row {row:?} lies in the file")
         })?;

@@ -2,8 +2,8 @@
 
 use std::fmt::Write;
 
-use super::aimed::{p14, with_monitoring, with_record};
-use super::files::{structure_of, HISTORY, TRACE, VETO_RATES};
+use super::aimed::{p14, with_record};
+use super::files::{structure_of, HISTORY, TRACE};
 use super::reader::{table, MOST_BYTES};
 
 // FORMAT 5.2: a trace whose two counts are n, with n samples.
@@ -36,15 +36,6 @@ pub fn full_of_history() -> Vec<u8> {
     body.extend(0..nvt);
     body.extend([0, 0]);
     with_record(structure_of(HISTORY, &body))
-}
-
-// FORMAT 1.1: one veto rates record that fills a file to the limit.
-pub fn full_of_veto_rates() -> Vec<u8> {
-    let entries = 2_097_147;
-    let mut body = vec![1, entries];
-    body.extend((0..entries).map(|entry| 300 + entry % 100));
-    body.extend(0..entries);
-    with_monitoring(&[structure_of(VETO_RATES, &body)])
 }
 
 // FORMAT 10.1: the same bytes with one more.

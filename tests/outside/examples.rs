@@ -3,22 +3,17 @@
 use std::collections::{HashMap, HashSet};
 use std::fmt::Write;
 
-use super::aimed::{
-    aimed, full, full_monitoring, good_monitoring, p14, thresholds_words, trigger_rates_words,
-    two_meanings, veto_rates_words, with_monitoring, with_record,
-};
-use super::big::{full_of_history, full_of_traces, full_of_veto_rates, trace_of};
+use super::aimed::{aimed, full, p14, with_record};
+use super::big::{full_of_history, full_of_traces, trace_of};
 use super::files::{
     event, random_file, structure, structure_of, valid_parts, words, ADMINISTRATIVE, CHARGE, EVENT,
-    GPS, HISTORY, MONITORING, MONITORING_KINDS, NAMED_KINDS, PHONON, THRESHOLDS, TLB, TRACE,
-    TRIGGER, TRIGGER_RATES, VETO_RATES,
+    GPS, HISTORY, PHONON, TLB, TRACE, TRIGGER,
 };
 use super::random::Random;
 use super::reader::{
-    channel_of, code_of, find, record, row_kind, sample, samples, setting, table, table_within,
-    walk, zip, Record, Refusal, Row, Setting, Yield, MOST_BYTES,
+    channel_of, code_of, find, record, sample, samples, setting, table, table_within, walk, zip,
+    Record, Refusal, Row, Setting, Yield, MOST_BYTES,
 };
-use super::vectors::tallies;
 
 struct Checks {
     failures: Vec<String>,
@@ -53,18 +48,10 @@ pub fn selftest(text: &mut String) -> bool {
     setting_examples(&mut checks);
     zip_examples(&mut checks);
     find_examples(&mut checks);
-    monitoring_event_examples(&mut checks);
-    monitoring_kind_examples(&mut checks);
-    monitoring_field_examples(&mut checks);
-    monitoring_code_examples(&mut checks);
-    veto_length_examples(&mut checks);
-    meaning_examples(&mut checks);
-    passing_over_examples(&mut checks);
     limit_examples(&mut checks);
     aimed_answers(&mut checks);
     valid_answers(&mut checks);
     agreement(&mut checks);
-    often_enough(&mut checks);
     for failure in &checks.failures {
         let _ = writeln!(text, "failed: {failure}");
     }
@@ -178,7 +165,7 @@ fn name_examples(checks: &mut Checks) {
 // FORMAT 5.1: the answer for an administrative record alone.
 fn administrative_at_0(series_date: u32, series_time: u32) -> Result<Record, Refusal> {
     let body = [series_date, series_time, 1, 2, 3, 4];
-    record(&structure_of(ADMINISTRATIVE, &body), 0, false)
+    record(&structure_of(ADMINISTRATIVE, &body), 0)
 }
 
 // FORMAT 10.1: P6 and P7.
@@ -198,7 +185,7 @@ fn series_examples(checks: &mut Checks) {
 
 // FORMAT 10.1: P8 to P10.
 fn gps_examples(checks: &mut Checks) {
-    let at_0 = |body: [u32; 3]| record(&structure_of(GPS, &body), 0, false);
+    let at_0 = |body: [u32; 3]| record(&structure_of(GPS, &body), 0);
     let p8 = Record::Gps {
         year: 2005,
         day: 320,
@@ -260,12 +247,7 @@ fn file_examples(checks: &mut Checks) {
         file[16..20].copy_from_slice(&first_word.to_le_bytes());
         answer(&file)
     };
-    let empty = [
-        words(&[0x0102_0304, 0x0100_0200, 0x0001_0000, 0]),
-        event(MONITORING, &[]),
-    ];
-    checks.check("P13 type 7, empty", answer(&empty.concat()) == (9, 16));
-    checks.check("P13 type 7", with_first_word(0xA980_0007) == (5, 24));
+    checks.check("P13 type 7", with_first_word(0xA980_0007) == (8, 16));
     checks.check("P13 class 1", with_first_word(0xA980_1007) == (7, 16));
     checks.check(
         "one byte more",
@@ -388,7 +370,7 @@ fn field_examples(checks: &mut Checks) {
     };
     checks.check(
         "trace fields",
-        record(&structure_of(TRACE, &body), 0, false) == Ok(trace),
+        record(&structure_of(TRACE, &body), 0) == Ok(trace),
     );
     let gps = Record::Gps {
         year: 9876,
@@ -402,13 +384,13 @@ fn field_examples(checks: &mut Checks) {
     let body = [0x9876_0123, 0xF023_4557, 0x0912_3457];
     checks.check(
         "GPS fields",
-        record(&structure_of(GPS, &body), 0, false) == Ok(gps),
+        record(&structure_of(GPS, &body), 0) == Ok(gps),
     );
     let body = [0, 11, 12, 13, 14, 15, 16];
     let trigger = Record::Trigger([11, 12, 13, 14, 15, 16]);
     checks.check(
         "trigger fields",
-        record(&structure_of(TRIGGER, &body), 0, false) == Ok(trigger),
+        record(&structure_of(TRIGGER, &body), 0) == Ok(trigger),
     );
     let body = [
         0x0100_0001,
@@ -421,20 +403,20 @@ fn field_examples(checks: &mut Checks) {
     let tlb = Record::Tlb(body);
     checks.check(
         "TLB fields",
-        record(&structure_of(TLB, &body), 0, false) == Ok(tlb),
+        record(&structure_of(TLB, &body), 0) == Ok(tlb),
     );
     let minus_one = 0xFFFF_FFFF;
     let body = [11_017_006, minus_one, 2, 3, 4, 5, 6, 7];
     let charge = Record::Charge([11_017_006, -1, 2, 3, 4, 5, 6, 7]);
     checks.check(
         "charge fields",
-        record(&structure_of(CHARGE, &body), 0, false) == Ok(charge),
+        record(&structure_of(CHARGE, &body), 0) == Ok(charge),
     );
     let body = [10_001_003, minus_one, 2, 3, 4, 5, 6, 7, 8, 9, 10];
     let phonon = Record::Phonon([10_001_003, -1, 2, 3, 4, 5, 6, 7, 8, 9, 10]);
     checks.check(
         "phonon fields",
-        record(&structure_of(PHONON, &body), 0, false) == Ok(phonon),
+        record(&structure_of(PHONON, &body), 0) == Ok(phonon),
     );
 }
 
@@ -451,7 +433,7 @@ fn history_examples(checks: &mut Checks) {
         trigger_masks: 29,
     };
     let file = [vec![0; 5], structure_of(HISTORY, &[0; 4])].concat();
-    checks.check("history missing", record(&file, 5, false) == Ok(missing));
+    checks.check("history missing", record(&file, 5) == Ok(missing));
     let both = Record::History {
         nvt: 2,
         veto_times: 12,
@@ -465,7 +447,7 @@ fn history_examples(checks: &mut Checks) {
     let body = [2, 9, 9, 1, 8, 8, 1, 7, 6, 1, 2, 3, 4, 5, 6];
     checks.check(
         "history whole",
-        record(&structure_of(HISTORY, &body), 0, false) == Ok(both),
+        record(&structure_of(HISTORY, &body), 0) == Ok(both),
     );
 }
 
@@ -550,300 +532,6 @@ fn find_examples(checks: &mut Checks) {
     );
 }
 
-// FORMAT 6.2, 7.2: monitoring events of every class and category, and their rows.
-fn monitoring_event_examples(checks: &mut Checks) {
-    for own in [0, 0x100, 0x600, 0x2000, 0x2100, 0x2600] {
-        let file = [
-            p14(),
-            event(MONITORING | own, &[good_monitoring(VETO_RATES)]),
-        ]
-        .concat();
-        let given = table(&file);
-        checks.check("monitoring event", given.number == 0 && given.count == 7);
-        let rows = [[5, 88, 48, 0, own | 7, 1], [14, 96, 40, 6, 3, 0]];
-        checks.check("monitoring rows", given.rows[5..] == rows);
-    }
-    let given = table(&full_monitoring());
-    let rows: [Row; 7] = [
-        [5, 396, 528, 0, 0x2607, 3],
-        [12, 404, 300, 14, 2, 0],
-        [13, 704, 180, 14, 3, 0],
-        [14, 884, 40, 14, 3, 0],
-        [5, 924, 40, 0, 7, 2],
-        [14, 932, 16, 18, 0, 0],
-        [14, 948, 16, 18, 0, 0],
-    ];
-    checks.check("rows of the monitoring kinds", given.rows[13..] == rows);
-    checks.check(
-        "full and monitoring",
-        given.place == 964 && given.rows[..13] == table(&full()).rows,
-    );
-    let free = [0x8000_0001, 0x8000_0002, 0x8000_0003, 0xFFFF_FFFF];
-    let mut body = thresholds_words();
-    body[..4].copy_from_slice(&free);
-    let given = table(&with_monitoring(&[structure_of(THRESHOLDS, &body)]));
-    checks.check(
-        "tower as it stands",
-        given.rows[3] == [12, 24, 300, 3, 0xFFFF_FFFF, 0],
-    );
-}
-
-// FORMAT 6.1, 6.2, 8.5: the kinds in a monitoring event and outside one.
-fn monitoring_kind_examples(checks: &mut Checks) {
-    for kind in 0..0x1_0200 {
-        let file = structure(kind, &[]);
-        let wanted = match kind {
-            0x00 | 0x10 | 0x20 | 0x30 | 0x32 | 0x40 | 0x50 | 0xF0 => 8,
-            0x21 | 0x22 | 0x31 => 6,
-            _ => 5,
-        };
-        checks.check(
-            "kind told monitoring",
-            record(&file, 0, true) == Err((wanted, 0)),
-        );
-        let wanted = match kind {
-            0x02 | 0x11 | 0x21 | 0x60 | 0x80 | 0x81 | 0x1_0001 | 0x1_0002 => 6,
-            _ => 5,
-        };
-        checks.check("kind told not", record(&file, 0, false) == Err((wanted, 0)));
-    }
-    for kind in NAMED_KINDS {
-        let passing = words(&[kind, 1]);
-        checks.check(
-            "8 before the length's 2",
-            record(&passing, 0, true) == Err((8, 0)),
-        );
-        checks.check(
-            "2 for room before 8",
-            record(&passing[..7], 0, true) == Err((2, 0)),
-        );
-        let high = words(&[kind | 0x8000_0000, 0]);
-        checks.check(
-            "8 for whole words alone",
-            record(&high, 0, true) == Err((5, 0)),
-        );
-    }
-    let zeros = [with_monitoring(&[good_monitoring(VETO_RATES), vec![0; 8]])];
-    checks.check("eight zeros", answer(&zeros.concat()) == (8, 64));
-    checks.check("no monitoring bytes", record(&[], 0, true) == Err((2, 0)));
-    checks.check(
-        "past them",
-        record(&[0; 8], u64::MAX, true) == Err((2, u64::MAX)),
-    );
-}
-
-// FORMAT 5.8, 5.9, 5.10, 8.5: every field of the three records, at a place of its own.
-fn monitoring_field_examples(checks: &mut Checks) {
-    let at_3 = |kind: u32, body: &[u32]| {
-        let file = [vec![0; 3], structure_of(kind, body), vec![0; 2]].concat();
-        record(&file, 3, true)
-    };
-    let thresholds = Record::Thresholds {
-        minimum: 0xFFFF_FFF6,
-        maximum: 10,
-        range: 0x3FFF,
-        tower: 2,
-        codes: 27,
-        operations: 51,
-        values: 87,
-    };
-    checks.check(
-        "thresholds fields",
-        at_3(THRESHOLDS, &thresholds_words()) == Ok(thresholds),
-    );
-    let rates = Record::TriggerRates {
-        interval: 1_000_000,
-        tower: 3,
-        codes: 19,
-        lines: 43,
-        counters: 63,
-    };
-    checks.check(
-        "trigger rates fields",
-        at_3(TRIGGER_RATES, &trigger_rates_words()) == Ok(rates),
-    );
-    let rates = Record::VetoRates {
-        interval: 2_000_000,
-        entries: 3,
-        codes: 19,
-        counters: 31,
-    };
-    checks.check(
-        "veto rates fields",
-        at_3(VETO_RATES, &veto_rates_words()) == Ok(rates),
-    );
-    let none = Record::VetoRates {
-        interval: 0xFFFF_FFFF,
-        entries: 0,
-        codes: 19,
-        counters: 19,
-    };
-    checks.check(
-        "veto rates of nothing",
-        at_3(VETO_RATES, &[0xFFFF_FFFF, 0]) == Ok(none),
-    );
-    for (kind, right) in [(THRESHOLDS, 292), (TRIGGER_RATES, 172)] {
-        for length in 0..400 {
-            let mut body = good_monitoring(kind)[8..].to_vec();
-            body.resize(length, 0);
-            let fine = record(&structure(kind, &body), 0, true).is_ok();
-            checks.check("fixed length", fine == (length == right));
-            let zeros = record(&structure(kind, &vec![0; length]), 0, true);
-            let number = if length == right { 10 } else { 6 };
-            checks.check("length before codes", zeros == Err((number, 0)));
-        }
-    }
-}
-
-// FORMAT 5.7: a code's text: so many digits, the first and the rest from lists.
-fn is_text_code(code: u32, firsts: &str, number_00: bool) -> bool {
-    let text = code.to_string();
-    text.len() == 3 && firsts.contains(&text[..1]) && (number_00 || &text[1..] != "00")
-}
-
-// FORMAT 5.7: every code up to 4,000 at each place for one.
-fn monitoring_code_examples(checks: &mut Checks) {
-    let answered = |kind: u32, body: &[u32], number: usize, code: u32| {
-        let mut changed = body.to_vec();
-        changed[number] = code;
-        match record(&structure_of(kind, &changed), 0, true) {
-            Ok(_) => Some(true),
-            Err((10, 0)) => Some(false),
-            Err(_) => None,
-        }
-    };
-    let listed = [1001, 1002, 1003, 1004, 2001, 2002, 2003, 2004, 2005];
-    for code in (0..4_000).chain([0x8000_0065, 0x8000_012C, 0xFFFF_FFFF]) {
-        let detector = is_text_code(code, "12456", false) || is_text_code(code, "3", true);
-        for position in 0..6 {
-            let given = answered(THRESHOLDS, &thresholds_words(), 4 + position, code);
-            checks.check("detector code of thresholds", given == Some(detector));
-            let given = answered(TRIGGER_RATES, &trigger_rates_words(), 2 + position, code);
-            checks.check("detector code of trigger rates", given == Some(detector));
-        }
-        let veto = is_text_code(code, "3", true);
-        for position in 0..3 {
-            let given = answered(VETO_RATES, &veto_rates_words(), 2 + position, code);
-            checks.check("detector code of veto rates", given == Some(veto));
-        }
-        for position in 0..9 {
-            let given = answered(THRESHOLDS, &thresholds_words(), 10 + position, code);
-            checks.check("operation code", given == Some(listed.contains(&code)));
-        }
-        for position in 0..5 {
-            let given = answered(TRIGGER_RATES, &trigger_rates_words(), 8 + position, code);
-            checks.check("j-code", given == Some([1, 2, 3, 4, 5].contains(&code)));
-        }
-    }
-}
-
-// FORMAT 5.10, number 6: entries against the length, before any code.
-fn veto_length_examples(checks: &mut Checks) {
-    for length in 0..40u32 {
-        let many = [
-            0x1FFF_FFFF,
-            0x2000_0000,
-            0x2000_0001,
-            0x8000_0001,
-            0xFFFF_FFFF,
-        ];
-        for entries in (0..6).chain(many) {
-            let mut body = words(&[0, entries]);
-            body.resize(length as usize, 0);
-            let wanted = match (length >= 8 && length - 8 == 8 * (entries % 8), entries) {
-                (true, 0) => None,
-                (true, 1..=5) => Some(10),
-                _ => Some(6),
-            };
-            let given = record(&structure(VETO_RATES, &body), 0, true);
-            checks.check(
-                "veto length",
-                given.err() == wanted.map(|number| (number, 0)),
-            );
-        }
-    }
-}
-
-// FORMAT 5.3, 5.8, 8.6, 8.7: one record with two meanings; what takes no flag reads as outside.
-fn meaning_examples(checks: &mut Checks) {
-    let file = structure_of(THRESHOLDS, &two_meanings());
-    let history = Record::History {
-        nvt: 2,
-        veto_times: 12,
-        nvw: 9,
-        veto_masks: 24,
-        ntt: 7,
-        trigger_times: 100,
-        ntw: 6,
-        trigger_masks: 132,
-    };
-    checks.check("meaning outside", record(&file, 0, false) == Ok(history));
-    let inside = matches!(
-        record(&file, 0, true),
-        Ok(Record::Thresholds { tower: 9, .. })
-    );
-    checks.check("meaning inside", inside);
-    let single = with_monitoring(&[file]);
-    checks.check(
-        "meaning by type 7",
-        table(&single).rows[3] == [12, 24, 300, 3, 9, 0],
-    );
-    checks.check("samples in type 7", samples(&single, 24) == (0, 0));
-    checks.check("sample in type 7", sample(&single, 24, 1) == Err((5, 24)));
-    checks.check("setting in type 7", setting(&single, 24) == Err((5, 24)));
-    let single = with_monitoring(&[good_monitoring(THRESHOLDS)]);
-    checks.check(
-        "sample of no history",
-        sample(&single, 24, 1) == Err((10, 24)),
-    );
-    checks.check(
-        "setting of no history",
-        setting(&single, 24) == Err((10, 24)),
-    );
-    let single = with_monitoring(&[good_monitoring(TRIGGER_RATES)]);
-    checks.check(
-        "sample of trigger rates",
-        sample(&single, 24, 1) == Err((5, 24)),
-    );
-    checks.check(
-        "trace told monitoring",
-        record(&trace_of(2), 0, true) == Err((5, 0)),
-    );
-}
-
-// FORMAT 8.8: monitoring events have no number and no trace.
-fn passing_over_examples(checks: &mut Checks) {
-    let administrative = |number: u32| structure_of(ADMINISTRATIVE, &[101, 0, number, 0, 0, 0]);
-    let short = event(MONITORING, &[structure_of(VETO_RATES, &[9, 0])]);
-    let long = event(MONITORING, &MONITORING_KINDS.map(good_monitoring));
-    let start = words(&[0x0102_0304, 0x0200, 0x0001_0000, 0]);
-    let with_trace = event(EVENT, &[administrative(1), trace_of(2)]);
-    let without = event(EVENT, &[administrative(2)]);
-    let code = 11_017_006;
-    for (events, place) in [
-        (vec![&short, &with_trace, &short], 16 + 24 + 40),
-        (vec![&with_trace, &long, &without, &short], 16 + 40),
-        (
-            vec![&without, &long, &short, &with_trace],
-            16 + 40 + 528 + 24 + 40,
-        ),
-    ] {
-        let events: Vec<u8> = events.into_iter().flatten().copied().collect();
-        let file = [start.clone(), events].concat();
-        checks.check("passing over", find(&file, 1, code) == Ok(Some(place)));
-        for number in [0, 2, 3, 9, 300, 0x3FFF, 1_000_000] {
-            checks.check("no number taken", find(&file, number, code) == Ok(None));
-        }
-        for other in [300, 301, 101, 401] {
-            checks.check("no code taken", find(&file, 1, other) == Ok(None));
-        }
-    }
-    let alone = [start, short].concat();
-    for number in [0, 9] {
-        checks.check("monitoring alone", find(&alone, number, code) == Ok(None));
-    }
-}
-
 // FORMAT 1.1, number 1: exactly 16,777,216 bytes are read, one more gives 1.
 fn limit_examples(checks: &mut Checks) {
     let mut file = full_of_traces();
@@ -859,10 +547,7 @@ fn limit_examples(checks: &mut Checks) {
     checks.check("last trace", sample(&file, last, 25_572) == Ok(25_571));
     file.push(0);
     checks.check("over the limit", answer(&file) == (1, 0));
-    checks.check(
-        "over the limit, record",
-        record(&file, last, false) == Err((1, 0)),
-    );
+    checks.check("over the limit, record", record(&file, last) == Err((1, 0)));
     checks.check(
         "over the limit, setting",
         setting(&file, last) == Err((1, 0)),
@@ -885,15 +570,6 @@ fn limit_examples(checks: &mut Checks) {
         "history limit",
         file.len() == MOST_BYTES && answer(&file).0 == 0,
     );
-    let mut file = full_of_veto_rates();
-    let accepted = file.len() == MOST_BYTES && answer(&file).0 == 0;
-    checks.check(
-        "veto rates limit",
-        accepted && record(&file, 24, true).is_ok(),
-    );
-    file.push(0);
-    let refused = answer(&file) == (1, 0) && record(&file, 24, true) == Err((1, 0));
-    checks.check("veto rates over the limit", refused);
 }
 
 // FORMAT 2.2: the aimed cases give what they are said to give.
@@ -914,7 +590,7 @@ fn aimed_answers(checks: &mut Checks) {
         );
     }
     checks.check("full", full().len() == 396);
-    let last_place = record(&structure(TLB, &[0; 24]), u64::MAX, false);
+    let last_place = record(&structure(TLB, &[0; 24]), u64::MAX);
     checks.check("last place", last_place == Err((2, u64::MAX)));
 }
 
@@ -940,11 +616,8 @@ fn agreement(checks: &mut Checks) {
         for row in &given.rows {
             checks.check("walker's row", walker.step() == Yield::Row(*row));
             let is_record = ![1, 2, 5].contains(&row[0]);
-            let found = record(&file, u64::from(row[1]), row[0] >= 12);
+            let found = record(&file, u64::from(row[1]));
             checks.check("record at row", found.is_ok() == is_record);
-            if let Ok(found) = found {
-                checks.check("record's kind", row_kind(&found) == row[0]);
-            }
         }
         let last = match given.number {
             0 => Yield::End,
@@ -954,26 +627,5 @@ fn agreement(checks: &mut Checks) {
             "walker's end",
             walker.step() == last && walker.step() == last,
         );
-    }
-}
-
-// FORMAT 2.1, 7.2, 8.5: every number of a file, every kind of row and every answer of Record at
-// least a hundred times in twenty thousand random files.
-fn often_enough(checks: &mut Checks) {
-    let seen = tallies(3, 20_000);
-    for (number, times) in seen.numbers.iter().enumerate() {
-        let given = number != 1;
-        checks.check(&format!("number {number} often"), !given || *times >= 100);
-    }
-    for (kind, times) in seen.kinds.iter().enumerate().skip(1) {
-        checks.check(&format!("row kind {kind} often"), *times >= 100);
-    }
-    for kind in [3, 4, 6, 7, 8, 9, 10, 11] {
-        let fine = seen.records[kind] >= 100 && seen.monitoring_records[kind] == 0;
-        checks.check(&format!("Record's kind {kind} often"), fine);
-    }
-    for kind in [12, 13, 14] {
-        let fine = seen.monitoring_records[kind] >= 100 && seen.records[kind] == 0;
-        checks.check(&format!("Record's kind {kind} often"), fine);
     }
 }

@@ -15,76 +15,12 @@ pub const HISTORY: u32 = 0x21;
 pub const GPS: u32 = 0x60;
 pub const TRIGGER: u32 = 0x80;
 pub const TLB: u32 = 0x81;
-pub const THRESHOLDS: u32 = 0x21;
-pub const TRIGGER_RATES: u32 = 0x22;
-pub const VETO_RATES: u32 = 0x31;
-
-/// FORMAT 6.2: the first word of a monitoring event of class and category 0.
-pub const MONITORING: u32 = EVENT | 7;
 
 /// The kinds of an event's records.
 pub const RECORD_KINDS: [u32; 6] = [ADMINISTRATIVE, TRACE, HISTORY, GPS, TRIGGER, TLB];
 
-/// FORMAT 6.2: the kinds of a monitoring event's records.
-pub const MONITORING_KINDS: [u32; 3] = [THRESHOLDS, TRIGGER_RATES, VETO_RATES];
-
-/// FORMAT 6.2, number 8: the kinds that a monitoring event names without a layout.
-pub const NAMED_KINDS: [u32; 8] = [0x00, 0x10, 0x20, 0x30, 0x32, 0x40, 0x50, 0xF0];
-
-/// FORMAT 5.7: words at the ends of the runs of detector, operation and j-codes.
-pub const CODE_WORDS: [u32; 48] = [
-    0,
-    1,
-    4,
-    5,
-    6,
-    99,
-    100,
-    101,
-    199,
-    200,
-    201,
-    299,
-    300,
-    301,
-    340,
-    341,
-    399,
-    400,
-    401,
-    499,
-    500,
-    501,
-    599,
-    600,
-    601,
-    699,
-    700,
-    701,
-    1_000,
-    1_001,
-    1_002,
-    1_004,
-    1_005,
-    1_006,
-    1_101,
-    1_300,
-    2_000,
-    2_001,
-    2_003,
-    2_005,
-    2_006,
-    3_001,
-    4_001_002,
-    0x0100_012D,
-    0x7FFF_FFFF,
-    0x8000_012C,
-    0x8000_0001,
-    0xFFFF_FFFF,
-];
-
 /// Words that stand near some rule of docs/FORMAT.md.
-const TELLING_WORDS: [u32; 80] = [
+const TELLING_WORDS: [u32; 64] = [
     0,
     1,
     2,
@@ -112,7 +48,6 @@ const TELLING_WORDS: [u32; 80] = [
     29,
     32,
     33,
-    34,
     44,
     45,
     47,
@@ -120,23 +55,9 @@ const TELLING_WORDS: [u32; 80] = [
     49,
     50,
     52,
-    64,
     0x60,
     0x80,
     0x81,
-    101,
-    171,
-    172,
-    240,
-    291,
-    292,
-    296,
-    300,
-    400,
-    699,
-    1001,
-    1005,
-    2005,
     2359,
     2360,
     32_766,
@@ -147,8 +68,7 @@ const TELLING_WORDS: [u32; 80] = [
     CHARGE,
     MAGIC,
     EVENT,
-    MONITORING,
-    MONITORING + 0x2100,
+    EVENT + 7,
     EVENT + 0x0B,
     EVENT + 0x1000,
     EVENT + 0x2000,
@@ -264,108 +184,10 @@ pub fn valid_parts(random: &mut Random) -> Parts {
     Parts {
         version: (random.word() & 0xFFFF_0000) | 0x0200,
         entries: (0..entries).map(|_| entry(random)).collect(),
-        events: (0..events).map(|_| any_event(random)).collect(),
+        events: (0..events)
+            .map(|_| (first_word(random), records(random)))
+            .collect(),
     }
-}
-
-// FORMAT 6.2: an event, now and then a monitoring one.
-fn any_event(random: &mut Random) -> (u32, Vec<Vec<u8>>) {
-    let word = first_word(random);
-    if random.once_in(4) {
-        (with_type(word, 7), monitoring_records(random))
-    } else {
-        (word, records(random))
-    }
-}
-
-// FORMAT 6.2: a first word with another type.
-fn with_type(first_word: u32, event_type: u32) -> u32 {
-    first_word & 0xFFFF_FF00 | event_type
-}
-
-// FORMAT 6.2: at least one record, any of the three kinds in any order, repeated or not.
-fn monitoring_records(random: &mut Random) -> Vec<Vec<u8>> {
-    let many = match random.below(8) {
-        0..=3 => 1,
-        4 | 5 => 2,
-        _ => random.between(3, 5),
-    };
-    let mut records: Vec<Vec<u8>> = (0..many).map(|_| monitoring_record(random)).collect();
-    if random.once_in(4) {
-        let again = records[0].clone();
-        records.push(again);
-    }
-    records
-}
-
-// FORMAT 5.8, 5.9, 5.10: a record of one of the three kinds, the short one more often.
-fn monitoring_record(random: &mut Random) -> Vec<u8> {
-    match random.below(4) {
-        0 => thresholds(random),
-        1 => trigger_rates(random),
-        _ => veto_rates(random),
-    }
-}
-
-// FORMAT 5.8: thresholds.
-fn thresholds(random: &mut Random) -> Vec<u8> {
-    let mut body: Vec<u32> = (0..4).map(|_| free_word(random)).collect();
-    body.extend((0..6).map(|_| detector_code(random)));
-    body.extend((0..9).map(|_| operation_code(random)));
-    body.extend((0..54).map(|_| free_word(random)));
-    structure_of(THRESHOLDS, &body)
-}
-
-// FORMAT 5.9: trigger rates.
-fn trigger_rates(random: &mut Random) -> Vec<u8> {
-    let mut body: Vec<u32> = (0..2).map(|_| free_word(random)).collect();
-    body.extend((0..6).map(|_| detector_code(random)));
-    body.extend((0..5).map(|_| random.between(1, 5) as u32));
-    body.extend((0..30).map(|_| free_word(random)));
-    structure_of(TRIGGER_RATES, &body)
-}
-
-// FORMAT 5.10: veto rates, now and then without an entry.
-fn veto_rates(random: &mut Random) -> Vec<u8> {
-    let entries = match random.below(16) {
-        0..=3 => 0,
-        4..=12 => random.between(1, 4),
-        13 | 14 => random.between(5, 8),
-        _ => random.between(9, 41),
-    } as u32;
-    let mut body = vec![free_word(random), entries];
-    body.extend((0..entries).map(|_| veto_code(random)));
-    body.extend((0..entries).map(|_| free_word(random)));
-    structure_of(VETO_RATES, &body)
-}
-
-// FORMAT 5.7: a detector code of any type, often the first or last of its type.
-fn detector_code(random: &mut Random) -> u32 {
-    let detector_type = random.between(1, 6) as u32;
-    if detector_type == 3 {
-        return veto_code(random);
-    }
-    let number = match random.below(4) {
-        0 => 1,
-        1 => 99,
-        _ => random.between(1, 99) as u32,
-    };
-    100 * detector_type + number
-}
-
-// FORMAT 5.7: a detector code of the veto, or of its OR.
-fn veto_code(random: &mut Random) -> u32 {
-    match random.below(4) {
-        0 => random.pick(&[300, 301, 340, 341, 399]),
-        _ => random.between(300, 399) as u32,
-    }
-}
-
-// FORMAT 5.7: an operation code.
-fn operation_code(random: &mut Random) -> u32 {
-    random.pick(&[
-        1_001, 1_002, 1_003, 1_004, 2_001, 2_002, 2_003, 2_004, 2_005,
-    ])
 }
 
 // FORMAT 6.2: a first word of two classes, three categories and ten types.
@@ -640,18 +462,13 @@ fn damage_parts(random: &mut Random, parts: &mut Parts) {
         damage_list(random, &mut parts.entries);
     } else if !parts.events.is_empty() {
         let chosen = random.below(parts.events.len() as u64) as usize;
-        let (first_word, records) = &mut parts.events[chosen];
-        match random.below(6) {
-            0 => {
-                let stranger = foreign_structure(random, *first_word & 0xFF == 7);
-                let place = random.below(records.len() as u64 + 1) as usize;
-                records.insert(place, stranger);
-            }
-            1 if *first_word & 0xFF == 7 || random.once_in(4) => {
-                let event_type = if *first_word & 0xFF == 7 { 0 } else { 7 };
-                *first_word = with_type(*first_word, event_type);
-            }
-            _ => damage_list(random, records),
+        if random.once_in(6) {
+            let stranger = foreign_structure(random);
+            let records = &mut parts.events[chosen].1;
+            let place = random.below(records.len() as u64 + 1) as usize;
+            records.insert(place, stranger);
+        } else {
+            damage_list(random, &mut parts.events[chosen].1);
         }
     }
 }
@@ -672,32 +489,21 @@ fn damage_list(random: &mut Random, list: &mut Vec<Vec<u8>>) {
     }
 }
 
-// FORMAT 2.3: a structure of any kind, perhaps not allowed where it is put; in a monitoring event
-// often of a kind without a layout.
-fn foreign_structure(random: &mut Random, monitoring: bool) -> Vec<u8> {
-    if monitoring && random.once_in(3) {
-        return structure_of(random.pick(&NAMED_KINDS), &[0, 0]);
-    }
-    match random.below(10) {
+// FORMAT 2.3: a structure of any kind, perhaps not allowed where it is put.
+fn foreign_structure(random: &mut Random) -> Vec<u8> {
+    match random.below(6) {
         0 => entry(random),
         1 => configuration(&[]),
         2 => event(EVENT, &[administrative(random)]),
         3 => structure(random.pick(&RECORD_KINDS), &[]),
         4 => administrative(random),
-        5 => monitoring_record(random),
-        6 => structure(random.pick(&MONITORING_KINDS), &[]),
-        7 => history(random),
-        8 => trace(random),
         _ => structure_of(random.pick(&TELLING_WORDS), &[0, 0]),
     }
 }
 
 // FORMAT 2.2: one change of a file's bytes.
 fn damage_bytes(random: &mut Random, bytes: &mut Vec<u8>) {
-    if random.once_in(3) && damage_monitoring(random, bytes) {
-        return;
-    }
-    match random.below(15) {
+    match random.below(14) {
         0 => change_byte(random, bytes),
         1 => flip_bit(random, bytes),
         2 | 3 => change_word(random, bytes),
@@ -706,7 +512,6 @@ fn damage_bytes(random: &mut Random, bytes: &mut Vec<u8>) {
         6 | 7 => change_length(random, bytes),
         8 => change_kind(random, bytes),
         9 | 10 => change_field(random, bytes),
-        11 => change_sample_count(random, bytes),
         _ => change_header_or_event_word(random, bytes),
     }
 }
@@ -767,10 +572,8 @@ fn change_length(random: &mut Random, bytes: &mut [u8]) {
 // FORMAT 2.3: a kind word becomes another one.
 fn change_kind(random: &mut Random, bytes: &mut [u8]) {
     let place = likely_start(random, bytes);
-    let kind = match random.below(5) {
+    let kind = match random.below(3) {
         0 => random.pick(&TELLING_WORDS),
-        1 => random.pick(&MONITORING_KINDS),
-        2 => random.pick(&NAMED_KINDS),
         _ => random.pick(&RECORD_KINDS),
     };
     set_word(bytes, place, kind);
@@ -787,21 +590,6 @@ fn change_field(random: &mut Random, bytes: &mut [u8]) {
             _ => random.pick(&TELLING_WORDS),
         };
         set_word(bytes, place, value);
-    }
-}
-
-// FORMAT 5.2: one of a trace's two counts, or else any word.
-fn change_sample_count(random: &mut Random, bytes: &mut [u8]) {
-    let starts = likely_starts(bytes, |kind| kind == TRACE);
-    if starts.is_empty() {
-        change_word(random, bytes);
-    } else {
-        let place = random.pick(&starts) + random.pick(&[44, 52]);
-        set_word(
-            bytes,
-            place,
-            random.pick(&[0, 1, 2, 3, 4, 16, 32_768, 32_770]),
-        );
     }
 }
 
@@ -824,118 +612,12 @@ fn change_header_or_event_word(random: &mut Random, bytes: &mut [u8]) {
     }
 }
 
-// FORMAT 5.7, 6.2: one change of a monitoring event or its records; says whether there is one.
-fn damage_monitoring(random: &mut Random, bytes: &mut [u8]) -> bool {
-    let found = monitoring_places(bytes);
-    if found.is_empty() {
-        return false;
-    }
-    let (event_place, place) = random.pick(&found);
-    match random.below(9) {
-        0 | 1 => set_word(bytes, place, random.pick(&NAMED_KINDS)),
-        2 => {
-            let kinds = [
-                0x01,
-                0x12,
-                0x23,
-                0x2F,
-                0x33,
-                0x41,
-                0xF1,
-                0x0001_0021,
-                0x8000_0022,
-            ];
-            let kind = match random.below(3) {
-                0 => random.pick(&kinds),
-                1 => random.pick(&MONITORING_KINDS),
-                _ => random.pick(&RECORD_KINDS),
-            };
-            set_word(bytes, place, kind);
-        }
-        3 => shift_word(random, bytes, place + 4),
-        4 | 5 => change_code(random, bytes, place),
-        6 => change_entries(random, bytes, place),
-        7 => {
-            let event_type = random.pick(&[0, 3, 6, 8, 0xA, 0xB]);
-            let held = word_at(bytes, event_place).unwrap_or(MONITORING);
-            set_word(bytes, event_place, with_type(held, event_type));
-        }
-        _ => shift_word(random, bytes, event_place + 4),
-    }
-    true
-}
-
-// FORMAT 6.2: the places of monitoring records, each with its event's, as far as a file can be
-// followed by its lengths.
-fn monitoring_places(bytes: &[u8]) -> Vec<(usize, usize)> {
-    let mut found = Vec::new();
-    let mut place = 8;
-    while let Some(end) = end_by_length(bytes, place) {
-        if word_at(bytes, place).map_or(false, |word| word >> 16 == EVENT >> 16 && word & 0xFF == 7)
-        {
-            let mut inner = place + 8;
-            while inner < end {
-                found.push((place, inner));
-                inner = end_by_length(bytes, inner).unwrap_or(end);
-            }
-        }
-        place = end;
-    }
-    found
-}
-
-// FORMAT 2.3: where a structure ends by its length word, if it stands in the bytes.
-fn end_by_length(bytes: &[u8], place: usize) -> Option<usize> {
-    let length = word_at(bytes, place.checked_add(4)?)?;
-    place.checked_add(8 + length as usize)
-}
-
-// FORMAT 5.7: one of the words of a monitoring record that hold codes, or one beside them.
-fn change_code(random: &mut Random, bytes: &mut [u8], place: usize) {
-    let number = match word_at(bytes, place) {
-        Some(THRESHOLDS) => random.between(3, 19),
-        Some(TRIGGER_RATES) => random.between(1, 13),
-        _ => random.between(2, 6),
-    } as usize;
-    if place + 12 + 4 * number <= bytes.len() {
-        set_word(bytes, place + 8 + 4 * number, random.pick(&CODE_WORDS));
-    }
-}
-
-// FORMAT 5.10: the second word, which is the entries of veto rates.
-fn change_entries(random: &mut Random, bytes: &mut [u8], place: usize) {
-    let held = word_at(bytes, place + 12).unwrap_or(0);
-    let value = match random.below(4) {
-        0 => held.wrapping_add(1),
-        1 => held.wrapping_sub(1),
-        2 => held ^ random.pick(&[0x2000_0000, 0x4000_0000, 0x8000_0000]),
-        _ => random.pick(&[0, 1, 41, 0x1FFF_FFFF, 0x2000_0000, 0xFFFF_FFFF]),
-    };
-    if place + 16 <= bytes.len() {
-        set_word(bytes, place + 12, value);
-    }
-}
-
-// FORMAT 2.3: a word that goes up or down a little, by bytes or by words.
-fn shift_word(random: &mut Random, bytes: &mut [u8], place: usize) {
-    if let Some(held) = word_at(bytes, place) {
-        let by = random.pick(&[1, 2, 4, 8, 16, 32, 120, 0x2000_0000]);
-        let value = match random.below(3) {
-            0 => held.wrapping_add(by),
-            1 => held.wrapping_sub(by),
-            _ => random.pick(&[0, 7, 8, 16, 171, 172, 173, 288, 291, 292, 293, 296]),
-        };
-        set_word(bytes, place, value);
-    }
-}
-
 // FORMAT 2.3: a place where some structure seems to start, or else byte 0.
 pub fn likely_start(random: &mut Random, bytes: &[u8]) -> usize {
     let starts = likely_starts(bytes, |kind| {
         kind >> 16 == EVENT >> 16
             || (CONFIGURATION..=CHARGE).contains(&kind)
             || RECORD_KINDS.contains(&kind)
-            || MONITORING_KINDS.contains(&kind)
     });
     if starts.is_empty() {
         0

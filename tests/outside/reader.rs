@@ -60,28 +60,6 @@ pub enum Record {
     },
     Trigger([u32; 6]),
     Tlb([u32; 6]),
-    Thresholds {
-        minimum: u32,
-        maximum: u32,
-        range: u32,
-        tower: u32,
-        codes: u64,
-        operations: u64,
-        values: u64,
-    },
-    TriggerRates {
-        interval: u32,
-        tower: u32,
-        codes: u64,
-        lines: u64,
-        counters: u64,
-    },
-    VetoRates {
-        interval: u32,
-        entries: u32,
-        codes: u64,
-        counters: u64,
-    },
 }
 
 /// FORMAT 8.6: an entry in working units.
@@ -141,49 +119,18 @@ const GPS: u32 = 0x60;
 const TRIGGER: u32 = 0x80;
 const TLB: u32 = 0x81;
 
-const THRESHOLDS: u32 = 0x21;
-const TRIGGER_RATES: u32 = 0x22;
-const VETO_RATES: u32 = 0x31;
-
-/// FORMAT 6.2: the type of a monitoring event.
-const MONITORING_TYPE: u32 = 7;
-
-/// FORMAT 6.1: what kind words are known at a place: those that are read there (any other is 5),
-/// and those that have a name there but no layout (8).
-struct Kinds {
-    read: &'static [u32],
-    named: &'static [u32],
-}
-
-const CONTAINERS: Kinds = Kinds {
-    read: &[CONFIGURATION],
-    named: &[],
-};
-const ENTRIES: Kinds = Kinds {
-    read: &[PHONON, CHARGE],
-    named: &[],
-};
-const RECORDS: Kinds = Kinds {
-    read: &[ADMINISTRATIVE, TRACE, HISTORY, GPS, TRIGGER, TLB],
-    named: &[],
-};
-const RECORDS_AND_ENTRIES: Kinds = Kinds {
-    read: &[
-        PHONON,
-        CHARGE,
-        ADMINISTRATIVE,
-        TRACE,
-        HISTORY,
-        GPS,
-        TRIGGER,
-        TLB,
-    ],
-    named: &[],
-};
-const MONITORING_RECORDS: Kinds = Kinds {
-    read: &[THRESHOLDS, TRIGGER_RATES, VETO_RATES],
-    named: &[0x00, 0x10, 0x20, 0x30, 0x32, 0x40, 0x50, 0xF0],
-};
+const ENTRIES: [u32; 2] = [PHONON, CHARGE];
+const RECORDS: [u32; 6] = [ADMINISTRATIVE, TRACE, HISTORY, GPS, TRIGGER, TLB];
+const RECORDS_AND_ENTRIES: [u32; 8] = [
+    PHONON,
+    CHARGE,
+    ADMINISTRATIVE,
+    TRACE,
+    HISTORY,
+    GPS,
+    TRIGGER,
+    TLB,
+];
 
 /// FORMAT 2.3: a kind word, a length word and a body.
 struct Structure {
@@ -200,31 +147,12 @@ impl Structure {
 
     // FORMAT 2.3: a word after the length word, from 0.
     fn word(&self, file: &[u8], number: u64) -> u32 {
-        word(file, self.place_of(number))
-    }
-
-    // FORMAT 2.3: where that word stands in the lent bytes.
-    fn place_of(&self, number: u64) -> u64 {
-        self.start + 8 + 4 * number
+        word(file, self.start + 8 + 4 * number)
     }
 
     // FORMAT 2.2: a test of this structure, refused at its first byte.
     fn require(&self, holds: bool, number: u32) -> Result<(), Refusal> {
         require(holds, number, self.start)
-    }
-
-    // FORMAT 5.7, number 10: a list of codes, from a word on: each of them is one.
-    fn require_codes(
-        &self,
-        file: &[u8],
-        first: u64,
-        count: u64,
-        is_code: fn(u32) -> bool,
-    ) -> Result<(), Refusal> {
-        for number in first..first + count {
-            self.require(is_code(self.word(file, number)), 10)?;
-        }
-        Ok(())
     }
 }
 
@@ -265,12 +193,11 @@ fn structure(
     file: &[u8],
     place: u64,
     parent_end: u64,
-    known: &Kinds,
+    allowed: &[u32],
 ) -> Result<Structure, Refusal> {
     room(place, parent_end)?;
     let kind = word(file, place);
-    require(!known.named.contains(&kind), 8, place)?;
-    require(known.read.contains(&kind), 5, place)?;
+    require(allowed.contains(&kind), 5, place)?;
     let end = end_in_parent(file, place, parent_end)?;
     Ok(Structure {
         kind,
@@ -290,15 +217,6 @@ fn contents(file: &[u8], given: &Structure) -> Result<Record, Refusal> {
         GPS => gps(file, given),
         TRIGGER => trigger(file, given),
         _ => tlb(file, given),
-    }
-}
-
-// FORMAT 6.1, 6.2: the same in a monitoring event, where kind words have other meanings.
-fn monitoring_contents(file: &[u8], given: &Structure) -> Result<Record, Refusal> {
-    match given.kind {
-        THRESHOLDS => thresholds(file, given),
-        TRIGGER_RATES => trigger_rates(file, given),
-        _ => veto_rates(file, given),
     }
 }
 
@@ -547,80 +465,6 @@ fn six_words(file: &[u8], given: &Structure, first: u64) -> [u32; 6] {
     words
 }
 
-// FORMAT 5.8: thresholds, 292 bytes: four free words, then 6 detector codes, 9 operation codes
-// and a value for each pair of these.
-fn thresholds(file: &[u8], given: &Structure) -> Result<Record, Refusal> {
-    given.require(given.length() == 292, 6)?;
-    given.require_codes(file, 4, 6, is_detector)?;
-    given.require_codes(file, 10, 9, is_operation)?;
-    Ok(Record::Thresholds {
-        minimum: given.word(file, 0),
-        maximum: given.word(file, 1),
-        range: given.word(file, 2),
-        tower: given.word(file, 3),
-        codes: given.place_of(4),
-        operations: given.place_of(10),
-        values: given.place_of(19),
-    })
-}
-
-// FORMAT 5.9: trigger rates, 172 bytes: two free words, then 6 detector codes, 5 j-codes and a
-// counter for each pair of these.
-fn trigger_rates(file: &[u8], given: &Structure) -> Result<Record, Refusal> {
-    given.require(given.length() == 172, 6)?;
-    given.require_codes(file, 2, 6, is_detector)?;
-    given.require_codes(file, 8, 5, is_line)?;
-    Ok(Record::TriggerRates {
-        interval: given.word(file, 0),
-        tower: given.word(file, 1),
-        codes: given.place_of(2),
-        lines: given.place_of(8),
-        counters: given.place_of(13),
-    })
-}
-
-// FORMAT 5.10: veto rates: a free word and the number of entries, then a code for each entry and
-// a counter for each. The length is the entries' before a code is looked at.
-fn veto_rates(file: &[u8], given: &Structure) -> Result<Record, Refusal> {
-    given.require(given.length() >= 8, 6)?;
-    let entries = given.word(file, 1);
-    let many = u64::from(entries);
-    given.require(given.length() == 8 + 8 * many, 6)?;
-    given.require_codes(file, 2, many, is_veto)?;
-    Ok(Record::VetoRates {
-        interval: given.word(file, 0),
-        entries,
-        codes: given.place_of(2),
-        counters: given.place_of(2 + many),
-    })
-}
-
-// FORMAT 5.7: a detector code by its digits: one for the detector's type, two for its number,
-// which is 00 for the veto's OR alone.
-fn is_detector(code: u32) -> bool {
-    let (detector_type, number) = (code / 100, code % 100);
-    (1..=6).contains(&detector_type) && (number != 0 || detector_type == 3)
-}
-
-// FORMAT 5.7: a detector code of the veto.
-fn is_veto(code: u32) -> bool {
-    is_detector(code) && code / 100 == 3
-}
-
-// FORMAT 5.7: an operation code: a phonon offset of A to D, or the threshold of a line.
-fn is_operation(code: u32) -> bool {
-    match code / 1_000 {
-        1 => (1..=4).contains(&(code % 1_000)),
-        2 => is_line(code % 1_000),
-        _ => false,
-    }
-}
-
-// FORMAT 5.7: a j-code: Qhigh, Qlow, Phigh, Plow, Whisper.
-fn is_line(code: u32) -> bool {
-    (1..=5).contains(&code)
-}
-
 /// FORMAT 5.6: whether a word has the bit of a ZIP, from 1 to 24.
 pub fn zip(word: u32, zip: u32) -> bool {
     (1..=24).contains(&zip) && (word >> (zip - 1)) & 1 == 1
@@ -756,7 +600,7 @@ fn header(file: &[u8]) -> Result<Row, Refusal> {
 
 // FORMAT 6.3: the configuration at byte 8 and its entries; gives its end.
 fn configuration(file: &[u8], rows: &mut Vec<Row>) -> Result<u64, Refusal> {
-    let own = structure(file, 8, file.len() as u64, &CONTAINERS)?;
+    let own = structure(file, 8, file.len() as u64, &[CONFIGURATION])?;
     let own_row = rows.len();
     rows.push(row(2, &own, 0, (0, 0)));
     let mut place = own.start + 8;
@@ -775,15 +619,12 @@ fn event(file: &[u8], start: u64, rows: &mut Vec<Row>) -> Result<u64, Refusal> {
     let own = event_structure(file, start)?;
     let own_row = rows.len();
     rows.push(row(5, &own, 0, (own.kind & 0xFFFF, 0)));
-    let monitoring = own.kind & 0xFF == MONITORING_TYPE;
     let mut seen = Vec::new();
     let mut place = own.start + 8;
     while place < own.end {
-        let (given, record) = if monitoring {
-            monitoring_record(file, place, own.end)?
-        } else {
-            event_record(file, place, own.end, &mut seen)?
-        };
+        let given = structure(file, place, own.end, &RECORDS)?;
+        event_rules(&given, &mut seen)?;
+        let record = contents(file, &given)?;
         rows.push(record_row(file, &given, &record, own_row));
         rows[own_row][5] += 1;
         place = given.end;
@@ -791,32 +632,7 @@ fn event(file: &[u8], start: u64, rows: &mut Vec<Row>) -> Result<u64, Refusal> {
     Ok(own.end)
 }
 
-// FORMAT 6.2: a record of an event of any type but monitoring.
-fn event_record(
-    file: &[u8],
-    place: u64,
-    event_end: u64,
-    seen: &mut Vec<u32>,
-) -> Result<(Structure, Record), Refusal> {
-    let given = structure(file, place, event_end, &RECORDS)?;
-    event_rules(&given, seen)?;
-    let record = contents(file, &given)?;
-    Ok((given, record))
-}
-
-// FORMAT 6.2: a record of a monitoring event; such records come in any order and number. The
-// parent's end is the event's, or the file's for a record read alone.
-fn monitoring_record(
-    file: &[u8],
-    place: u64,
-    parent_end: u64,
-) -> Result<(Structure, Record), Refusal> {
-    let given = structure(file, place, parent_end, &MONITORING_RECORDS)?;
-    let record = monitoring_contents(file, &given)?;
-    Ok((given, record))
-}
-
-// FORMAT 6.2: an event's own tests: room, 0xA980, 7, its length against
+// FORMAT 6.2: an event's own tests: room, 0xA980, 7, 8, its length against
 // the file, then 9 for length 0.
 fn event_structure(file: &[u8], start: u64) -> Result<Structure, Refusal> {
     room(start, file.len() as u64)?;
@@ -828,6 +644,7 @@ fn event_structure(file: &[u8], start: u64) -> Result<Structure, Refusal> {
     require(class == 0 || class == 2, 7, start)?;
     require([0, 1, 6].contains(&category), 7, start)?;
     require(event_type <= 0xA, 7, start)?;
+    require(event_type != 7, 8, start)?;
     let end = end_in_parent(file, start, file.len() as u64)?;
     require(end > start + 8, 9, start)?;
     Ok(Structure {
@@ -877,9 +694,6 @@ fn record_row(file: &[u8], given: &Structure, record: &Record, parent_index: usi
         Record::Gps { .. } => (given.word(file, 0), given.word(file, 1)),
         Record::Trigger(masks) => (masks[0], masks[1]),
         Record::Tlb(masks) => (masks[0], masks[1]),
-        Record::Thresholds { tower, .. } => (*tower, 0),
-        Record::TriggerRates { tower, .. } => (*tower, 0),
-        Record::VetoRates { entries, .. } => (*entries, 0),
     };
     row(row_kind(record), given, parent_index as u32 + 1, values)
 }
@@ -895,9 +709,6 @@ pub fn row_kind(record: &Record) -> u32 {
         Record::Gps { .. } => 9,
         Record::Trigger(_) => 10,
         Record::Tlb(_) => 11,
-        Record::Thresholds { .. } => 12,
-        Record::TriggerRates { .. } => 13,
-        Record::VetoRates { .. } => 14,
     }
 }
 
@@ -930,23 +741,16 @@ impl Walk {
     }
 }
 
-/// FORMAT 8.5: what stands at a place, read without what stands around it; the caller says
-/// whether that is a monitoring event.
-pub fn record(file: &[u8], place: u64, monitoring: bool) -> Result<Record, Refusal> {
+/// FORMAT 8.5: what stands at a place, read without what stands around it.
+pub fn record(file: &[u8], place: u64) -> Result<Record, Refusal> {
     limit(file)?;
-    let end = file.len() as u64;
-    if monitoring {
-        let (_, record) = monitoring_record(file, place, end)?;
-        Ok(record)
-    } else {
-        let given = structure(file, place, end, &RECORDS_AND_ENTRIES)?;
-        contents(file, &given)
-    }
+    let given = structure(file, place, file.len() as u64, &RECORDS_AND_ENTRIES)?;
+    contents(file, &given)
 }
 
 /// FORMAT 8.6: an entry in working units; after Record's refusals 5 for what is no entry.
 pub fn setting(file: &[u8], place: u64) -> Result<Setting, Refusal> {
-    match record(file, place, false)? {
+    match record(file, place)? {
         Record::Phonon(words) => Ok(Setting::Phonon {
             code: words[0],
             tower: words[1],
@@ -982,7 +786,7 @@ fn hundredth(word: i32) -> f64 {
 /// FORMAT 8.7: where the samples of the trace at a place start, and how many bytes they are;
 /// no bytes where there is no trace.
 pub fn samples(file: &[u8], place: u64) -> (u64, u64) {
-    match record(file, place, false) {
+    match record(file, place) {
         Ok(Record::Trace { n, .. }) => (place + 8 + 48, 2 * u64::from(n)),
         _ => (0, 0),
     }
@@ -990,7 +794,7 @@ pub fn samples(file: &[u8], place: u64) -> (u64, u64) {
 
 /// FORMAT 8.7: a sample by number, from 1: a word has two, the first in its lower half.
 pub fn sample(file: &[u8], place: u64, number: u64) -> Result<u16, Refusal> {
-    match record(file, place, false)? {
+    match record(file, place)? {
         Record::Trace { n, .. } => {
             require(number >= 1 && number <= u64::from(n), 11, place)?;
             let pair = word(file, place + 8 + 48 + 4 * ((number - 1) / 2));
@@ -1005,8 +809,7 @@ pub fn sample(file: &[u8], place: u64, number: u64) -> Result<u16, Refusal> {
     }
 }
 
-/// FORMAT 8.8: by the rows: the place of the first trace of a code in events of a number. A
-/// monitoring event has neither of the rows that are asked for.
+/// FORMAT 8.8: by the rows: the place of the first trace of a code in events of a number.
 pub fn find(file: &[u8], number: u32, code: u32) -> Result<Option<u64>, Refusal> {
     let mut carries_number = false;
     for found in rows(file)? {

@@ -11,9 +11,8 @@
 
 use super::files::{
     likely_start, random_file, set_word, structure_of, structure_saying, valid_parts, word_at,
-    words, Parts, ADMINISTRATIVE, CHARGE, CODE_WORDS, CONFIGURATION, EVENT, GPS, HISTORY, MAGIC,
-    MONITORING_KINDS, NAMED_KINDS, PHONON, THRESHOLDS, TLB, TRACE, TRIGGER, TRIGGER_RATES, VERSION,
-    VETO_RATES,
+    words, Parts, ADMINISTRATIVE, CHARGE, CONFIGURATION, EVENT, GPS, HISTORY, MAGIC, PHONON, TLB,
+    TRACE, TRIGGER, VERSION,
 };
 use super::random::Random;
 use super::reader::{record, Record, MOST_BYTES};
@@ -86,31 +85,6 @@ pub enum Call {
     Tlb {
         place: usize,
         masks: [u32; 6],
-    },
-    Thresholds {
-        place: usize,
-        minimum: u32,
-        maximum: u32,
-        range: u32,
-        tower: u32,
-        codes: Vec<u8>,
-        operations: Vec<u8>,
-        values: Vec<u8>,
-    },
-    TriggerRates {
-        place: usize,
-        interval: u32,
-        tower: u32,
-        codes: Vec<u8>,
-        lines: Vec<u8>,
-        counters: Vec<u8>,
-    },
-    VetoRates {
-        place: usize,
-        interval: u32,
-        entries: u32,
-        codes: Vec<u8>,
-        counters: Vec<u8>,
     },
     CloseConfiguration {
         place: usize,
@@ -210,33 +184,6 @@ pub fn perform(call: &Call, out: &mut [u8]) -> Answer {
         ),
         Call::Trigger { place, masks } => writer::trigger(out, *place, masks),
         Call::Tlb { place, masks } => writer::tlb(out, *place, masks),
-        Call::Thresholds {
-            place,
-            minimum,
-            maximum,
-            range,
-            tower,
-            codes,
-            operations,
-            values,
-        } => writer::thresholds(
-            out, *place, *minimum, *maximum, *range, *tower, codes, operations, values,
-        ),
-        Call::TriggerRates {
-            place,
-            interval,
-            tower,
-            codes,
-            lines,
-            counters,
-        } => writer::trigger_rates(out, *place, *interval, *tower, codes, lines, counters),
-        Call::VetoRates {
-            place,
-            interval,
-            entries,
-            codes,
-            counters,
-        } => writer::veto_rates(out, *place, *interval, *entries, codes, counters),
         Call::CloseConfiguration { place, end, .. } => {
             writer::close_configuration(out, *place, *end)
         }
@@ -285,9 +232,6 @@ impl Call {
             | Call::Gps { place, .. }
             | Call::Trigger { place, .. }
             | Call::Tlb { place, .. }
-            | Call::Thresholds { place, .. }
-            | Call::TriggerRates { place, .. }
-            | Call::VetoRates { place, .. }
             | Call::CloseConfiguration { place, .. }
             | Call::CloseEvent { place, .. } => *place = given,
         }
@@ -306,9 +250,6 @@ impl Call {
             | Call::Gps { place, .. }
             | Call::Trigger { place, .. }
             | Call::Tlb { place, .. }
-            | Call::Thresholds { place, .. }
-            | Call::TriggerRates { place, .. }
-            | Call::VetoRates { place, .. }
             | Call::CloseConfiguration { place, .. }
             | Call::CloseEvent { place, .. } => *place,
         }
@@ -336,21 +277,6 @@ impl Call {
             Call::Gps { .. } => 20,
             Call::Trigger { .. } => 36,
             Call::Tlb { .. } => 32,
-            Call::Thresholds {
-                codes,
-                operations,
-                values,
-                ..
-            } => 24 + codes.len() + operations.len() + values.len(),
-            Call::TriggerRates {
-                codes,
-                lines,
-                counters,
-                ..
-            } => 16 + codes.len() + lines.len() + counters.len(),
-            Call::VetoRates {
-                codes, counters, ..
-            } => 16 + codes.len() + counters.len(),
             Call::CloseConfiguration { .. } | Call::CloseEvent { .. } => 8,
             Call::Rewrite { file } => file.len(),
         }
@@ -474,11 +400,7 @@ fn tree_of(parts: &Parts) -> Tree {
     let [major, minor, _, _] = parts.version.to_be_bytes();
     Tree {
         daq: (major, minor),
-        entries: parts
-            .entries
-            .iter()
-            .map(|bytes| call_of(bytes, false))
-            .collect(),
+        entries: parts.entries.iter().map(|bytes| call_of(bytes)).collect(),
         end_shift: 0,
         events: parts.events.iter().map(event_of).collect(),
         gaps: false,
@@ -487,23 +409,19 @@ fn tree_of(parts: &Parts) -> Tree {
 
 // FORMAT 6.2: an event in parts as a tree's event.
 fn event_of((first_word, records): &(u32, Vec<Vec<u8>>)) -> Event {
-    let monitoring = first_word & 0xFF == 7;
     Event {
         class: first_word >> 12 & 0xF,
         category: first_word >> 8 & 0xF,
         event_type: first_word & 0xFF,
-        records: records
-            .iter()
-            .map(|bytes| call_of(bytes, monitoring))
-            .collect(),
+        records: records.iter().map(|bytes| call_of(bytes)).collect(),
         end_shift: 0,
     }
 }
 
-// FORMAT 9.2: the call that writes a valid structure, of a monitoring event or not.
-fn call_of(bytes: &[u8], monitoring: bool) -> Call {
+// FORMAT 9.2: the call that writes a valid structure.
+fn call_of(bytes: &[u8]) -> Call {
     let place = 0;
-    match record(bytes, 0, monitoring).expect("a valid structure") {
+    match record(bytes, 0).expect("a valid structure") {
         Record::Phonon(words) => Call::Phonon { place, words },
         Record::Charge(words) => Call::Charge { place, words },
         Record::Trigger(masks) => Call::Trigger { place, masks },
@@ -579,54 +497,10 @@ fn call_of(bytes: &[u8], monitoring: bool) -> Call {
             second,
             tenths,
         },
-        Record::Thresholds {
-            minimum,
-            maximum,
-            range,
-            tower,
-            codes,
-            operations,
-            values,
-        } => Call::Thresholds {
-            place,
-            minimum,
-            maximum,
-            range,
-            tower,
-            codes: words_from(bytes, codes, 6),
-            operations: words_from(bytes, operations, 9),
-            values: words_from(bytes, values, 54),
-        },
-        Record::TriggerRates {
-            interval,
-            tower,
-            codes,
-            lines,
-            counters,
-        } => Call::TriggerRates {
-            place,
-            interval,
-            tower,
-            codes: words_from(bytes, codes, 6),
-            lines: words_from(bytes, lines, 5),
-            counters: words_from(bytes, counters, 30),
-        },
-        Record::VetoRates {
-            interval,
-            entries,
-            codes,
-            counters,
-        } => Call::VetoRates {
-            place,
-            interval,
-            entries,
-            codes: words_from(bytes, codes, entries),
-            counters: words_from(bytes, counters, entries),
-        },
     }
 }
 
-// FORMAT 5.3, 5.8, 5.9, 5.10: the bytes of so many words.
+// FORMAT 5.3: the bytes of so many words.
 fn words_from(bytes: &[u8], start: u64, count: u32) -> Vec<u8> {
     let first = start as usize;
     bytes[first..first + 4 * count as usize].to_vec()
@@ -679,7 +553,7 @@ const CLASSES: [u32; 10] = [0, 1, 2, 3, 4, 15, 16, 18, 0x8000_0000, u32::MAX];
 /// FORMAT 6.2: category, four bits, 0, 1 or 6.
 const CATEGORIES: [u32; 12] = [0, 1, 2, 5, 6, 7, 15, 16, 17, 22, 0x8000_0000, u32::MAX];
 
-/// FORMAT 6.2: type, eight bits, 0 to 0xA.
+/// FORMAT 6.2: type, eight bits, 0 to 0xA but 7.
 const TYPES: [u32; 22] = [
     0,
     1,
@@ -805,54 +679,6 @@ const CONTENT_WORDS: [u32; 62] = [
     u32::MAX,
 ];
 
-/// FORMAT 5.7, 6.2: words near some rule of monitoring records, for contents.
-const MONITORING_WORDS: [u32; 44] = [
-    0,
-    1,
-    2,
-    3,
-    4,
-    5,
-    6,
-    7,
-    8,
-    0x10,
-    TRACE,
-    0x12,
-    0x20,
-    THRESHOLDS,
-    TRIGGER_RATES,
-    0x30,
-    VETO_RATES,
-    0x32,
-    0x40,
-    0x50,
-    GPS,
-    TLB,
-    100,
-    101,
-    171,
-    172,
-    200,
-    0xF0,
-    0xF1,
-    291,
-    292,
-    299,
-    300,
-    399,
-    400,
-    699,
-    700,
-    1_001,
-    1_004,
-    1_005,
-    2_001,
-    2_005,
-    0x2000_0003,
-    u32::MAX,
-];
-
 // FORMAT 3.2: codes of listed and unlisted types and channels, and codes past the end.
 fn codes() -> Vec<u32> {
     let mut list = vec![
@@ -957,9 +783,6 @@ pub fn variants(call: &Call) -> Vec<Call> {
         Call::Gps { .. } => gps_variants(call),
         Call::Trigger { masks, .. } => trigger_variants(masks),
         Call::Tlb { masks, .. } => tlb_variants(masks),
-        Call::Thresholds { .. } => thresholds_variants(call),
-        Call::TriggerRates { .. } => trigger_rates_variants(call),
-        Call::VetoRates { .. } => veto_rates_variants(call),
         _ => Vec::new(),
     }
 }
@@ -1300,193 +1123,6 @@ fn tlb_variants(masks: &[u32; 6]) -> Vec<Call> {
     list
 }
 
-// FORMAT 5.8, 5.9, 5.10: the lists of a monitoring record's call, in word order.
-fn lists_of(call: &mut Call) -> Vec<&mut Vec<u8>> {
-    match call {
-        Call::Thresholds {
-            codes,
-            operations,
-            values,
-            ..
-        } => vec![codes, operations, values],
-        Call::TriggerRates {
-            codes,
-            lines,
-            counters,
-            ..
-        } => vec![codes, lines, counters],
-        Call::VetoRates {
-            codes, counters, ..
-        } => vec![codes, counters],
-        _ => Vec::new(),
-    }
-}
-
-// FORMAT 5.8, 5.9, 5.10: the numbers of a monitoring record's call, in word order.
-fn numbers_of(call: &mut Call) -> Vec<&mut u32> {
-    match call {
-        Call::Thresholds {
-            minimum,
-            maximum,
-            range,
-            tower,
-            ..
-        } => vec![minimum, maximum, range, tower],
-        Call::TriggerRates {
-            interval, tower, ..
-        } => vec![interval, tower],
-        Call::VetoRates {
-            interval, entries, ..
-        } => vec![interval, entries],
-        _ => Vec::new(),
-    }
-}
-
-// FORMAT 5.8, 5.9, 5.10: the same call with one of its numbers changed.
-fn with_number(call: &Call, position: usize, value: u32) -> Call {
-    let mut copy = call.clone();
-    *numbers_of(&mut copy).swap_remove(position) = value;
-    copy
-}
-
-// FORMAT 5.7: the same call with a word of one of its lists changed, as far as the list goes.
-fn with_listed(call: &Call, list: usize, position: usize, value: u32) -> Call {
-    let mut copy = call.clone();
-    set_word(lists_of(&mut copy).swap_remove(list), 4 * position, value);
-    copy
-}
-
-// FORMAT 9.2, number 6: the same call with a list cut, or made longer by its own words again.
-fn with_size(call: &Call, list: usize, size: usize) -> Call {
-    let mut copy = call.clone();
-    let held = lists_of(&mut copy).swap_remove(list);
-    let own = if held.is_empty() {
-        words(&[300])
-    } else {
-        held.clone()
-    };
-    *held = own.into_iter().cycle().take(size).collect();
-    copy
-}
-
-// FORMAT 5.7, 9.2: each word of a list at and around the boundaries of the codes.
-fn listed_variants(call: &Call, list: usize, values: &[u32]) -> Vec<Call> {
-    let many = lists_of(&mut call.clone())[list].len() / 4;
-    let mut changed = Vec::new();
-    for position in 0..many {
-        for value in values {
-            changed.push(with_listed(call, list, position, *value));
-        }
-    }
-    changed
-}
-
-// FORMAT 9.2, numbers 6 and 10: each list's size off; the same with a word of each list that is
-// no code, so that it is seen which of the two comes first.
-fn size_variants(call: &Call) -> Vec<Call> {
-    let sizes: Vec<usize> = lists_of(&mut call.clone())
-        .iter()
-        .map(|list| list.len())
-        .collect();
-    let mut changed = Vec::new();
-    for (list, size) in sizes.iter().enumerate() {
-        let near = [-8, -5, -4, -1, 1, 4, 5, 8].map(|off| shifted(*size, off));
-        for other in near.into_iter().chain([0, 4, 2 * size]) {
-            let one = with_size(call, list, other);
-            for bad in 0..sizes.len() {
-                changed.push(with_listed(&one, bad, 0, 700));
-                changed.push(with_listed(&one, bad, sizes[bad] / 4 - 1, 0));
-            }
-            changed.push(one);
-        }
-        for later in list + 1..sizes.len() {
-            changed.push(with_size(&with_size(call, list, size + 4), later, 0));
-        }
-    }
-    changed
-}
-
-// FORMAT 5.8, 5.9: each number, each word of each list, each list's size. Values and counters
-// are free like the numbers.
-fn fixed_variants(call: &Call, numbers: usize) -> Vec<Call> {
-    let mut list = Vec::new();
-    for position in 0..numbers {
-        list.extend(FREE.map(|value| with_number(call, position, value)));
-    }
-    list.extend(listed_variants(call, 0, &CODE_WORDS));
-    list.extend(listed_variants(call, 1, &CODE_WORDS));
-    list.extend(listed_variants(call, 2, &[0, u32::MAX]));
-    list.extend(size_variants(call));
-    list
-}
-
-// FORMAT 5.8: thresholds with anything at a boundary, if their lists have a word to change.
-fn thresholds_variants(call: &Call) -> Vec<Call> {
-    fixed_variants(&with_words(call, [6, 9, 54]), 4)
-}
-
-// FORMAT 5.9: trigger rates with anything at a boundary.
-fn trigger_rates_variants(call: &Call) -> Vec<Call> {
-    fixed_variants(&with_words(call, [6, 5, 30]), 2)
-}
-
-// FORMAT 5.8, 5.9: the same call; a list of a wrong size takes its right one again.
-fn with_words(call: &Call, counts: [usize; 3]) -> Call {
-    let mut right = call.clone();
-    for (list, count) in counts.into_iter().enumerate() {
-        right = with_size(&right, list, 4 * count);
-    }
-    right
-}
-
-// FORMAT 5.10: veto rates of so many entries with lists of these sizes; every code is one.
-fn veto_rates_call(entries: u32, sizes: [usize; 2]) -> Call {
-    let mut codes = Vec::new();
-    for entry in 0..sizes[0] as u32 / 4 + 1 {
-        codes.extend(words(&[300 + entry % 100]));
-    }
-    codes.truncate(sizes[0]);
-    Call::VetoRates {
-        place: 0,
-        interval: 1_000_000,
-        entries,
-        codes,
-        counters: part(sizes[1]),
-    }
-}
-
-// FORMAT 5.10: veto rates of so many entries with lists of their size.
-fn right_veto_rates(entries: u32) -> Call {
-    veto_rates_call(entries, [4 * entries as usize; 2])
-}
-
-// FORMAT 5.10: veto rates with long lists.
-fn long_veto_rates() -> Vec<Call> {
-    LONG_LISTS.map(right_veto_rates).to_vec()
-}
-
-// FORMAT 5.10, number 6: entries with the sizes that the lists would have by 32-bit arithmetic,
-// where those are small, and with sizes off by one.
-fn veto_rates_variants(call: &Call) -> Vec<Call> {
-    let mut list: Vec<Call> = (0..=8).chain([40, 41]).map(right_veto_rates).collect();
-    list.extend(long_veto_rates());
-    list.extend(FREE.map(|value| with_number(call, 0, value)));
-    for entries in COUNTS.into_iter().chain([0x2000_0003, 0xC000_0003]) {
-        let wrapped = entries.wrapping_mul(4);
-        let size = if wrapped < 1_000 { wrapped as usize } else { 0 };
-        list.push(veto_rates_call(entries, [size; 2]));
-        list.push(veto_rates_call(entries, [0, size]));
-        list.push(veto_rates_call(entries, [size, 0]));
-        list.push(with_number(call, 1, entries));
-        list.push(with_listed(&with_number(call, 1, entries), 0, 0, 700));
-    }
-    let three = right_veto_rates(3);
-    list.extend(listed_variants(&three, 0, &CODE_WORDS));
-    list.extend(listed_variants(&three, 1, &[0, 1, u32::MAX]));
-    list.extend(size_variants(&three));
-    list
-}
-
 // ---------------------------------------------------------------------------------------------
 // Aimed calls.
 
@@ -1510,8 +1146,7 @@ pub fn aimed_calls() -> Vec<(Call, usize)> {
     list
 }
 
-// FORMAT 4, 5: one valid call of each of the eleven kinds: two entries, six records, three
-// monitoring records.
+// FORMAT 4, 5: one valid call of each of the eight kinds.
 fn bases() -> Vec<Call> {
     let place = 0;
     vec![
@@ -1561,34 +1196,12 @@ fn bases() -> Vec<Call> {
             place,
             masks: [0x0100_0004, 0x0200_0000, 0, 0x04FF_FFFF, 0x0500_0001, 0],
         },
-        Call::Thresholds {
-            place,
-            minimum: 0xFFFF_FFF6,
-            maximum: 10,
-            range: 0x3FFF,
-            tower: 2,
-            codes: words(&[101, 299, 300, 450, 599, 699]),
-            operations: words(&[
-                2_005, 2_004, 2_003, 2_002, 2_001, 1_004, 1_003, 1_002, 1_001,
-            ]),
-            values: part(216),
-        },
-        Call::TriggerRates {
-            place,
-            interval: 1_000_000,
-            tower: 5,
-            codes: words(&[401, 402, 403, 199, 201, 399]),
-            lines: words(&[1, 2, 3, 4, 5]),
-            counters: part(120),
-        },
-        right_veto_rates(3),
     ]
 }
 
-/// FORMAT 5.2, 5.3, 5.10: traces, histories and veto rates with long parts.
+/// FORMAT 5.2, 5.3: traces and histories with long parts.
 pub fn long_calls() -> Vec<Call> {
     let mut long = long_histories();
-    long.extend(long_veto_rates());
     for base in bases() {
         if matches!(base, Call::Trace { .. }) {
             long.extend(changed(&base, &AROUND_BLOCKS, |call, n| {
@@ -1679,36 +1292,11 @@ fn written(call: &Call) -> Vec<u8> {
     out
 }
 
-/// FORMAT 6.2, 6.3: the two entries, the six records of an event, the three of a monitoring
-/// event, as bytes.
-struct Members {
-    entries: Vec<Vec<u8>>,
-    records: Vec<Vec<u8>>,
-    monitoring: Vec<Vec<u8>>,
-}
-
-impl Members {
-    // All of them, one behind the other.
-    fn all(&self) -> Vec<Vec<u8>> {
-        [&self.entries[..], &self.records[..], &self.monitoring[..]].concat()
-    }
-}
-
-// FORMAT 6.2, 6.3: one valid member of each kind.
-fn valid_members() -> Members {
-    let mut entries: Vec<Vec<u8>> = bases().iter().map(written).collect();
-    let mut records = entries.split_off(2);
-    let monitoring = records.split_off(6);
-    Members {
-        entries,
-        records,
-        monitoring,
-    }
-}
-
-// FORMAT 5.10: veto rates without an entry, 16 bytes.
-fn shortest() -> Vec<u8> {
-    written(&right_veto_rates(0))
+// FORMAT 6.2, 6.3: the two entries, or the six records of an event, as bytes.
+fn valid_members() -> (Vec<Vec<u8>>, Vec<Vec<u8>>) {
+    let mut all: Vec<Vec<u8>> = bases().iter().map(written).collect();
+    let records = all.split_off(2);
+    (all, records)
 }
 
 // A closing over contents at a place, its end where they end; bytes are left over.
@@ -1736,15 +1324,10 @@ fn closing_to(event: Option<[u32; 3]>, place: usize, end: usize, contents: Vec<u
     }
 }
 
-// FORMAT 9.4: 7 before 9 for length 0 and before the contents.
+// FORMAT 9.4: 7, then 8, before 9 for length 0 and before the contents.
 fn aim_own_words(list: &mut Vec<(Call, usize)>) {
-    let members = valid_members();
-    let contents = [
-        members.records[0].clone(),
-        Vec::new(),
-        words(&[9, 9]),
-        shortest(),
-    ];
+    let (_, records) = valid_members();
+    let contents = [records[0].clone(), Vec::new(), words(&[9, 9])];
     for class in CLASSES {
         for category in CATEGORIES {
             for event_type in TYPES {
@@ -1757,29 +1340,21 @@ fn aim_own_words(list: &mut Vec<(Call, usize)>) {
     }
     for category in [0, 1, 6] {
         for cut in 0..40 {
-            for whole in [
-                members.records.concat(),
-                [shortest(), shortest(), shortest()].concat(),
-            ] {
-                let held = whole[..cut].to_vec();
-                list.push(closing(Some([2, category, 7]), 16, held.clone()));
-                list.push(closing(Some([2, category, 3]), 16, held));
-            }
+            let held = records.concat()[..cut].to_vec();
+            list.push(closing(Some([2, category, 7]), 16, held));
         }
     }
 }
 
 // FORMAT 9.4, number 13: places and ends around the output; before the own word.
 fn aim_ends(list: &mut Vec<(Call, usize)>) {
-    let members = valid_members();
+    let (entries, records) = valid_members();
     let kinds = [
-        (None, members.entries.concat()),
-        (Some([0, 0, 0]), members.records.concat()),
-        (Some([1, 0, 0]), members.records[0].clone()),
+        (None, entries.concat()),
+        (Some([0, 0, 0]), records.concat()),
+        (Some([1, 0, 0]), records[0].clone()),
         (None, Vec::new()),
         (Some([0, 0, 7]), Vec::new()),
-        (Some([0, 0, 7]), shortest()),
-        (Some([2, 6, 7]), members.monitoring.concat()),
     ];
     for (event, contents) in kinds {
         for place in [0, 1, 16] {
@@ -1814,88 +1389,30 @@ fn aim_ends_of(
     }
 }
 
-// FORMAT 9.4: the contents' own refusals, in a configuration, an event and a monitoring event;
-// then contents under another container's rules.
+// FORMAT 9.4: the contents' own refusals, in a configuration and an event.
 fn aim_contents(list: &mut Vec<(Call, usize)>) {
-    let members = valid_members();
-    for (event, contents) in container_contents(&members) {
-        list.push(closing(event, 5, contents));
-    }
-    for (event, base) in [
-        (None, &members.entries),
-        (Some([0, 0, 0]), &members.records),
-        (Some([0, 1, 7]), &members.monitoring),
-    ] {
+    let (entries, records) = valid_members();
+    for (event, base) in [(None, &entries), (Some([0, 0, 0]), &records)] {
+        for contents in contents_of(base, &[&entries[..], &records[..]].concat()) {
+            list.push(closing(event, 5, contents));
+        }
         let whole = base.concat();
         for end in 8..8 + whole.len() {
             let call = closing_to(event, 16, 16 + end, whole.clone());
             list.push((call, 16 + 8 + whole.len()));
         }
     }
-    aim_exchanged(&members, list);
-}
-
-// FORMAT 6.2, 9.4: every member, pair of members and row of members under every type and in a
-// configuration; a thresholds record stands for a history there, and the other way round.
-fn aim_exchanged(members: &Members, list: &mut Vec<(Call, usize)>) {
-    let mut all = members.all();
-    all.extend([two_meanings(), shortest()]);
-    let mut contents = vec![
-        members.entries.concat(),
-        members.records.concat(),
-        members.monitoring.concat(),
-        vec![0; 8],
-        vec![0; 16],
-    ];
-    for first in &all {
-        contents.push(first.clone());
-        for second in &all {
-            contents.push([&first[..], &second[..]].concat());
-        }
-    }
-    for held in contents {
-        list.push(closing(None, 3, held.clone()));
-        for event_type in [0, 6, 7, 8] {
-            list.push(closing(Some([0, 0, event_type]), 3, held.clone()));
-        }
-    }
-}
-
-// FORMAT 5.3, 5.8: bytes that are thresholds and a history: two veto times with nine masks each,
-// and seven trigger times.
-fn two_meanings() -> Vec<u8> {
-    let mut bytes = valid_members().monitoring[0].clone();
-    for (number, value) in [(0, 2), (3, 9), (22, 7), (30, 6)] {
-        set_word(&mut bytes, 8 + 4 * number, value);
-    }
-    bytes
-}
-
-// FORMAT 6.2, 6.3: the contents of each sort of container, changed once, with that container.
-fn container_contents(members: &Members) -> Vec<(Option<[u32; 3]>, Vec<u8>)> {
-    let strangers = members.all();
-    let mut list = Vec::new();
-    for (event, base, values) in [
-        (None, &members.entries, &CONTENT_WORDS[..]),
-        (Some([0, 0, 0]), &members.records, &CONTENT_WORDS[..]),
-        (Some([0, 0, 7]), &members.monitoring, &MONITORING_WORDS[..]),
-    ] {
-        for contents in contents_of(base, &strangers, values) {
-            list.push((event, contents));
-        }
-    }
-    list
 }
 
 // FORMAT 2.3, 9.4: contents made from valid members by
 // one change: of the list, of a word, of the length.
-fn contents_of(base: &[Vec<u8>], strangers: &[Vec<u8>], values: &[u32]) -> Vec<Vec<u8>> {
+fn contents_of(base: &[Vec<u8>], strangers: &[Vec<u8>]) -> Vec<Vec<u8>> {
     let mut list = member_changes(base, strangers);
     let whole = base.concat();
     for place in (0..whole.len()).step_by(4) {
-        for value in values {
+        for value in CONTENT_WORDS {
             let mut contents = whole.clone();
-            set_word(&mut contents, place, *value);
+            set_word(&mut contents, place, value);
             list.push(contents);
         }
     }
@@ -1923,11 +1440,8 @@ fn member_changes(base: &[Vec<u8>], strangers: &[Vec<u8>]) -> Vec<Vec<u8>> {
             list.push(exchanged.concat());
         }
     }
-    let kinds = [1, 0x12, 0x13, 0x23, 0x33, CONFIGURATION, EVENT, MAGIC];
-    let mut odd: Vec<Vec<u8>> = Vec::new();
-    for kind in kinds.into_iter().chain(NAMED_KINDS) {
-        odd.push(structure_of(kind, &[0, 0]));
-    }
+    let kinds = [0, 1, 0x10, 0x12, 0x13, 0x20, CONFIGURATION, EVENT, MAGIC];
+    let odd = kinds.map(|kind| structure_of(kind, &[0, 0]));
     for place in 0..=base.len() {
         for stranger in strangers.iter().chain(&odd) {
             let mut with = base.to_vec();
@@ -1960,11 +1474,10 @@ fn length_changes(base: &[Vec<u8>]) -> Vec<Vec<u8>> {
 
 // FORMAT 9.4, number 1: closings over outputs at the limit and over it.
 fn aim_closing_limits(list: &mut Vec<(Call, usize)>) {
-    let members = valid_members();
+    let (entries, records) = valid_members();
     let kinds = [
-        (None, members.entries.concat()),
-        (Some([0, 1, 2]), members.records.concat()),
-        (Some([0, 1, 7]), members.monitoring.concat()),
+        (None, entries.concat()),
+        (Some([0, 1, 2]), records.concat()),
         (Some([0, 0, 7]), Vec::new()),
         (Some([3, 0, 0]), Vec::new()),
     ];
@@ -1983,13 +1496,12 @@ fn aim_closing_limits(list: &mut Vec<(Call, usize)>) {
 }
 
 // FORMAT 6.5: a file from contents, as its configuration's or its event's.
-fn file_of(event: Option<[u32; 3]>, contents: &[u8]) -> Vec<u8> {
+fn file_of(event: bool, contents: &[u8]) -> Vec<u8> {
     let length = contents.len() as u32;
     let mut file = words(&[MAGIC, VERSION]);
-    if let Some([class, category, event_type]) = event {
-        let first_word = EVENT | class << 12 | category << 8 | event_type;
+    if event {
         file.extend(structure_of(CONFIGURATION, &[]));
-        file.extend(structure_saying(first_word, length, contents));
+        file.extend(structure_saying(EVENT, length, contents));
     } else {
         file.extend(structure_saying(CONFIGURATION, length, contents));
     }
@@ -1999,17 +1511,16 @@ fn file_of(event: Option<[u32; 3]>, contents: &[u8]) -> Vec<u8> {
 // FORMAT 9.5: the file's refusal before 13; accepted files into outputs
 // of every length around theirs.
 fn aim_rewrites(list: &mut Vec<(Call, usize)>) {
-    let members = valid_members();
-    for (event, contents) in container_contents(&members) {
-        let file = file_of(event, &contents);
-        let length = file.len() + contents.len() % 3;
-        list.push((Call::Rewrite { file }, length));
+    let (entries, records) = valid_members();
+    for (event, base) in [(false, &entries), (true, &records)] {
+        for contents in contents_of(base, &[&entries[..], &records[..]].concat()) {
+            let file = file_of(event, &contents);
+            let length = file.len() + contents.len() % 3;
+            list.push((Call::Rewrite { file }, length));
+        }
     }
-    let mut file = file_of(None, &members.entries.concat());
-    file.extend(&file_of(Some([0, 0, 7]), &shortest())[16..]);
-    file.extend(&file_of(Some([0, 0, 0]), &members.records.concat())[16..]);
-    file.extend(&file_of(Some([2, 6, 7]), &members.monitoring.concat())[16..]);
-    file.extend(&file_of(Some([0, 0, 7]), &shortest())[16..]);
+    let mut file = file_of(false, &entries.concat());
+    file.extend(&file_of(true, &records.concat())[16..]);
     for length in 0..file.len() + 8 {
         list.push((Call::Rewrite { file: file.clone() }, length));
     }
@@ -2039,10 +1550,9 @@ fn aim_file_headers(file: &[u8], list: &mut Vec<(Call, usize)>) {
 // FORMAT 9.5: 1 for either buffer, before the file's refusal and 13; the
 // limit is not asked of a list that is handed over.
 fn aim_rewrite_limits(list: &mut Vec<(Call, usize)>) {
-    let members = valid_members();
-    let good = file_of(Some([0, 0, 0]), &members.records.concat());
-    let monitoring = file_of(Some([0, 0, 7]), &members.monitoring.concat());
-    for file in [good, monitoring, words(&[MAGIC]), Vec::new()] {
+    let (_, records) = valid_members();
+    let good = file_of(true, &records.concat());
+    for file in [good, words(&[MAGIC]), Vec::new()] {
         list.push((Call::Rewrite { file: file.clone() }, MOST_BYTES));
         list.push((Call::Rewrite { file }, MOST_BYTES + 1));
     }
@@ -2052,7 +1562,6 @@ fn aim_rewrite_limits(list: &mut Vec<(Call, usize)>) {
     }
     let counts = [4_194_305, 1, 0, 0];
     list.push((history_call(counts, list_sizes(counts)), 64));
-    list.push((right_veto_rates(4_194_305), 64));
 }
 
 // ---------------------------------------------------------------------------------------------
@@ -2103,10 +1612,7 @@ fn random_closing(random: &mut Random) -> (Call, usize) {
     let parts = valid_parts(random);
     let place = random.below(40) as usize;
     let (event, mut contents) = match parts.events.first() {
-        Some((first_word, records)) if !random.once_in(3) => {
-            let own = own_word(random, *first_word & 0xFF == 7);
-            (Some(own), records.concat())
-        }
+        Some((_, records)) if !random.once_in(3) => (Some(own_word(random)), records.concat()),
         _ => (None, parts.entries.concat()),
     };
     for _ in 0..random.below(4) {
@@ -2117,15 +1623,12 @@ fn random_closing(random: &mut Random) -> (Call, usize) {
     (closing_to(event, place, end, contents), length)
 }
 
-// FORMAT 6.2: class, category and type, admitted in most cases; monitoring or not, as the
-// contents are in most cases.
-fn own_word(random: &mut Random, monitoring: bool) -> [u32; 3] {
-    let ordinary = random.pick(&[0, 1, 2, 3, 4, 5, 6, 8, 9, 0xA]);
-    let exchanged = random.once_in(16);
+// FORMAT 6.2: class, category and type, admitted in most cases.
+fn own_word(random: &mut Random) -> [u32; 3] {
     let mut own = [
         random.pick(&[0, 2]),
         random.pick(&[0, 1, 6]),
-        if monitoring != exchanged { 7 } else { ordinary },
+        random.pick(&[0, 1, 2, 3, 4, 5, 6, 8, 9, 0xA]),
     ];
     match random.below(24) {
         0 => own[0] = random.pick(&CLASSES),
@@ -2150,16 +1653,13 @@ fn damage(random: &mut Random, contents: &mut Vec<u8>) {
         _ => random.below(contents.len() as u64) as usize,
     };
     let held = word_at(contents, place).unwrap_or(0);
-    match random.below(11) {
+    match random.below(8) {
         0 => contents.truncate(place),
         1 => contents.extend(words(&[ADMINISTRATIVE, 24])),
         2 => contents.extend(structure_of(random.pick(&[TRACE, HISTORY, TLB]), &[0; 6])),
         3 => set_word(contents, place, held ^ 1 << random.below(32)),
         4 => set_word(contents, place, held.wrapping_add(1)),
         5 => set_word(contents, place, held.wrapping_sub(1)),
-        6 => set_word(contents, place, random.pick(&MONITORING_WORDS)),
-        7 => set_word(contents, 0, random.pick(&MONITORING_WORDS)),
-        8 => contents.extend(structure_of(random.pick(&MONITORING_KINDS), &[0, 0])),
         _ => set_word(contents, place, random.pick(&CONTENT_WORDS)),
     }
 }

@@ -4,11 +4,10 @@ use std::fmt::Write;
 use std::time::Instant;
 
 use super::aimed::aimed;
-use super::files::{likely_start, random_file, word_at};
+use super::files::{likely_start, random_file};
 use super::random::Random;
 use super::reader::{
-    channel_of, code_of, find, record, row_kind, sample, setting, table, Record, Refusal, Row,
-    Setting,
+    channel_of, code_of, find, record, row_kind, sample, setting, table, Record, Row, Setting,
 };
 
 // A line of text; writing to a string cannot fail.
@@ -18,8 +17,7 @@ macro_rules! line {
     };
 }
 
-// FORMAT 8: the aimed cases, then random files, each with its answers: so many in all, but some
-// random ones in any case.
+// FORMAT 8: the aimed cases, then random files, each with its answers.
 pub fn vectors(text: &mut String, seed: u64, count: u64, most_bytes: u64) -> bool {
     let mut random = Random::new(seed);
     let mut printed = 0;
@@ -29,9 +27,8 @@ pub fn vectors(text: &mut String, seed: u64, count: u64, most_bytes: u64) -> boo
             printed += 1;
         }
     }
-    let wanted = count.max(printed + count / 36);
     let mut tries = 0;
-    while printed < wanted && tries < 1_000 * count {
+    while printed < count && tries < 1_000 * count {
         let bytes = random_file(&mut random);
         if bytes.len() as u64 <= most_bytes {
             file_lines(text, &format!("random-{tries}"), &bytes, &mut random);
@@ -75,11 +72,9 @@ fn file_lines(text: &mut String, name: &str, file: &[u8], random: &mut Random) {
     }
     for place in &places {
         record_lines(text, file, *place);
-        record_line(text, "mrecord", *place, &record(file, *place, true));
     }
     refused_example_lines(text, file, &places, random);
     find_lines(text, file, &answer.rows, random);
-    passed_over_line(text, file, &answer.rows, random);
 }
 
 // FORMAT 8.5: three places: of a word, any, and near or past the end.
@@ -102,30 +97,23 @@ fn random_places(file: &[u8], random: &mut Random) -> [u64; 3] {
 // FORMAT 8.5, 8.6, 8.7: its answer, with the setting of an entry and samples of a
 // trace.
 fn record_lines(text: &mut String, file: &[u8], place: u64) {
-    let answer = record(file, place, false);
-    record_line(text, "record", place, &answer);
-    match answer {
-        Ok(Record::Phonon(_)) | Ok(Record::Charge(_)) => setting_line(text, file, place),
-        Ok(Record::Trace { n, .. }) => {
-            let n = u64::from(n);
-            for number in [0, 1, n, n + 1] {
-                sample_line(text, file, place, number);
-            }
-        }
-        _ => {}
-    }
-}
-
-// FORMAT 8.5: Record's answer; the leading word says what Record was told: `record` outside a
-// monitoring event, `mrecord` in one.
-fn record_line(text: &mut String, leading: &str, place: u64, answer: &Result<Record, Refusal>) {
-    match answer {
+    match record(file, place) {
         Err((number, at)) => {
-            line!(text, "{leading} {place} {number} {at}");
+            line!(text, "record {place} {number} {at}");
         }
         Ok(found) => {
-            let kind = row_kind(found);
-            line!(text, "{leading} {place} 0 {kind} {}", fields(found));
+            let kind = row_kind(&found);
+            line!(text, "record {place} 0 {kind} {}", fields(&found));
+            match found {
+                Record::Phonon(_) | Record::Charge(_) => setting_line(text, file, place),
+                Record::Trace { n, .. } => {
+                    let n = u64::from(n);
+                    for number in [0, 1, n, n + 1] {
+                        sample_line(text, file, place, number);
+                    }
+                }
+                _ => {}
+            }
         }
     }
 }
@@ -133,7 +121,7 @@ fn record_line(text: &mut String, leading: &str, place: u64, answer: &Result<Rec
 // FORMAT 8.6, 8.7: now and then a setting or a sample asked where there is none.
 fn refused_example_lines(text: &mut String, file: &[u8], places: &[u64], random: &mut Random) {
     let place = random.pick(places);
-    let found = record(file, place, false);
+    let found = record(file, place);
     let is_entry = matches!(found, Ok(Record::Phonon(_)) | Ok(Record::Charge(_)));
     if !is_entry && random.once_in(4) {
         setting_line(text, file, place);
@@ -188,28 +176,6 @@ fn fields(found: &Record) -> String {
         } => format!("{year} {day} {status} {hour} {minute} {second} {tenths}"),
         Record::Trigger(masks) => joined(masks),
         Record::Tlb(masks) => joined(masks),
-        Record::Thresholds {
-            minimum,
-            maximum,
-            range,
-            tower,
-            codes,
-            operations,
-            values,
-        } => format!("{minimum} {maximum} {range} {tower} {codes} {operations} {values}"),
-        Record::TriggerRates {
-            interval,
-            tower,
-            codes,
-            lines,
-            counters,
-        } => format!("{interval} {tower} {codes} {lines} {counters}"),
-        Record::VetoRates {
-            interval,
-            entries,
-            codes,
-            counters,
-        } => format!("{interval} {entries} {codes} {counters}"),
     }
 }
 
@@ -297,25 +263,6 @@ fn find_lines(text: &mut String, file: &[u8], rows: &[Row], random: &mut Random)
     if (other_number, other_code) != (number, code) {
         find_line(text, file, other_number, other_code);
     }
-}
-
-// FORMAT 6.2, 8.8: in a file with a monitoring event: one word of that event, or 0, as the number
-// and a code of the file, or none of it.
-fn passed_over_line(text: &mut String, file: &[u8], rows: &[Row], random: &mut Random) {
-    let of_type_7 = |row: &&Row| row[0] == 5 && row[4] & 0xFF == 7;
-    let places: Vec<u32> = rows.iter().filter(of_type_7).map(|row| row[1]).collect();
-    if places.is_empty() {
-        return;
-    }
-    let offset = random.pick(&[16, 20, 24, 24, 24, 28]);
-    let place = random.pick(&places) as usize + offset;
-    let number = match random.below(4) {
-        0 => 0,
-        _ => word_at(file, place).unwrap_or(0),
-    };
-    let mut codes = values_of_kind(rows, 7);
-    codes.push(11_017_006);
-    find_line(text, file, number, random.pick(&codes));
 }
 
 // FORMAT 7.2: the first values of the rows of a kind.
@@ -415,77 +362,32 @@ fn name_line(text: &mut String, detector_type: u32, number: u32, name: &str) {
     line!(text, "name {detector_type} {number} {name} {answer}");
 }
 
-/// How often something was seen: Table's numbers, the kinds of rows, and the kinds of Record's
-/// answers told outside and in a monitoring event.
-pub struct Tallies {
-    pub numbers: [u64; 12],
-    pub kinds: [u64; 15],
-    pub records: [u64; 15],
-    pub monitoring_records: [u64; 15],
-    pub bytes: usize,
-    pub most: usize,
-}
-
-// FORMAT 2.1, 7.2, 8.5: the tallies of so many random files; Record is asked at every row and,
-// where a file is refused, at the fault.
-pub fn tallies(seed: u64, files: u64) -> Tallies {
-    let mut random = Random::new(seed);
-    let mut seen = Tallies {
-        numbers: [0; 12],
-        kinds: [0; 15],
-        records: [0; 15],
-        monitoring_records: [0; 15],
-        bytes: 0,
-        most: 0,
-    };
-    for _ in 0..files {
-        let file = random_file(&mut random);
-        seen.bytes += file.len();
-        seen.most = seen.most.max(file.len());
-        let answer = table(&file);
-        seen.numbers[answer.number as usize] += 1;
-        let mut places: Vec<u64> = answer.rows.iter().map(|row| u64::from(row[1])).collect();
-        if answer.number != 0 {
-            places.push(answer.place);
-        }
-        for row in &answer.rows {
-            seen.kinds[row[0] as usize] += 1;
-        }
-        for place in places {
-            if let Ok(found) = record(&file, place, false) {
-                seen.records[row_kind(&found) as usize] += 1;
-            }
-            if let Ok(found) = record(&file, place, true) {
-                seen.monitoring_records[row_kind(&found) as usize] += 1;
-            }
-        }
-    }
-    seen
-}
-
-// FORMAT 2.1: how often random files get each number, how often each kind of row stands in
-// accepted ones, and how often Record answers each kind.
+// FORMAT 2.1: how often random files get each number, and how often each
+// kind of row stands in accepted ones.
 pub fn count(text: &mut String, seed: u64, files: u64) -> bool {
     let started = Instant::now();
-    let seen = tallies(seed, files);
-    for (number, times) in seen.numbers.iter().enumerate() {
+    let mut random = Random::new(seed);
+    let mut numbers = [0u64; 12];
+    let mut kinds = [0u64; 12];
+    let mut bytes = 0;
+    let mut most = 0;
+    for _ in 0..files {
+        let file = random_file(&mut random);
+        bytes += file.len();
+        most = most.max(file.len());
+        let answer = table(&file);
+        numbers[answer.number as usize] += 1;
+        for row in &answer.rows {
+            kinds[row[0] as usize] += 1;
+        }
+    }
+    for (number, times) in numbers.iter().enumerate() {
         line!(text, "answer {number} {times}");
     }
-    for (kind, times) in seen.kinds.iter().enumerate().skip(1) {
+    for (kind, times) in kinds.iter().enumerate().skip(1) {
         line!(text, "kind {kind} {times}");
     }
-    for kind in [3, 4, 6, 7, 8, 9, 10, 11] {
-        line!(text, "record {kind} {}", seen.records[kind]);
-    }
-    for kind in [12, 13, 14] {
-        line!(text, "mrecord {kind} {}", seen.monitoring_records[kind]);
-    }
-    line!(
-        text,
-        "files {files} bytes {} most {}",
-        seen.bytes,
-        seen.most
-    );
+    line!(text, "files {files} bytes {bytes} most {most}");
     line!(text, "seconds {:.3}", started.elapsed().as_secs_f64());
     true
 }

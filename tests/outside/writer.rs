@@ -21,15 +21,10 @@
 //!  9. Closings ask nothing of the bytes before the place, from the end on, or of the eight free
 //!     bytes; a configuration may be closed at any place, not at byte 8 alone.
 //! 10. An event's class above 15, category above 15 or type above 255 is not admitted, 7; a type
-//!     such as 0x107 too. Every 7 goes before 9 for length 0, for type 7 as for all others.
+//!     such as 0x107 too. Every 7 goes before 8, and both before 9 for length 0.
 //! 11. Within a closing the parent of the contents ends at the end given, whatever follows it.
 //! 12. Rewrite tests the output's room for the whole file before the first byte is written, so
 //!     a refusal changes nothing, and its 13 has place 0.
-//! 13. Monitoring records: every list is handed over as a part, the lists of fixed counts too.
-//!     A part's size is tested where the list begins and its codes behind that; so a bad code
-//!     (10) goes before a later part of a wrong size (6).
-//! 14. Veto rates: entries are unsigned and have no rule of their own; a part that isn't four
-//!     bytes for each entry is 6, however many entries are said.
 
 use super::reader::{channel_of, record, table, Record, Row, MOST_BYTES};
 
@@ -50,12 +45,6 @@ const HISTORY: u32 = 0x21;
 const GPS: u32 = 0x60;
 const TRIGGER: u32 = 0x80;
 const TLB: u32 = 0x81;
-const THRESHOLDS: u32 = 0x21;
-const TRIGGER_RATES: u32 = 0x22;
-const VETO_RATES: u32 = 0x31;
-
-/// FORMAT 6.2: the type of a monitoring event.
-const MONITORING_TYPE: u32 = 7;
 
 // FORMAT 2.2: a rule that holds, or the refusal.
 fn require(holds: bool, number: u32, place: usize) -> Result<(), Refusal> {
@@ -326,90 +315,6 @@ pub fn tlb(out: &mut [u8], place: usize, masks: &[u32; 6]) -> Answer {
     write(out, place, TLB, &[&bytes(masks)])
 }
 
-/// FORMAT 5.8: thresholds; 6 detector codes, 9 operation codes and 54 values are bytes standing
-/// as in a file.
-#[allow(clippy::too_many_arguments)]
-pub fn thresholds(
-    out: &mut [u8],
-    place: usize,
-    minimum: u32,
-    maximum: u32,
-    range: u32,
-    tower: u32,
-    codes: &[u8],
-    operations: &[u8],
-    values: &[u8],
-) -> Answer {
-    limit(out)?;
-    code_list(codes, 6, &DETECTORS, place)?;
-    code_list(operations, 9, &OPERATIONS, place)?;
-    require(is_list(values, 6, 9), 6, place)?;
-    let first = bytes(&[minimum, maximum, range, tower]);
-    write(out, place, THRESHOLDS, &[&first, codes, operations, values])
-}
-
-/// FORMAT 5.9: trigger rates; 6 detector codes, 5 j-codes and 30 counters are bytes standing as
-/// in a file.
-pub fn trigger_rates(
-    out: &mut [u8],
-    place: usize,
-    interval: u32,
-    tower: u32,
-    codes: &[u8],
-    lines: &[u8],
-    counters: &[u8],
-) -> Answer {
-    limit(out)?;
-    code_list(codes, 6, &DETECTORS, place)?;
-    code_list(lines, 5, &LINES, place)?;
-    require(is_list(counters, 6, 5), 6, place)?;
-    let first = bytes(&[interval, tower]);
-    write(out, place, TRIGGER_RATES, &[&first, codes, lines, counters])
-}
-
-/// FORMAT 5.10: veto rates; a code and a counter for each entry, both lists bytes standing as in
-/// a file.
-pub fn veto_rates(
-    out: &mut [u8],
-    place: usize,
-    interval: u32,
-    entries: u32,
-    codes: &[u8],
-    counters: &[u8],
-) -> Answer {
-    limit(out)?;
-    code_list(codes, entries, &VETOES, place)?;
-    require(is_list(counters, entries, 1), 6, place)?;
-    let first = bytes(&[interval, entries]);
-    write(out, place, VETO_RATES, &[&first, codes, counters])
-}
-
-/// FORMAT 5.7: first and last code of each run of codes that a list may hold.
-type Runs = [(u32, u32)];
-
-const DETECTORS: [(u32, u32); 6] = [
-    (101, 199),
-    (201, 299),
-    (300, 399),
-    (401, 499),
-    (501, 599),
-    (601, 699),
-];
-const VETOES: [(u32, u32); 1] = [(300, 399)];
-const OPERATIONS: [(u32, u32); 2] = [(1_001, 1_004), (2_001, 2_005)];
-const LINES: [(u32, u32); 1] = [(1, 5)];
-
-// FORMAT 5.7, 9.2: a list of so many codes: its size, 6, then each code, 10.
-fn code_list(list: &[u8], count: u32, runs: &Runs, place: usize) -> Result<(), Refusal> {
-    require(is_list(list, count, 1), 6, place)?;
-    for at in (0..list.len()).step_by(4) {
-        let code = word(list, at);
-        let listed = runs.iter().any(|run| run.0 <= code && code <= run.1);
-        require(listed, 10, place)?;
-    }
-    Ok(())
-}
-
 /// FORMAT 9.4: a configuration's closing, over the entries that stand between its eight bytes and
 /// the end.
 pub fn close_configuration(out: &mut [u8], place: usize, end: usize) -> Answer {
@@ -433,11 +338,7 @@ pub fn close_event(
     span(out, place, end)?;
     admitted(class, category, event_type, place)?;
     require(end > place + 8, 9, place)?;
-    if event_type == MONITORING_TYPE {
-        monitoring_records(&out[..end], place + 8)?;
-    } else {
-        records(&out[..end], place + 8)?;
-    }
+    records(&out[..end], place + 8)?;
     let first_word = EVENT | class << 12 | category << 8 | event_type;
     Ok(put_own_words(out, place, end, first_word))
 }
@@ -448,11 +349,12 @@ fn span(out: &[u8], place: usize, end: usize) -> Result<(), Refusal> {
     require(inside && end >= place + 8, 13, place)
 }
 
-// FORMAT 6.2: class, category and type in this order, each 7.
+// FORMAT 6.2: class, category and type in this order, each 7; then 8 for monitoring.
 fn admitted(class: u32, category: u32, event_type: u32, place: usize) -> Result<(), Refusal> {
     require([0, 2].contains(&class), 7, place)?;
     require([0, 1, 6].contains(&category), 7, place)?;
-    require(event_type <= 0xA, 7, place)
+    require(event_type <= 0xA, 7, place)?;
+    require(event_type != 7, 8, place)
 }
 
 // FORMAT 9.4: a container's own eight bytes; gives its end.
@@ -467,7 +369,7 @@ fn entries(part: &[u8], first: usize) -> Result<(), Refusal> {
     let mut place = first;
     while place < part.len() {
         let (_, next) = structure(part, place, &[PHONON, CHARGE])?;
-        read(part, place, false)?;
+        read(part, place)?;
         place = next;
     }
     Ok(())
@@ -484,19 +386,8 @@ fn records(part: &[u8], first: usize) -> Result<(), Refusal> {
         require(place > first || kind == ADMINISTRATIVE, 9, place)?;
         require(kind == TRACE || !seen.contains(&kind), 9, place)?;
         seen.push(kind);
-        read(part, place, false)?;
+        read(part, place)?;
         place = next;
-    }
-    Ok(())
-}
-
-// FORMAT 6.2: a monitoring event's records from a place to the end of the part of the output;
-// each of them by Record, whose parent ends where the part does.
-fn monitoring_records(part: &[u8], first: usize) -> Result<(), Refusal> {
-    let mut place = first;
-    while place < part.len() {
-        read(part, place, true)?;
-        place += 8 + word(part, place + 4) as usize;
     }
     Ok(())
 }
@@ -520,10 +411,9 @@ fn word(part: &[u8], place: usize) -> u32 {
     u32::from_le_bytes(held)
 }
 
-// FORMAT 8.5: a record or an entry with its fields; by the reading rules, in a monitoring event
-// or not.
-fn read(part: &[u8], place: usize, monitoring: bool) -> Result<Record, Refusal> {
-    record(part, place as u64, monitoring).map_err(|(number, at)| (number, at as usize))
+// FORMAT 8.5: a record or an entry with its fields; by the reading rules.
+fn read(part: &[u8], place: usize) -> Result<Record, Refusal> {
+    record(part, place as u64).map_err(|(number, at)| (number, at as usize))
 }
 
 /// FORMAT 9.5: an accepted file's fields, handed to the writers from byte 0 on; of two faults the
@@ -546,10 +436,7 @@ pub fn rewrite(file: &[u8], out: &mut [u8]) -> Answer {
                 open = Some((row, place));
                 place += 8;
             }
-            kind => {
-                let found = read(file, row[1] as usize, [12, 13, 14].contains(&kind))?;
-                place = rewrite_record(file, row[1] as usize, &found, out, place)?;
-            }
+            _ => place = rewrite_record(file, row[1] as usize, out, place)?,
         }
     }
     close(out, open, place)
@@ -574,16 +461,10 @@ fn close(out: &mut [u8], open: Option<(&Row, usize)>, end: usize) -> Answer {
     }
 }
 
-// FORMAT 9.5: one record or entry, found at a place of the file, written
+// FORMAT 9.5: one record or entry, read at a place of the file, written
 // at a place of the output.
-fn rewrite_record(
-    file: &[u8],
-    from: usize,
-    found: &Record,
-    out: &mut [u8],
-    place: usize,
-) -> Answer {
-    match *found {
+fn rewrite_record(file: &[u8], from: usize, out: &mut [u8], place: usize) -> Answer {
+    match read(file, from)? {
         Record::Phonon(words) => phonon(out, place, &words),
         Record::Charge(words) => charge(out, place, &words),
         Record::Trigger(masks) => trigger(out, place, &masks),
@@ -656,57 +537,10 @@ fn rewrite_record(
             second,
             tenths,
         } => gps(out, place, year, day, status, hour, minute, second, tenths),
-        Record::Thresholds {
-            minimum,
-            maximum,
-            range,
-            tower,
-            codes,
-            operations,
-            values,
-        } => thresholds(
-            out,
-            place,
-            minimum,
-            maximum,
-            range,
-            tower,
-            list(file, codes, 6),
-            list(file, operations, 9),
-            list(file, values, 54),
-        ),
-        Record::TriggerRates {
-            interval,
-            tower,
-            codes,
-            lines,
-            counters,
-        } => trigger_rates(
-            out,
-            place,
-            interval,
-            tower,
-            list(file, codes, 6),
-            list(file, lines, 5),
-            list(file, counters, 30),
-        ),
-        Record::VetoRates {
-            interval,
-            entries,
-            codes,
-            counters,
-        } => veto_rates(
-            out,
-            place,
-            interval,
-            entries,
-            list(file, codes, entries),
-            list(file, counters, entries),
-        ),
     }
 }
 
-// FORMAT 5.3, 5.8, 5.9, 5.10: a list of so many words from where it starts.
+// FORMAT 5.3: a list of so many words from where it starts.
 fn list(file: &[u8], start: u64, words: u32) -> &[u8] {
     let start = start as usize;
     &file[start..start + 4 * words as usize]

@@ -38,11 +38,6 @@ ENTRY_WORDS = {
     "charge": ("tower", "gain", "bias", "rtf_offset", "delta_t", "t0", "trace_length"),
 }
 MOST = 2**32 - 1
-# FORMAT 5.7: detector codes, those of the veto, operations, lines.
-DETECTORS = (*(100 * x + y for x in range(1, 7) for y in range(1, 100)), 300)
-VETO = range(300, 400)
-OPERATIONS = (1001, 1002, 1003, 1004, 2001, 2002, 2003, 2004, 2005)
-LINES = range(1, 6)
 
 
 class Pick(Protocol):
@@ -172,33 +167,6 @@ def tlb(pick: Pick) -> Part:
     return Part("tlb", {"words": [pick.one((0, tower << 24 | pick.number(0, 2**24 - 1))) for tower in range(1, 7)]})
 
 
-def thresholds(pick: Pick) -> Part:
-    """Thresholds: codes as they come, other words anything."""
-    words: dict[str, Any] = {name: pick.number(0, MOST) for name in ("minimum", "maximum", "range", "tower")}
-    words |= {"codes": [pick.one(DETECTORS) for _ in range(6)], "operations": [pick.one(OPERATIONS) for _ in range(9)]}
-    return Part("thresholds", {**words, "values": [[pick.number(0, MOST) for _ in range(9)] for _ in range(6)]})
-
-
-def trigger_rates(pick: Pick) -> Part:
-    """Trigger rates, in the same way."""
-    words: dict[str, Any] = {name: pick.number(0, MOST) for name in ("interval", "tower")}
-    words |= {"codes": [pick.one(DETECTORS) for _ in range(6)], "lines": [pick.one(LINES) for _ in range(5)]}
-    return Part("trigger_rates", {**words, "counters": [[pick.number(0, MOST) for _ in range(5)] for _ in range(6)]})
-
-
-def veto_rates(pick: Pick) -> Part:
-    """Veto rates of some panels, or none."""
-    count = pick.number(0, 3)
-    lists = {"codes": [pick.one(VETO) for _ in range(count)], "counters": [pick.number(0, MOST) for _ in range(count)]}
-    return Part("veto_rates", {"interval": pick.number(0, MOST), **lists})
-
-
-def monitoring(pick: Pick) -> Happening:
-    """A monitoring event: any of its three kinds, in any order, again and again."""
-    records = [pick.one((thresholds, trigger_rates, veto_rates))(pick) for _ in range(pick.number(1, 3))]
-    return Happening((pick.one((0, 2)), pick.one((0, 1, 6)), 7), records)
-
-
 def happening(pick: Pick, numbers: Sequence[int] = (), codes: Sequence[int] = (), most: int = 8) -> Happening:
     """An event: its administrative record, then others in any order."""
     single = [make for make in (history, gps, trigger, tlb) if pick.one((True, False))]
@@ -213,8 +181,7 @@ def happening(pick: Pick, numbers: Sequence[int] = (), codes: Sequence[int] = ()
 def tree(pick: Pick, numbers: Sequence[int] = (), codes: Sequence[int] = (), most: int = 8) -> Tree:
     """A whole file."""
     entries = [entry(pick) for _ in range(pick.number(0, 3))]
-    sorts = (False, False, True) if pick.one((True, False)) else (False,)
-    events = [monitoring(pick) if pick.one(sorts) else happening(pick, numbers, codes, most) for _ in range(pick.number(0, 4))]
+    events = [happening(pick, numbers, codes, most) for _ in range(pick.number(0, 4))]
     return Tree((pick.number(0, 255), pick.number(0, 255)), entries, events)
 
 
@@ -281,14 +248,6 @@ def body(part: Part) -> tuple[int, bytes]:
         return 0x60, _words(_bcd(words["year"]) << 16 | _bcd(words["day"]), words["status"] << 28 | clock, _bcd(words["tenths"]))
     if part.call == "trigger":
         return 0x80, _words(0, *words["masks"])
-    if part.call == "thresholds":
-        head = (words[name] for name in ("minimum", "maximum", "range", "tower"))
-        return 0x21, _words(*head, *words["codes"], *words["operations"], *(value for line in words["values"] for value in line))
-    if part.call == "trigger_rates":
-        counters = (counter for line in words["counters"] for counter in line)
-        return 0x22, _words(words["interval"], words["tower"], *words["codes"], *words["lines"], *counters)
-    if part.call == "veto_rates":
-        return 0x31, _words(words["interval"], len(words["codes"]), *words["codes"], *words["counters"])
     return 0x81, _words(*words["words"])
 
 
@@ -318,7 +277,7 @@ def smallest(length: int) -> bytes:
 
 
 # Words that stand in files, or nearly do.
-ODD: tuple[int, ...] = (0, 1, 2, 3, 4, 7, 8, 11, 12, 16, 24, 0x11, 0x12, 0x13, 0x21, 0x22, 0x31, 0x32, 0x40, 0x60, 0x80, 0x81, 0x10000, 0x10001, 0x10002)
+ODD: tuple[int, ...] = (0, 1, 2, 3, 4, 7, 8, 11, 12, 16, 24, 0x11, 0x12, 0x13, 0x21, 0x60, 0x80, 0x81, 0x10000, 0x10001, 0x10002)
 ODD += (0xA9800000, 0xA9800007, 0xA9801000, 2**31 - 1, 2**31, MOST, MOST - 7, 0x01020304, 0x04030201, 11017002, 12000000)
 
 

@@ -89,7 +89,7 @@ def test_check_many_names(capfd: pytest.CaptureFixture[str], tmp_path: Path) -> 
     assert closed.returncode == 2 and closed.stderr == b"dwj: -: is closed\n"
 
 
-@pytest.mark.parametrize("name", ["p14", "every-kind", "damaged", "monitoring"])
+@pytest.mark.parametrize("name", ["p14", "every-kind", "damaged"])
 def test_ls_rows_is_the_listing(capfd: pytest.CaptureFixture[str], name: str) -> None:
     expected = (EXAMPLES / f"{name}.listing").read_text()
     status, out, err = dwj(capfd, "ls", "--rows", str(EXAMPLES / f"{name}.raw"))
@@ -121,63 +121,6 @@ def test_ls_json(capfd: pytest.CaptureFixture[str]) -> None:
     assert kinds == ["administrative", "trigger", "TLB mask", "GPS", "history"] + 6 * ["trace"]
     status, out, err = dwj(capfd, "ls", "--json", DAMAGED)
     assert status == 1 and json.loads(out)["refused"]["place"] == 3948 and "refused at byte 3948" in err
-
-
-def test_monitoring_events(capfd: pytest.CaptureFixture[str], tmp_path: Path) -> None:
-    """An event between two monitoring events: what is listed, shown, found and refused."""
-    writer = dwejrasq.Writer()
-    with writer.configuration():
-        pass
-    with writer.event(category=1, type=7):
-        writer.thresholds(range(401, 407), [[1000 * d + k for k in range(9)] for d in range(1, 7)], tower=3, maximum=10)
-        writer.trigger_rates([101, 202, 303, 404, 505, 606], [[100 * d + k for k in range(5)] for d in range(1, 7)], tower=3, interval=1_000_000)
-    with writer.event():
-        writer.administrative(date=1100115, hour=1630, number=3, seconds=0)
-        writer.trace((4, 3, "PA"), [0, 1])
-    with writer.event(category=1, type=7):
-        writer.veto_rates(range(300, 341), range(41), interval=2_000_000)
-    name, data = str(tmp_path / "m.raw"), writer.bytes()
-    writer.save(name)
-    status, out, _ = dwj(capfd, "ls", name)
-    lines = out.splitlines()
-    assert status == 0 and lines[2:5] == [
-        "├─ monitoring event at 16: raw, occasional, monitoring",
-        "│  ├─ thresholds at 24: tower 3, ZIP1 ZIP2 ZIP3 ZIP4 ZIP5 ZIP6, 54 values, 0 to 10 V, range 16,383",
-        "│  └─ trigger rates at 324: tower 3, BLIP1 FLIP2 Veto3 ZIP4 mZIP5 Endcap6, 30 counters, 1,000,000 µs",
-    ]
-    assert lines[-2:] == [
-        "└─ monitoring event at 604: raw, occasional, monitoring",
-        "   └─ veto rates at 612: 41 panels (VetoOR Veto1 Veto2 ..), 2,000,000 µs",
-    ]
-    found = json.loads(dwj(capfd, "ls", "--json", name)[1])["events"]
-    assert [(event["number"], event["time"] is None, event["monitoring"]) for event in found] == [(None, True, True), (3, False, False), (None, True, True)]
-    thresholds, rates, veto = *found[0]["records"], found[2]["records"][0]
-    assert thresholds["values"][5][8] == 6008 and thresholds["columns"][0] == "phonon offset A" and thresholds["operations"][8] == 2005
-    assert rates["detectors"][5] == "Endcap6" and rates["counters"][0] == [100, 101, 102, 103, 104] and rates["columns"][4] == "Whisper"
-    assert veto["codes"] == list(range(300, 341)) and veto["counters"] == list(range(41)) and veto["interval"] == 2_000_000
-    for place, first, within in ((16, "monitoring event at 16", "7 (monitoring)"), (24, "thresholds at 24", "threshold Whisper"), (620, "byte 620", "VetoOR")):
-        status, out, _ = dwj(capfd, "show", name, str(place))
-        assert status == 0 and out.startswith(first) and within in out and "None" not in out
-    assert dwj(capfd, "show", "--csv", name, "324")[1].splitlines()[:2] == ["code,detector,Qhigh,Qlow,Phigh,Plow,Whisper", "101,BLIP1,100,101,102,103,104"]
-    assert dwj(capfd, "show", "--csv", name, "612")[1].splitlines()[:3] == ["code,detector,counter", "300,VetoOR,0", "301,Veto1,1"]
-    assert dwj(capfd, "show", "--csv", name, "0")[0] == 2 == dwj(capfd, "show", "--csv", "--json", name, "324")[0]
-    # Found by their place, and passed over by numbers: no event has the number 3 but the one that says so (it is the tower of both others).
-    assert dwj(capfd, "trace", name, "3", "ZIP3:PA", "--csv")[1].splitlines()[1] == "0.000,0"
-    assert dwj(capfd, "trace", name, "@16", "ZIP3:PA") == (2, "", "dwj: event @16 has no trace of ZIP3:PA; it has no traces\n")
-    out_name = str(tmp_path / "m.svg")
-    assert dwj(capfd, "plot", name, "@604", "-o", out_name) == (2, "", "dwj: the monitoring event at byte 604 has no traces\n")
-    assert "there are 1, with numbers from 3 to 3, and 2 monitoring events, without numbers" in dwj(capfd, "plot", name, "41", "-o", out_name)[2]
-    assert dwj(capfd, "rewrite", name, str(tmp_path / "again.raw"))[0] == 0 and (tmp_path / "again.raw").read_bytes() == data
-    assert dwj(capfd, "page", name, "-o", str(tmp_path / "m.html"))[0] == 0
-    bad = bytearray(data)
-    bad[24 + 24 + 1] = 9
-    (tmp_path / "bad.raw").write_bytes(bad)
-    status, out, _ = dwj(capfd, "check", str(tmp_path / "bad.raw"))
-    assert status == 1 and "refused at byte 24: thresholds: a field is outside its rule (10)" in out
-    assert dwj(capfd, "show", str(tmp_path / "bad.raw"), "24")[1].startswith("byte 24: thresholds\n")
-    bad[24] = 0x20
-    (tmp_path / "bad.raw").write_bytes(bad)
-    assert "refused at byte 24: a kind that monitoring events have, of a layout that isn't known (8)" in dwj(capfd, "check", str(tmp_path / "bad.raw"))[1]
 
 
 def test_standard_input() -> None:
@@ -538,17 +481,6 @@ def test_labels_are_the_formats() -> None:
     categories = re.search(r"\| category \| unsigned \| (.*?);", text)
     for found, words in ((classes, labels.EVENT_CLASSES), (categories, labels.CATEGORIES)):
         assert found and {int(n): word for n, word in re.findall(r"(\d+) \(([^)]*)\)", found.group(1))} == words
-    codes = (ROOT / "docs/FORMAT.md").read_text().split("### 5.7")[1].split("### 5.8")[0]
-    operations = dict(re.findall(r"\| (\d{4}) \| ([A-Za-z ]+?) \|", codes))
-    assert {int(n): word for n, word in operations.items()} == labels.OPERATIONS
-    lines = re.search(r"The trigger lines are (.*?)\.", " ".join(codes.split()))
-    assert lines and {int(n): word for n, word in re.findall(r"(\d) (\w+)", lines.group(1))} == labels.LINES
-    sorts = re.search(r"The sorts are (.*?)\.", " ".join(codes.split()))
-    assert sorts is not None
-    for number, label in labels.SORTS.items():
-        word = re.search(rf"\b{number} ([A-Za-z ]+)", sorts.group(1))
-        assert word and word.group(1).lower() == {"mZIP": "mercedes zip"}.get(label, label).lower(), label
-    assert labels.monitored(labels.VETO_OR) == "VetoOR" and labels.monitored(407) == "ZIP7"
 
 
 def test_files_that_change(tmp_path: Path) -> None:

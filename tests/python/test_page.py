@@ -131,22 +131,6 @@ def several() -> bytes:
 FILE = several()
 
 
-def watch(*more: tuple[int, bytes]) -> bytes:
-    """FILE and a monitoring event behind it; at its end structures of any kind."""
-    w = dwejrasq.Writer((3, 5))
-    with w.configuration():
-        pass
-    with w.event(category=1, type=7):
-        w.thresholds(range(401, 407), [[1000 * d + k for k in range(9)] for d in range(1, 7)], tower=3, maximum=10)
-        w.trigger_rates([300, 301, 101, 299, 599, 601], [[100 * d + k for k in range(5)] for d in range(1, 7)], tower=3, interval=1_000_000)
-        w.veto_rates(range(300, 341), range(7000, 7041), interval=2_000_000)
-    event = w.bytes()[16:] + b"".join(struct.pack("<II", kind, len(data)) + data for kind, data in more)
-    return FILE + event[:4] + struct.pack("<I", len(event) - 8) + event[8:]
-
-
-WATCH = len(FILE) + 8 + 300 + 180 + 344
-
-
 def empty() -> bytes:
     w = dwejrasq.Writer()
     with w.configuration():
@@ -168,7 +152,7 @@ def with_word(place: int, word: int) -> bytes:
 # Pages of accepted files.
 
 
-@pytest.mark.parametrize("name", ["p14", "every-kind", "monitoring"])
+@pytest.mark.parametrize("name", ["p14", "every-kind"])
 def test_examples(name: str) -> None:
     data = (EXAMPLES / f"{name}.raw").read_bytes()
     text, parsed = made(data, f"{name}.raw")
@@ -221,57 +205,6 @@ def test_all_that_a_file_holds() -> None:
     assert [detail["data-number"] for detail in parsed.by_class("event")] == ["7", "8", "7"]
     assert len(parsed.by_class("segment")) == 5 and not parsed.by_class("mark")
     assert [segment.get("href") for segment in parsed.by_class("segment")] == [None, "#configuration", "#event-1", "#event-2", "#event-3"]
-
-
-def test_monitoring_events() -> None:
-    """An event without number, time and traces, and its records as tables; the summary is the other events'."""
-    _, parsed = made(watch())
-    said = " | ".join(parsed.texts)
-    for words in (
-        "4 events.",
-        "monitoring: 1 event",
-        "Monitoring event",
-        "3 records",
-        "2010-01-15 16:32:00",
-        f"Thresholds at byte {len(FILE) + 8:,}: tower 3, 0 to 10 V, range 16,383",
-        "Phonon offset A",
-        "Threshold Whisper",
-        "6008",
-        f"Trigger rates at byte {len(FILE) + 308:,}: tower 3, counted for 1,000,000 µs",
-        "Endcap1",
-        "VetoOR",
-        f"Veto rates at byte {len(FILE) + 488:,}: 41 panels, counted for 2,000,000 µs",
-        "Veto40",
-        "7040",
-    ):
-        assert words in said, words
-    cards = parsed.by_class("event")
-    assert [card["id"] for card in cards] == ["event-1", "event-2", "event-3", "event-4"]
-    assert [card.get("data-number") for card in cards] == ["7", "8", "7", None] and "None" not in said
-    segment = parsed.by_class("segment")[-1]
-    assert (segment["title"] or "").startswith("monitoring event, monitoring, bytes ") and "type-7" in (segment["class"] or "")
-
-
-def test_monitoring_events_alone(monkeypatch: pytest.MonkeyPatch) -> None:
-    """No event has a time; and of many, of many records and of many panels, what is left out is said."""
-    w = dwejrasq.Writer()
-    with w.configuration():
-        pass
-    for _ in range(9):
-        with w.event(type=7):
-            for _ in range(6):
-                w.veto_rates([300] * 8, range(8))
-            w.veto_rates([], [])
-    _, parsed = made(w.bytes())
-    said = " | ".join(parsed.texts)
-    assert "9 events." in said and "First event time" not in said and "0 panels, counted for 0 µs" in said
-    for name, bound in (("CARDS", 4), ("LISTED", 3), ("TABLES", 2), ("LINES", 5)):
-        monkeypatch.setattr(page, name, bound)
-    _, parsed = made(w.bytes())
-    said = " | ".join(parsed.texts)
-    assert "9 events: the first 4 with their records and traces, 3 more in a line each; 2 are left out of this page." in said
-    assert "The first 2 of 7 records; 5 are left out." in said and "The first 5 of 8 detectors; 3 are left out." in said
-    assert [one.get("data-number") for one in parsed.by_class("event")] == [None] * 4
 
 
 def test_sides_are_the_librarys() -> None:
@@ -368,20 +301,17 @@ def test_odd_names(name: str) -> None:
 
 # Refused files. Of each: the bytes, number, place, whole events before, kinds of the records that can be read of the damaged event.
 
-ADMINISTRATIVE, TRACE, HISTORY, GPS, TRIGGER, TLB, THRESHOLDS, TRIGGER_RATES, VETO_RATES = (
+ADMINISTRATIVE, TRACE, HISTORY, GPS, TRIGGER, TLB = (
     library.DWJ_ADMINISTRATIVE,
     library.DWJ_TRACE,
     library.DWJ_HISTORY,
     library.DWJ_GPS,
     library.DWJ_TRIGGER,
     library.DWJ_TLB,
-    library.DWJ_THRESHOLDS,
-    library.DWJ_TRIGGER_RATES,
-    library.DWJ_VETO_RATES,
 )
 FIRST, SECOND, THIRD = (at(library.DWJ_EVENT, number) for number in range(3))
 FIVE = [ADMINISTRATIVE, GPS, TRIGGER, TLB, HISTORY]
-WATCHED = [THRESHOLDS, TRIGGER_RATES, VETO_RATES]
+ALL = FIVE + [TRACE] * 12
 REFUSED: dict[str, tuple[bytes, int, int, int, list[int]]] = {
     "no bytes": (b"", 2, 0, 0, []),
     "too long": (bytes(library.DWJ_LONGEST + 1), 1, 0, 0, []),
@@ -403,12 +333,7 @@ REFUSED: dict[str, tuple[bytes, int, int, int, list[int]]] = {
     "a trace's inner kind": (with_word(at(TRACE, 4) + 28, 0x14), 5, at(TRACE, 4), 0, FIVE + [TRACE] * 4),
     "GPS of another length": (with_word(at(GPS) + 4, 16), 6, at(GPS), 0, [ADMINISTRATIVE]),
     "class 1": (with_word(THIRD, 0xA9801000), 7, THIRD, 2, [ADMINISTRATIVE] + [TRACE] * 16),
-    "not a monitoring event's records": (with_word(FIRST, 0xA9800007), 5, FIRST + 8, 0, []),
-    "a monitoring record without a layout": (watch((0x40, b"")), 8, WATCH, 3, WATCHED),
-    "a kind that no monitoring event has": (watch((0x60, b"")), 5, WATCH, 3, WATCHED),
-    "a monitoring record's code": (watch((0x31, struct.pack("<IIII", 1, 1, 401, 1))), 10, WATCH, 3, WATCHED),
-    "a monitoring event cut short": (watch()[:-1], 2, len(FILE), 3, WATCHED[:2]),
-    "a monitoring event of class 1": (watch()[: len(FILE)] + b"\x07\x10" + watch()[len(FILE) + 2 :], 7, len(FILE), 3, WATCHED),
+    "monitoring": (with_word(FIRST, 0xA9800007), 8, FIRST, 0, ALL),
     "an event without records": (with_word(SECOND + 4, 0), 9, SECOND, 1, [ADMINISTRATIVE]),
     "no administrative record first": (with_word(FIRST + 8, 0x60), 9, FIRST + 8, 0, []),
     "a GPS record's day": (with_word(at(GPS) + 8, 0x20100366), 10, at(GPS), 0, [ADMINISTRATIVE]),
@@ -441,7 +366,7 @@ def test_refused(case: str) -> None:
                 # All but the event's own two words is as it was.
                 assert bytes(file.data[: part.place]) == data[: part.place]
                 assert bytes(file.data[part.place + 8 :]) == data[part.place + 8 : part.end]
-                assert part.own == (number != 7) and (not part.own or (file.data[part.place] == data[part.place]))
+                assert part.own == (number not in (7, 8)) and (not part.own or (file.data[part.place] == data[part.place]))
     else:
         assert kinds == []
 
@@ -459,7 +384,7 @@ def test_refused(case: str) -> None:
     assert len(events) == whole + bool(kinds)
     assert len(parsed.by_class("damaged")) == bool(kinds) == (f"This event is damaged at byte {place:,}." in said)
     assert len(parsed.by_class("trace")) == kinds.count(TRACE) + (12 if whole else 0) + (16 if whole == 3 else 0)
-    assert ("type not read" in said) == (number == 7)
+    assert ("type not read" in said) == (number in (7, 8))
 
 
 @pytest.mark.parametrize("data", [np.frombuffer(FILE, np.uint8).data, np.empty(0, np.uint8).data, memoryview(bytearray(FILE[:99]))])

@@ -216,7 +216,7 @@ impl Comparison {
             let call = told(call, length);
             return Err(Difference(format!("{call}\nwhat was handed over changed")));
         }
-        self.tally.add(call, number, length);
+        self.tally.add(call, number);
         Ok(answer)
     }
 
@@ -243,7 +243,7 @@ impl Comparison {
                 answer_shown((number, left), before)
             )));
         }
-        self.tally.add(call, number, length);
+        self.tally.add(call, number);
         Ok(())
     }
 

@@ -22,16 +22,12 @@ extern "C" {
     fn dwj_write_gps(out: *mut u8, length: usize, place: usize, fields: &[u32; 7], next: &mut u64, refused_at: &mut u64) -> u32;
     fn dwj_write_trigger(out: *mut u8, length: usize, place: usize, fields: &[u32; 6], next: &mut u64, refused_at: &mut u64) -> u32;
     fn dwj_write_tlb(out: *mut u8, length: usize, place: usize, fields: &[u32; 6], next: &mut u64, refused_at: &mut u64) -> u32;
-    fn dwj_write_thresholds(out: *mut u8, length: usize, place: usize, minimum: u32, maximum: u32, range: u32, tower: u32, codes: *const u8, codes_length: usize, operations: *const u8, operations_length: usize, values: *const u8, values_length: usize, next: &mut u64, refused_at: &mut u64) -> u32;
-    fn dwj_write_trigger_rates(out: *mut u8, length: usize, place: usize, interval: u32, tower: u32, codes: *const u8, codes_length: usize, lines: *const u8, lines_length: usize, counters: *const u8, counters_length: usize, next: &mut u64, refused_at: &mut u64) -> u32;
-    fn dwj_write_veto_rates(out: *mut u8, length: usize, place: usize, interval: u32, entries: u32, codes: *const u8, codes_length: usize, counters: *const u8, counters_length: usize, next: &mut u64, refused_at: &mut u64) -> u32;
     fn dwj_close_configuration(out: *mut u8, length: usize, place: usize, end: usize, next: &mut u64, refused_at: &mut u64) -> u32;
     fn dwj_close_event(out: *mut u8, length: usize, place: usize, end: usize, class: u32, category: u32, event_type: u32, next: &mut u64, refused_at: &mut u64) -> u32;
     fn dwj_rewrite(file: *const u8, file_length: usize, out: *mut u8, length: usize, next: &mut u64, refused_at: &mut u64) -> u32;
 }
 
-/// What a call hands over: a trace's samples, a history's four lists, a monitoring record's two or
-/// three, a file; the rest is empty.
+/// What a call hands over: a trace's samples, a history's four lists, a file; the rest is empty.
 pub fn parts(call: &Call) -> [&[u8]; 4] {
     match call {
         Call::Trace { samples, .. } => [samples, &[], &[], &[]],
@@ -42,21 +38,6 @@ pub fn parts(call: &Call) -> [&[u8]; 4] {
             trigger_masks,
             ..
         } => [veto_times, veto_masks, trigger_times, trigger_masks],
-        Call::Thresholds {
-            codes,
-            operations,
-            values,
-            ..
-        } => [codes, operations, values, &[]],
-        Call::TriggerRates {
-            codes,
-            lines,
-            counters,
-            ..
-        } => [codes, lines, counters, &[]],
-        Call::VetoRates {
-            codes, counters, ..
-        } => [codes, counters, &[], &[]],
         Call::Rewrite { file } => [file, &[], &[], &[]],
         _ => [&[]; 4],
     }
@@ -106,35 +87,6 @@ pub fn perform(call: &Call, parts: [&[u8]; 4], out: &mut [u8], lent: &mut Lent) 
         },
         Call::Tlb { place, masks } => unsafe {
             dwj_write_tlb(out, length, *place, masks, next, refused_at)
-        },
-        Call::Thresholds { place, minimum, maximum, range, tower, .. } => unsafe {
-            dwj_write_thresholds(
-                out, length, *place,
-                *minimum, *maximum, *range, *tower,
-                first.as_ptr(), first.len(),
-                second.as_ptr(), second.len(),
-                third.as_ptr(), third.len(),
-                next, refused_at,
-            )
-        },
-        Call::TriggerRates { place, interval, tower, .. } => unsafe {
-            dwj_write_trigger_rates(
-                out, length, *place,
-                *interval, *tower,
-                first.as_ptr(), first.len(),
-                second.as_ptr(), second.len(),
-                third.as_ptr(), third.len(),
-                next, refused_at,
-            )
-        },
-        Call::VetoRates { place, interval, entries, .. } => unsafe {
-            dwj_write_veto_rates(
-                out, length, *place,
-                *interval, *entries,
-                first.as_ptr(), first.len(),
-                second.as_ptr(), second.len(),
-                next, refused_at,
-            )
         },
         Call::CloseConfiguration { place, end, .. } => unsafe {
             dwj_close_configuration(out, length, *place, *end, next, refused_at)

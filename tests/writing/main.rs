@@ -39,7 +39,6 @@ use std::process::ExitCode;
 use std::time::Instant;
 
 use compare::{fill, Around, Comparison, Difference, Output, LINE};
-use files::words;
 use random::Random;
 use reader::MOST_BYTES;
 use trees::{
@@ -53,8 +52,6 @@ const CALLS_IN_ROUND: u64 = 4;
 const FILES_IN_ROUND: u64 = 3;
 /// How often a file with a long part is written again.
 const TIMES_AGAIN: usize = 20;
-/// Where veto rates stand behind thresholds and trigger rates in the first event of a file without an entry.
-const VETO_RATES_AT: usize = 24 + 300 + 180;
 /// How often each sort of call is made over an output longer than the limit, and by how much it is.
 const OVER_LIMIT: usize = 120;
 const MOST_OVER: usize = 4_096;
@@ -119,7 +116,6 @@ fn run(comparison: &mut Comparison, rounds: u64) -> Result<(), Difference> {
     }
     long_files(comparison)?;
     file_at_limit(comparison)?;
-    monitoring_at_limit(comparison)?;
     for _ in 0..rounds {
         for _ in 0..CALLS_IN_ROUND {
             let (call, length) = random_call(&mut comparison.random);
@@ -143,7 +139,7 @@ fn over_limit(comparison: &mut Comparison, aimed: &[(Call, usize)]) -> Result<()
     fill(&mut out, random.draw());
     let before = out.clone();
     let mut made = BTreeMap::new();
-    while made.len() < tally::CALLS.len() || made.values().any(|times| *times < OVER_LIMIT) {
+    while made.len() < 12 || made.values().any(|times| *times < OVER_LIMIT) {
         let chosen = random.below(aimed.len() as u64) as usize;
         let (call, _) = &aimed[chosen];
         let times = made.entry(tally::name(call)).or_insert(0);
@@ -238,31 +234,24 @@ fn assembled(comparison: &mut Comparison, file: &[u8]) -> Result<(), Difference>
     }
     file_again(comparison, file)?;
     comparison.tally.restored += 1;
-    let monitoring = expected.rows.iter().any(|row| row[0] >= 12);
-    comparison.tally.restored_monitoring += u64::from(monitoring);
     Ok(())
 }
 
-// Files of one event with a long trace or history, or of one monitoring event with long veto rates, each written again
-// several times: the file and the output start at any byte of a line.
+// Files of one event with a long trace or history, each written again several times: the file and the output start at any
+// byte of a line.
 fn long_files(comparison: &mut Comparison) -> Result<(), Difference> {
     for call in long_calls() {
-        let (first, event_type) = match call {
-            Call::VetoRates { .. } => (Vec::new(), 7),
-            _ => (vec![administrative(24)], 0),
-        };
-        let place = 24 + 32 * first.len();
-        let end = place + call.size();
+        let end = 56 + call.size();
         let mut file = vec![0; end];
         let header = Call::Header { major: 1, minor: 0 };
-        let event = closing(16, end, Some([0, 0, event_type]));
+        let event = closing(16, end, Some([0, 0, 0]));
         for call in [
-            vec![header, closing(8, 16, None)],
-            first,
-            vec![call.at(place), event],
-        ]
-        .concat()
-        {
+            header,
+            closing(8, 16, None),
+            administrative(24),
+            call.at(56),
+            event,
+        ] {
             if trees::perform(&call, &mut file).is_err() {
                 let text = format!("refused outside, in a file of one event: {call:?}");
                 return Err(Difference(text));
@@ -307,51 +296,6 @@ fn file_at_limit(comparison: &mut Comparison) -> Result<(), Difference> {
     for call in first {
         if comparison.call(&call, &mut output)?.is_err() {
             let text = "refused in a file of exactly the limit";
-            return Err(Difference(String::from(text)));
-        }
-    }
-    assembled(comparison, output.bytes())
-}
-
-// A file of exactly the limit: one monitoring event of thresholds, trigger rates, and veto rates that
-// take the rest.
-fn monitoring_at_limit(comparison: &mut Comparison) -> Result<(), Difference> {
-    let mut output = patterned(comparison, MOST_BYTES);
-    let codes =
-        |first: u32, count: u32| words(&(0..count).map(|i| first + i % 99).collect::<Vec<_>>());
-    let entries = ((MOST_BYTES - VETO_RATES_AT - 16) / 8) as u32;
-    for call in [
-        Call::Header { major: 9, minor: 8 },
-        closing(8, 16, None),
-        Call::Thresholds {
-            place: 24,
-            minimum: 1,
-            maximum: u32::MAX,
-            range: 0x3FFF,
-            tower: 3,
-            codes: codes(201, 6),
-            operations: words(&[2_005; 9]),
-            values: part(216),
-        },
-        Call::TriggerRates {
-            place: 324,
-            interval: 1_000_000,
-            tower: 4,
-            codes: codes(601, 6),
-            lines: codes(1, 5),
-            counters: part(120),
-        },
-        Call::VetoRates {
-            place: VETO_RATES_AT,
-            interval: 2,
-            entries,
-            codes: codes(300, entries),
-            counters: part(4 * entries as usize),
-        },
-        closing(16, MOST_BYTES, Some([0, 1, 7])),
-    ] {
-        if comparison.call(&call, &mut output)?.is_err() {
-            let text = "refused in a file of exactly the limit with a monitoring event";
             return Err(Difference(String::from(text)));
         }
     }

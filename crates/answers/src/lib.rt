@@ -1,5 +1,5 @@
 // Record and Setting: what stands at a place of a file, with its fields; an entry in working units. Any file and any place are taken.
-ghost use Rattle.std.specs.Prelude.{◌≡◌, ◌∷◌, ◌+◌, ◌*◌, ◌≤◌, length};
+ghost use Rattle.std.specs.Prelude.{◌≡◌, ◌∷◌, ◌+◌, ◌≤◌, length};
 ghost use Rattle.theory.specs.Words.{order_from};
 ghost use Rattle.theory.specs.Tests.{ok};
 ghost use Rattle.note.specs.Limits.{file_limit};
@@ -13,21 +13,14 @@ ghost use Rattle.note.specs.History.{width_at, section_values, history_rule, his
 ghost use Rattle.note.specs.Gps.{gps_kind};
 ghost use Rattle.note.specs.Trigger.{trigger_kind};
 ghost use Rattle.note.specs.Tlb.{tlb_kind};
-ghost use Rattle.note.specs.Thresholds.{thresholds_kind};
-ghost use Rattle.note.specs.TriggerRates.{trigger_rates_kind};
-ghost use Rattle.note.specs.VetoRates.{veto_rates_kind};
-ghost use Rattle.note.specs.Records.{kind_of, monitoring_kind_of, kind_in};
+ghost use Rattle.note.specs.Records.{record_rule, kind_of};
 ghost use Rattle.note.specs.Calls.{record_found, record_at, hundredth, phonon_setting, charge_setting, setting_given, setting_at};
 ghost use Rattle.record.specs.Steps.{step_of};
 ghost use Rattle.answers.specs.Bodies.{body_at, kind_given, six_numbers, six_from, section_numbers};
 
 use fields::{decimal, hundredth, to_signed};
-use monitoring::{
-    COUNTERS_AT, ENTRIES_AT, LINES_AT, OPERATIONS_AT, RATE_CODES_AT, THRESHOLD_CODES_AT, VALUES_AT,
-    VETO_CODES_AT,
-};
 use note::{RecordAnswer, SettingAnswer, TOO_LARGE, TOO_SHORT, WRONG_KIND};
-use record::{FRONT, Step, record_in, told};
+use record::{ALONE, FRONT, Step, record_in};
 use rules::{ADDRESS_AT, CHANNEL_AT, CODE_AT, DELTA_AT, N_AT, T0_AT, section_end};
 use words::word_at;
 
@@ -230,9 +223,9 @@ fn history_of(place: usize, b: &[u8], big: bool) -> RecordAnswer
     }
 }
 
-// The fields of a body that follows its kind's rule, of a record at `place` outside monitoring events. The default isn't reached.
+// The fields of a body that follows its kind's rule, of a record at `place`. The default isn't reached.
 fn fields_of(word: u32, place: usize, b: &[u8], big: bool) -> RecordAnswer
-    requires { ((kind_of word).rule (order_from big) b.now ≡ 0) × (place + 8 + length b.now ≤ file_limit) }
+    requires { (record_rule (order_from big) word b.now ≡ 0) × (place + 8 + length b.now ≤ file_limit) }
     ensures { given_record result ≡ kind_given (order_from big) (kind_of word) place b.now }
 {
     match word {
@@ -251,86 +244,11 @@ fn fields_of(word: u32, place: usize, b: &[u8], big: bool) -> RecordAnswer
     }
 }
 
-// ---- the records of monitoring events, with the places of their lists in the file that has the record at `place`
-
-// Thresholds: four words, three lists.
-fn thresholds_of(place: usize, b: &[u8], big: bool) -> RecordAnswer
-    requires { (292 ≤ length b.now) × (place + 8 + length b.now ≤ file_limit) }
-    ensures { given_record result ≡ kind_given (order_from big) thresholds_kind place b.now }
-{
-    RecordAnswer::Thresholds {
-        minimum: word_at(b, 0, big),
-        maximum: word_at(b, 4, big),
-        range: word_at(b, 8, big),
-        tower: word_at(b, 12, big),
-        codes_at: (place + FRONT + THRESHOLD_CODES_AT) as u32,
-        operations_at: (place + FRONT + OPERATIONS_AT) as u32,
-        values_at: (place + FRONT + VALUES_AT) as u32,
-    }
-}
-
-// Trigger rates: two words, three lists.
-fn trigger_rates_of(place: usize, b: &[u8], big: bool) -> RecordAnswer
-    requires { (172 ≤ length b.now) × (place + 8 + length b.now ≤ file_limit) }
-    ensures { given_record result ≡ kind_given (order_from big) trigger_rates_kind place b.now }
-{
-    RecordAnswer::TriggerRates {
-        interval: word_at(b, 0, big),
-        tower: word_at(b, 4, big),
-        codes_at: (place + FRONT + RATE_CODES_AT) as u32,
-        lines_at: (place + FRONT + LINES_AT) as u32,
-        counters_at: (place + FRONT + COUNTERS_AT) as u32,
-    }
-}
-
-// Veto rates: two words, two lists of as many entries as the second says.
-fn veto_rates_of(place: usize, b: &[u8], big: bool) -> RecordAnswer
-    requires { (length b.now ≡ 8 + 8 * word (order_from big) 4 b.now) × (place + 8 + length b.now ≤ file_limit) }
-    ensures { given_record result ≡ kind_given (order_from big) veto_rates_kind place b.now }
-{
-    let entries = word_at(b, ENTRIES_AT, big);
-    let codes = place + FRONT + VETO_CODES_AT;
-    RecordAnswer::VetoRates {
-        interval: word_at(b, 0, big),
-        entries,
-        codes_at: codes as u32,
-        counters_at: (codes + 4 * entries as usize) as u32,
-    }
-}
-
-// The fields of a body that follows its kind's rule in a monitoring event. The default isn't reached.
-fn monitored_of(word: u32, place: usize, b: &[u8], big: bool) -> RecordAnswer
-    requires { ((monitoring_kind_of word).rule (order_from big) b.now ≡ 0) × (place + 8 + length b.now ≤ file_limit) }
-    ensures { given_record result ≡ kind_given (order_from big) (monitoring_kind_of word) place b.now }
-{
-    match word {
-        monitoring::THRESHOLDS => thresholds_of(place, b, big),
-        monitoring::TRIGGER_RATES => trigger_rates_of(place, b, big),
-        monitoring::VETO_RATES => veto_rates_of(place, b, big),
-        _ => RecordAnswer::Refused {
-            number: WRONG_KIND,
-            place,
-        },
-    }
-}
-
-// The fields of either sort of record.
-fn answer_of(monitoring: bool, word: u32, place: usize, b: &[u8], big: bool) -> RecordAnswer
-    requires { ((kind_in monitoring word).rule (order_from big) b.now ≡ 0) × (place + 8 + length b.now ≤ file_limit) }
-    ensures { given_record result ≡ kind_given (order_from big) (kind_in monitoring word) place b.now }
-{
-    if monitoring {
-        return monitored_of(word, place, b, big);
-    }
-    fields_of(word, place, b, big)
-}
-
 // ---- the calls
 
-/// What Record, told whether it reads in a monitoring event, finds at a place: the kind word and the body's length, or Record's refusal. Every call
-/// by place begins with it.
-pub fn record_found(file: &[u8], place: usize, monitoring: bool, big: bool) -> Step
-    ensures { result ≡ step_of (record_found (order_from big) monitoring file.now place) }
+/// What Record finds at a place: the kind word and the body's length, or Record's refusal. Every call by place begins with it.
+pub fn record_found(file: &[u8], place: usize, big: bool) -> Step
+    ensures { result ≡ step_of (record_found (order_from big) file.now place) }
 {
     if file.len() > record::FILE_LIMIT {
         return Step::Bad {
@@ -344,7 +262,7 @@ pub fn record_found(file: &[u8], place: usize, monitoring: bool, big: bool) -> S
             place,
         };
     }
-    record_in(&file[place..], place, told(monitoring), big)
+    record_in(&file[place..], place, ALONE, big)
 }
 
 // The n bytes behind the two words of a record at a place.
@@ -355,19 +273,13 @@ fn body_at(file: &[u8], place: usize, n: usize) -> &[u8]
     &file[place + FRONT..place + FRONT + n]
 }
 
-/// Record: the record or entry at a place with its fields, the whole file its parent and no event's rules but what kind words mean, which the
-/// caller says; or a refusal. A case for each kind (FORMAT 8.5).
-pub fn record(file: &[u8], place: usize, monitoring: bool, big: bool) -> RecordAnswer
-    ensures { given_record result ≡ record_at (order_from big) monitoring file.now place }
+/// Record: the record or entry at a place with its fields, the whole file its parent and no event's rules; or a refusal.
+/// A case for each kind (FORMAT 8.5).
+pub fn record(file: &[u8], place: usize, big: bool) -> RecordAnswer
+    ensures { given_record result ≡ record_at (order_from big) file.now place }
 {
-    match record_found(file, place, monitoring, big) {
-        Step::Good { word, length } => answer_of(
-            monitoring,
-            word,
-            place,
-            body_at(file, place, length),
-            big,
-        ),
+    match record_found(file, place, big) {
+        Step::Good { word, length } => fields_of(word, place, body_at(file, place, length), big),
         Step::Bad { number, place: at } => RecordAnswer::Refused { number, place: at },
     }
 }
@@ -419,7 +331,7 @@ fn charge_setting(b: &[u8], big: bool) -> SettingAnswer
 
 // The setting of a body that follows its kind's rule; 5 at the place for another kind.
 fn setting_of(word: u32, place: usize, b: &[u8], big: bool) -> SettingAnswer
-    requires { (kind_of word).rule (order_from big) b.now ≡ 0 }
+    requires { record_rule (order_from big) word b.now ≡ 0 }
     ensures { given_setting result ≡ setting_given (order_from big) place (ok (record { word = word; body = b.now })) }
 {
     match word {
@@ -437,7 +349,7 @@ fn setting_of(word: u32, place: usize, b: &[u8], big: bool) -> SettingAnswer
 pub fn setting(file: &[u8], place: usize, big: bool) -> SettingAnswer
     ensures { given_setting result ≡ setting_at (order_from big) file.now place }
 {
-    match record_found(file, place, false, big) {
+    match record_found(file, place, big) {
         Step::Good { word, length } => setting_of(word, place, body_at(file, place, length), big),
         Step::Bad { number, place: at } => SettingAnswer::Refused { number, place: at },
     }

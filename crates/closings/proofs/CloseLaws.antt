@@ -2,10 +2,10 @@
 -- The idea: what is answered before the contents are asked, then the contents; a configuration's own word has no fault, and its contents may be none.
 use Prim.Native.Nat.{ℕ, zero, suc, ◌+◌, ◌-◌, ◌%◌, ◌≤◌}
 use mathlib.Core.Path.{◌≡◌, refl, sym, ap, ◌∙◌, subst}
-use mathlib.Core.Bool.{true, cond}
+use mathlib.Core.Bool.{true}
 use mathlib.Core.List.{List, [], ◌∷◌}
 use native.Mathlib.Omega.{arith}
-use lib.Dec.{leb, eqb}
+use lib.Dec.{leb}
 use lib.ListN.{length}
 use lib.Seq.{sets}
 use borrow.Author.Tests.{le-leb}
@@ -14,8 +14,8 @@ use Rattle.theory.specs.Tests.{Res, ok, need, bind}
 use Rattle.theory.proofs.WordLaws.{length-puts}
 use Rattle.theory.proofs.TestLaws.{bind_ok}
 use Rattle.note.specs.Answers.{Given, given_writer}
-use Rattle.note.specs.Records.{Record, Context, entry, event, monitoring, unseen, read_records}
-use Rattle.note.specs.Events.{event_context, event_word, event_fault}
+use Rattle.note.specs.Records.{Record, Context, entry, event, unseen, read_records}
+use Rattle.note.specs.Events.{event_word, event_fault}
 use Rattle.note.specs.Files.{configuration_word}
 use Rattle.note.specs.Writers.{writer_given, output_after, contents_of, end_given, closing_bytes}
 use Rattle.note.specs.Writers.{configuration_closed, configuration_output, event_closed, event_output}
@@ -113,8 +113,7 @@ configuration-ends o out place end {given} {after} s =
     subst (λ (r : Res ℕ). (given ≡ writer_given r) × (after ≡ output_after r out place head)) (configuration-is o out place end) s
 
 event-is : (o : Order) (out : List ℕ) (place end class category type : ℕ)
-    → closed o out place end (event_fault class category type) 1 (event_context (event_word class category type))
-    ≡ event_closed o out place end class category type
+    → closed o out place end (event_fault class category type) 1 (event unseen) ≡ event_closed o out place end class category type
 unfolding closed bounded event_closed
 event-is o out place end class category type = simp need-bind
 
@@ -122,13 +121,6 @@ event-is o out place end class category type = simp need-bind
 pub word-whole : (class category type : ℕ) → event_fault class category type ≡ 0
     → event_word (class % 16) (category % 16) (type % 256) ≡ event_word class category type
 word-whole class category type e = let (a, b, c) = admitted class category type e in omega arith
-
--- The type in it decides what its records are read as, and so does the type alone.
-pub context-whole : (class category type : ℕ) → event_context type ≡ event_context (event_word class category type)
-unfolding event_context
-context-whole class category type =
-    let same : type % 256 ≡ event_word class category type % 256 = omega arith in
-    ap (λ (t : ℕ). cond (eqb t 7) monitoring (event unseen)) same
 
 module _ (o : Order) (out : List ℕ) (place end class category type : ℕ) where
   -- The fault of the event's own word, and its two words.
@@ -138,27 +130,23 @@ module _ (o : Order) (out : List ℕ) (place end class category type : ℕ) wher
   abbrev own-head : List ℕ
   own-head = closing_bytes o (event_word class category type) place end
 
-  -- What its records are read as.
-  abbrev own-context : Context
-  own-context = event_context (event_word class category type)
-
   -- Where the closing is granted, the word that was made is the event's.
   head-is : (word : ℕ) → word ≡ event_word (class % 16) (category % 16) (type % 256) → (next : ℕ)
-      → closed o out place end own-fault 1 own-context ≡ ok next → closing_bytes o word place end ≡ own-head
+      → closed o out place end own-fault 1 (event unseen) ≡ ok next → closing_bytes o word place end ≡ own-head
   unfolding closed
   head-is word word-is next e =
-      let contents : Res (List Record) = read_records o own-context (place + 8) (contents_of out place end) in
+      let contents : Res (List Record) = read_records o (event unseen) (place + 8) (contents_of out place end) in
       let (n, bounded-ok, rest) = bind_ok (bounded (length out) place end own-fault 1) (λ m. end_given m contents) e in
       let clean : own-fault ≡ 0 = (bounds (length out) place end own-fault 1 n bounded-ok).clean in
       ap (λ (w : ℕ). closing_bytes o w place end) (word-is ∙ word-whole class category type clean)
 
   pub event-ends : {fault word : ℕ} {c : Context} {given : Given} {after : List ℕ} → fault ≡ own-fault
-      → word ≡ event_word (class % 16) (category % 16) (type % 256) → c ≡ own-context
+      → word ≡ event_word (class % 16) (category % 16) (type % 256) → c ≡ event unseen
       → Ends o (record { out = out; place = place; end = end; fault = fault; least = 1; word = word; context = c }) given after
       → (given ≡ writer_given (event_closed o out place end class category type)) × (after ≡ event_output o out place end class category type)
   unfolding event_output
   event-ends {fault} {word} {c} fault-is word-is context-is (answer, output) =
-      let r : Res ℕ = closed o out place end own-fault 1 own-context in
+      let r : Res ℕ = closed o out place end own-fault 1 (event unseen) in
       let same : closed o out place end fault 1 c ≡ r = λ i. closed o out place end (fault-is i) 1 (context-is i) in
       let is : r ≡ event_closed o out place end class category type = event-is o out place end class category type in (
         answer ∙ ap writer_given (same ∙ is),

@@ -14,7 +14,7 @@ ghost use Rattle.closings.specs.Closing.{bounded, closed};
 use containers::{CONFIGURATION, Count, FILE_MARK, FORMAT, HEADER, records_in};
 use fields::{EVENT_MARK, event_fault};
 use note::{MISPLACED, NO_ROOM, TOO_LARGE, WriterAnswer};
-use record::{ENTRY, FILE_LIMIT, FRONT, event_context};
+use record::{ENTRY, FILE_LIMIT, FRONT, fresh};
 use stores::{admitted, put_words};
 
 // The bits of a number with the `k` bits of another below them. By shift (FORMAT 6.2, 6.4); its callers mask.
@@ -170,7 +170,7 @@ pub fn close_event(
         event_fault(class, category, event_type),
         1,
         event_word(class, category, event_type),
-        event_context(event_type),
+        fresh(),
         big,
     )
 }

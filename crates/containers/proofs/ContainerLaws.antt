@@ -1,6 +1,5 @@
 -- What a count says of what was read; and one law for each way through a container's reader, once for configurations and events.
--- The idea: a container is its two words, in order, and then its records; head, late and inner, the context that its first word makes, are what the
--- two kinds differ in.
+-- The idea: a container is its two words, in order, and then its records; head, late and the context inner are what the two kinds differ in.
 use mathlib.Core.Path.{◌≡◌, refl, sym, ap, ◌∙◌, subst}
 use mathlib.Core.List.{List}
 use Prim.Native.Nat.{ℕ, ◌+◌, ◌-◌, ◌≤◌, ◌<◌}
@@ -47,14 +46,14 @@ module _ {A : Type 0} (size : A → ℕ) where
 abbrev pub contents_answer : Order → Context → ℕ → List ℕ → ℕ → Count
 contents_answer o inner at bs n = record_count (read_records o inner (at + 8) (cut_body n bs))
 
-module _ (o : Order) (head : ℕ → ℕ) (late : ℕ → ℕ → ℕ) (inner : ℕ → Context) where
+module _ (o : Order) (head : ℕ → ℕ) (late : ℕ → ℕ → ℕ) (inner : Context) where
   -- A container that was read: its length word is its contents' length, and it fits.
   pub sized : (at : ℕ) (bs : List ℕ) (c : Container) → Bytes bs → reader o head late inner at bs ≡ ok c
       → (length (records_bytes o c.body) ≡ word o 4 bs) × (8 + word o 4 bs ≤ length bs)
   unfolding read_records read_record
   sized at bs c h q = (
-    length-is o too_short short-some (stateless head) (stateless late) (inside (λ s. inner s.1) (records o)) tt at bs c h q,
-    (opens o too_short short-some (stateless head) (stateless late) (inside (λ s. inner s.1) (records o)).read tt at bs c q).fits,
+    length-is o too_short short-some (stateless head) (stateless late) (inside (λ s. inner) (records o)) tt at bs c h q,
+    (opens o too_short short-some (stateless head) (stateless late) (inside (λ s. inner) (records o)).read tt at bs c q).fits,
   )
 
   -- Each test of the two words that fails is the refusal; the tests before it have passed.
@@ -90,13 +89,11 @@ pub record Begun (o : Order) (head : ℕ → ℕ) (late : ℕ → ℕ → ℕ) (
 
 -- The container is then what its contents are read as.
 module _ {o : Order} {head : ℕ → ℕ} {late : ℕ → ℕ → ℕ} {bs : List ℕ} {k n : ℕ}
-    (b : Begun o head late bs k n) (inner : ℕ → Context) (at : ℕ) where
-  begun-reads : (r : Res (List Record)) → read_records o (inner k) (at + 8) (cut_body n bs) ≡ r
+    (b : Begun o head late bs k n) (inner : Context) (at : ℕ) where
+  begun-reads : (r : Res (List Record)) → read_records o inner (at + 8) (cut_body n bs) ≡ r
       → reader o head late inner at bs ≡ bind {B = Container} r (λ xs. ok (record { word = k; body = xs }))
   begun-reads r e =
-      let same : read_records o (inner (word o 0 bs)) (at + 8) (take n (drop 8 bs)) ≡ r =
-      ap (λ (w : ℕ). read_records o (inner w) (at + 8) (take n (drop 8 bs))) (sym b.kind-is)
-      ∙ ap (read_records o (inner k) (at + 8)) (sym (cut n bs)) ∙ e in
+      let same : read_records o inner (at + 8) (take n (drop 8 bs)) ≡ r = ap (read_records o inner (at + 8)) (sym (cut n bs)) ∙ e in
       rw (
         ← b.length-is,
         le-leb 8 (length bs) b.room,
@@ -107,18 +104,18 @@ module _ {o : Order} {head : ℕ → ℕ} {late : ℕ → ℕ → ℕ} {bs : Lis
         ← b.kind-is,
       )
 
-  pub contents-fault : (x p : ℕ) → Count.Bad x p ≡ contents_answer o (inner k) at bs n → Bad x p ≡ container_step o (reader o head late inner at bs)
+  pub contents-fault : (x p : ℕ) → Count.Bad x p ≡ contents_answer o inner at bs n → Bad x p ≡ container_step o (reader o head late inner at bs)
   unfolding container_step
   contents-fault x p e = rw (begun-reads (bad x p) (count-bad length e))
 
-  pub held : (m : ℕ) → Count.Good m ≡ contents_answer o (inner k) at bs n → Good k n m ≡ container_step o (reader o head late inner at bs)
+  pub held : (m : ℕ) → Count.Good m ≡ contents_answer o inner at bs n → Good k n m ≡ container_step o (reader o head late inner at bs)
   unfolding container_step
   held m e =
       let contents : List ℕ = take n (drop 8 bs) in
       let (xs, q, size) = count-good length e in
-      let r : (records o).read (inner k) (at + 8) contents ≡ ok xs =
-      sym (same-records o (inner k) (at + 8) contents) ∙ ap (read_records o (inner k) (at + 8)) (sym (cut n bs)) ∙ q in
+      let r : (records o).read inner (at + 8) contents ≡ ok xs =
+      sym (same-records o inner (at + 8) contents) ∙ ap (read_records o inner (at + 8)) (sym (cut n bs)) ∙ q in
       let by : Bytes contents = Bytes-part n 8 bs b.bytes in
-      let is : contents ≡ records_bytes o xs = ((records o).sound (inner k) (at + 8) contents xs by r).0 in
+      let is : contents ≡ records_bytes o xs = ((records o).sound inner (at + 8) contents xs by r).0 in
       let len : length (records_bytes o xs) ≡ n = ap length (sym is) ∙ length-take-le n (drop 8 bs) (omega (arith, length-drop 8 bs, b.fits)) in
       rw (begun-reads (ok xs) q, len, size)

@@ -11,8 +11,8 @@ use Rattle.theory.specs.Tests.{Res, ok, bad}
 use Rattle.theory.proofs.StructureLaws.{stateless, length-structure, opens, length-is, inside}
 use Rattle.theory.proofs.LoopLaws.{At, start, ended, stopped, more}
 use Rattle.note.specs.Words.{word}
-use Rattle.note.specs.Records.{Record, record_bytes, records_bytes, read_records}
-use Rattle.note.specs.Events.{Container, container_size, event_word_rule, event_context, event_late, read_event, read_events}
+use Rattle.note.specs.Records.{Record, event, unseen, record_bytes, records_bytes, read_records}
+use Rattle.note.specs.Events.{Container, container_size, event_word_rule, event_late, read_event, read_events}
 use Rattle.demands.proofs.Bundles.{records, event_item, same-records, same-event, same-events}
 use Rattle.record.proofs.StepLaws.{cut_body, cut}
 use Rattle.containers.specs.declared.Count.TheVariants as Count
@@ -46,23 +46,21 @@ pub record Shown (o : Order) (at : ℕ) (rest : List ℕ) (e : Container) : Type
   pub kind-is : e.word ≡ word o 0 rest
   pub size : length (records_bytes o e.body) ≡ word o 4 rest
   pub fits : 8 + word o 4 rest ≤ length rest
-  pub contents : read_records o (event_context (word o 0 rest)) (at + 8) (cut_body (word o 4 rest) rest) ≡ ok e.body
+  pub contents : read_records o (event unseen) (at + 8) (cut_body (word o 4 rest) rest) ≡ ok e.body
 
 pub event-shows : (o : Order) (at : ℕ) (rest : List ℕ) (e : Container) → Bytes rest → (event_item o).read tt at rest ≡ ok e → Shown o at rest e
 event-shows o at rest e h r =
     let shown =
-    opens o too_short short-some (stateless event_word_rule) (stateless event_late) (inside (λ s. event_context s.1) (records o)).read
-    tt at rest e r in
+    opens o too_short short-some (stateless event_word_rule) (stateless event_late) (inside (λ s. event unseen) (records o)).read tt at rest e r in
     record {
       read = r;
       kind-is = shown.kind-is;
       size =
-          length-is o too_short short-some (stateless event_word_rule) (stateless event_late) (inside (λ s. event_context s.1) (records o))
-          tt at rest e h r;
+          length-is o too_short short-some (stateless event_word_rule) (stateless event_late) (inside (λ s. event unseen) (records o)) tt at rest e h r;
       fits = shown.fits;
       contents =
-          ap (read_records o (event_context (word o 0 rest)) (at + 8)) (cut (word o 4 rest) rest)
-          ∙ same-records o (event_context (word o 0 rest)) (at + 8) (take (word o 4 rest) (drop 8 rest))
+          ap (read_records o (event unseen) (at + 8)) (cut (word o 4 rest) rest)
+          ∙ same-records o (event unseen) (at + 8) (take (word o 4 rest) (drop 8 rest))
           ∙ shown.body_is;
     }
 
@@ -121,7 +119,7 @@ module _ {o : Order} {from : ℕ} {bs : List ℕ} {at : ℕ} {rest : List ℕ} {
     unfolding read_event
     fits =
         let (e, r, k-is, n-is, t-is) = holding_good o (read_event o at rest) k n t q in
-        let (a, b) = sized o event_word_rule event_late event_context at rest e i.bytes r in
+        let (a, b) = sized o event_word_rule event_late (event unseen) at rest e i.bytes r in
         (omega arith, omega (arith, few o e.body))
 
     pub next : Rows o from bs (at + (8 + n)) (behind_of (8 + n) rest) (count + 1 + t)

@@ -12,11 +12,11 @@ use Rattle.theory.specs.Tests.{Res, ok, bad, bind}
 use Rattle.theory.proofs.WordLaws.{Bytes-drop}
 use Rattle.note.specs.Limits.{file_limit}
 use Rattle.note.specs.Words.{word}
-use Rattle.note.specs.Records.{records_bytes}
+use Rattle.note.specs.Records.{entry, records_bytes}
 use Rattle.note.specs.Events.{Container, container_bytes, container_size, events_bytes, read_events}
 use Rattle.note.specs.Files.{Parts, file_mark, format, configuration_rule, configuration_late}
 use Rattle.note.specs.Files.{read_header, read_configuration, read_parts, order_of, read_file}
-use Rattle.demands.proofs.Bundles.{entries, events, same-events}
+use Rattle.demands.proofs.Bundles.{events, same-events}
 use Rattle.demands.proofs.RowLaws.{container_size_lem}
 use Rattle.containers.specs.declared.Count.{Count}
 use Rattle.containers.specs.declared.Count.TheVariants as Count
@@ -116,7 +116,7 @@ module _ {o : Order} {bs : List ℕ} (h : Headed o bs) where
   configured k n t q =
       let (c, r, k-is, n-is, t-is) = holding_good o (read_configuration o 8 (behind_of 8 bs)) k n t q in
       let same : read_configuration o 8 (drop 8 bs) ≡ ok c = ap (read_configuration o 8) (left 8 bs) ∙ r in
-      let (s, fit) = sized o configuration_rule configuration_late entries 8 (drop 8 bs) c (Bytes-drop 8 bs h.bytes) same in
+      let (s, fit) = sized o configuration_rule configuration_late entry 8 (drop 8 bs) c (Bytes-drop 8 bs h.bytes) same in
       record {
         headed = h;
         configuration = c;

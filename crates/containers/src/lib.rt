@@ -10,7 +10,7 @@ ghost use Rattle.containers.specs.Counts.{record_count, container_step, event_ro
 
 use fields::event_word_rule;
 use note::{MISPLACED, NOT_A_FILE, TOO_LARGE, TOO_SHORT, WRONG_FORMAT, WRONG_KIND};
-use record::{ENTRY, FRONT, Step, event_context, next_context, record_in};
+use record::{ENTRY, FRONT, Step, fresh, next_context, record_in};
 use words::{is_big, word_at};
 
 /// The header's first word, and the lower half of its second: format 2.0.
@@ -174,12 +174,7 @@ pub fn event_in(part: &[u8], at: usize, big: bool) -> Holding
             place: at,
         };
     }
-    match records_in(
-        &part[FRONT..FRONT + length],
-        at + FRONT,
-        event_context(word),
-        big,
-    ) {
+    match records_in(&part[FRONT..FRONT + length], at + FRONT, fresh(), big) {
         Count::Good { count } => Holding::Good {
             word,
             length,

@@ -7,8 +7,7 @@ use native.Mathlib.Omega.{arith}
 use lib.ListN.{length}
 use Rattle.theory.specs.declared.Order.{Order}
 use Rattle.note.specs.Kinds.{Kind}
-use Rattle.note.specs.Records.{kind_of, monitoring_kind_of, unknown_kind}
-use Rattle.monitoring.proofs.LengthLaws as Monitoring
+use Rattle.note.specs.Records.{kind_of, unknown_kind}
 use Rattle.rules.proofs.LengthLaws.{least, long_enough}
 use Rattle.copies.specs.Copying.{Copyable, Copied}
 
@@ -23,14 +22,3 @@ module _ (o : Order) {kind w : ℕ} (e : kind ≡ w) (b : List ℕ) (place : ℕ
 
 pub never : {o : Order} {k : Kind} {b : List ℕ} {n place : ℕ} → Copyable o k b n place → k ≡ unknown_kind → ⊥
 never {o} {k} {b} c e = let none : ◌≡◌ {A = ℕ} 5 0 = sym (ap (λ (x : Kind). x.rule o b) e) ∙ c.follows in omega arith
-
--- The same in a monitoring event.
-module _ (o : Order) {kind w : ℕ} (e : kind ≡ w) (b : List ℕ) (place : ℕ) where
-  pub monitored_asked : (n : ℕ) → Copyable o (monitoring_kind_of kind) b n place
-      → (Monitoring.least w ≤ length b) × Copyable o (monitoring_kind_of w) b n place
-  monitored_asked n c =
-      let own : Copyable o (monitoring_kind_of w) b n place = subst (λ (x : ℕ). Copyable o (monitoring_kind_of x) b n place) e c in
-      (Monitoring.long_enough o w b own.follows, own)
-
-  pub monitored_left : (old new : List ℕ) → Copied o (monitoring_kind_of w) b old place new → Copied o (monitoring_kind_of kind) b old place new
-  monitored_left old new h = subst (λ (x : ℕ). Copied o (monitoring_kind_of x) b old place new) (sym e) h

@@ -10,20 +10,11 @@ ghost use Rattle.note.specs.History.{width_at, history_kind};
 ghost use Rattle.note.specs.Gps.{gps_kind};
 ghost use Rattle.note.specs.Trigger.{trigger_kind};
 ghost use Rattle.note.specs.Tlb.{tlb_kind};
-ghost use Rattle.note.specs.Thresholds.{thresholds_kind};
-ghost use Rattle.note.specs.TriggerRates.{trigger_rates_kind};
-ghost use Rattle.note.specs.VetoRates.{veto_rates_kind};
-ghost use Rattle.note.specs.Records.{kind_of, monitoring_kind_of, kind_in};
+ghost use Rattle.note.specs.Records.{kind_of};
 ghost use Rattle.copies.specs.Copying.{Copyable, Copied};
 
 use answers::{signed_at, six_at};
 use fields::decimal;
-use monitoring::{
-    COUNTERS_AT, ENTRIES_AT, LINES_AT, OPERATIONS_AT, RATE_CODES_AT, THRESHOLD_CODES_AT,
-    THRESHOLDS, THRESHOLDS_LENGTH, TRIGGER_RATES, TRIGGER_RATES_LENGTH, VALUES_AT, VETO_CODES_AT,
-    VETO_RATES,
-};
-use monitors::{write_thresholds, write_trigger_rates, write_veto_rates};
 use rules::{
     ADDRESS_AT, ADMINISTRATIVE, CHANNEL_AT, CHARGE, CODE_AT, DELTA_AT, GPS, HISTORY, N_AT, PHONON,
     SAMPLES_AT, T0_AT, TLB, TRACE, TRIGGER, section_end,
@@ -177,8 +168,10 @@ fn copy_tlb(body: &[u8], out: &mut [u8], place: usize, big: bool)
     );
 }
 
-// Any of these: what stands in a configuration or in an event that is no monitoring event.
-fn copy_ordinary(word: u32, body: &[u8], out: &mut [u8], place: usize, big: bool)
+// ---- any of them
+
+/// Writes a record or an entry of this kind again, from its body's fields, into the output from the place on.
+pub fn copy_record(word: u32, body: &[u8], out: &mut [u8], place: usize, big: bool)
     requires { Copyable (order_from big) (kind_of word) body.now (length out.old) place }
     ensures { Copied (order_from big) (kind_of word) body.now out.old place out.new }
 {
@@ -193,93 +186,5 @@ fn copy_ordinary(word: u32, body: &[u8], out: &mut [u8], place: usize, big: bool
         TLB => copy_tlb(body, out, place, big),
         // Not reached: a body that follows a rule has its kind.
         _ => {}
-    }
-}
-
-// ---- the records of monitoring events
-
-fn copy_thresholds(body: &[u8], out: &mut [u8], place: usize, big: bool)
-    requires { (292 ≤ length body.now) × Copyable (order_from big) thresholds_kind body.now (length out.old) place }
-    ensures { Copied (order_from big) thresholds_kind body.now out.old place out.new }
-{
-    write_thresholds(
-        out,
-        place,
-        word_at(body, 0, big),
-        word_at(body, 4, big),
-        word_at(body, 8, big),
-        word_at(body, 12, big),
-        &body[THRESHOLD_CODES_AT..OPERATIONS_AT],
-        &body[OPERATIONS_AT..VALUES_AT],
-        &body[VALUES_AT..THRESHOLDS_LENGTH],
-        big,
-    );
-}
-
-fn copy_trigger_rates(body: &[u8], out: &mut [u8], place: usize, big: bool)
-    requires { (172 ≤ length body.now) × Copyable (order_from big) trigger_rates_kind body.now (length out.old) place }
-    ensures { Copied (order_from big) trigger_rates_kind body.now out.old place out.new }
-{
-    write_trigger_rates(
-        out,
-        place,
-        word_at(body, 0, big),
-        word_at(body, 4, big),
-        &body[RATE_CODES_AT..LINES_AT],
-        &body[LINES_AT..COUNTERS_AT],
-        &body[COUNTERS_AT..TRIGGER_RATES_LENGTH],
-        big,
-    );
-}
-
-fn copy_veto_rates(body: &[u8], out: &mut [u8], place: usize, big: bool)
-    requires { (8 ≤ length body.now) × Copyable (order_from big) veto_rates_kind body.now (length out.old) place }
-    ensures { Copied (order_from big) veto_rates_kind body.now out.old place out.new }
-{
-    let entries = word_at(body, ENTRIES_AT, big);
-    let size = 4 * entries as usize;
-    let middle = VETO_CODES_AT + size;
-    write_veto_rates(
-        out,
-        place,
-        word_at(body, 0, big),
-        entries,
-        &body[VETO_CODES_AT..middle],
-        &body[middle..middle + size],
-        big,
-    );
-}
-
-fn copy_monitored(word: u32, body: &[u8], out: &mut [u8], place: usize, big: bool)
-    requires { Copyable (order_from big) (monitoring_kind_of word) body.now (length out.old) place }
-    ensures { Copied (order_from big) (monitoring_kind_of word) body.now out.old place out.new }
-{
-    match word {
-        THRESHOLDS => copy_thresholds(body, out, place, big),
-        TRIGGER_RATES => copy_trigger_rates(body, out, place, big),
-        VETO_RATES => copy_veto_rates(body, out, place, big),
-        // Not reached: a body that follows a rule has its kind.
-        _ => {}
-    }
-}
-
-// ---- any of them
-
-/// Writes a record or an entry of this kind, in a monitoring event or not, again, from its body's fields, into the output from the place on.
-pub fn copy_record(
-    monitoring: bool,
-    word: u32,
-    body: &[u8],
-    out: &mut [u8],
-    place: usize,
-    big: bool,
-)
-    requires { Copyable (order_from big) (kind_in monitoring word) body.now (length out.old) place }
-    ensures { Copied (order_from big) (kind_in monitoring word) body.now out.old place out.new }
-{
-    if monitoring {
-        copy_monitored(word, body, out, place, big)
-    } else {
-        copy_ordinary(word, body, out, place, big)
     }
 }

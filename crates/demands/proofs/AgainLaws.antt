@@ -19,17 +19,12 @@ use Rattle.note.specs.Gps.{gps_kind, gps_of, gps_rule}
 use Rattle.note.specs.Trigger.{trigger_kind, trigger_of, trigger_rule}
 use Rattle.note.specs.Tlb.{tlb_kind, tlb_of, tlb_rule}
 use Rattle.note.specs.Writers.{wrapped, phonon_draft, charge_draft, administrative_draft, trace_draft}
-use Rattle.note.specs.Thresholds.{thresholds_kind, thresholds_of, thresholds_rule}
-use Rattle.note.specs.TriggerRates.{trigger_rates_kind, trigger_rates_of, trigger_rates_rule}
-use Rattle.note.specs.VetoRates.{veto_rates_kind, veto_rates_of, veto_rates_rule}
-use Rattle.note.specs.Writers.{history_draft, gps_draft, trigger_draft, tlb_draft, thresholds_draft, trigger_rates_draft, veto_rates_draft}
+use Rattle.note.specs.Writers.{history_draft, gps_draft, trigger_draft, tlb_draft}
 use Rattle.note.proofs.SignedLaws.{word-again}
 use Rattle.note.proofs.FieldLaws.{phonon_restored, charge_restored, administrative_restored, trigger_restored, tlb_restored}
 use Rattle.note.proofs.TraceLaws.{trace-accepted, trace_restored}
 use Rattle.note.proofs.HistoryLaws.{history-faultless, history_restored}
 use Rattle.note.proofs.GpsLaws.{gps_restored}
-use Rattle.note.proofs.MonitorLaws.{thresholds-faultless, thresholds_restored, trigger_rates_faultless, trigger_rates_restored}
-use Rattle.note.proofs.MonitorLaws.{veto_rates_faultless, veto_rates_restored}
 use Rattle.demands.specs.Outputs.{Again}
 
 again : (o : Order) (k : Kind) (b body : List ℕ) (fault : ℕ) → fault ≡ 0 → body ≡ b → Again o k b (record { fault = fault; bytes = wrapped o k body })
@@ -82,15 +77,3 @@ module _ (o : Order) (b : List ℕ) (h : Bytes b) where
   pub tlb-again : tlb_rule o b ≡ 0 → Again o tlb_kind b (tlb_draft o (tlb_of o b))
   unfolding tlb_draft tlb_rule
   tlb-again e = again o tlb_kind b _ _ (first-at _ e 1) (tlb_restored o b h e)
-
-  pub thresholds-again : thresholds_rule o b ≡ 0 → Again o thresholds_kind b (thresholds_draft o (thresholds_of o b))
-  unfolding thresholds_draft
-  thresholds-again e = again o thresholds_kind b _ _ (thresholds-faultless o b e) (thresholds_restored o b h e)
-
-  pub trigger_rates_again : trigger_rates_rule o b ≡ 0 → Again o trigger_rates_kind b (trigger_rates_draft o (trigger_rates_of o b))
-  unfolding trigger_rates_draft
-  trigger_rates_again e = again o trigger_rates_kind b _ _ (trigger_rates_faultless o b e) (trigger_rates_restored o b h e)
-
-  pub veto_rates_again : veto_rates_rule o b ≡ 0 → Again o veto_rates_kind b (veto_rates_draft o (veto_rates_of o b))
-  unfolding veto_rates_draft
-  veto_rates_again e = again o veto_rates_kind b _ _ (veto_rates_faultless o b e) (veto_rates_restored o b h e)

@@ -16,8 +16,8 @@ use Rattle.theory.proofs.TestLaws.{bind_ok, ok_inj}
 use Rattle.theory.proofs.Items.{seqs, Oks, turn, seq_open}
 use Rattle.theory.proofs.StructureLaws.{second_word, drop-two}
 use Rattle.note.specs.Limits.{file_limit}
-use Rattle.note.specs.Records.{Record, Context, next_context, record_bytes, record_size, records_bytes, read_records}
-use Rattle.note.specs.Events.{Container, container_bytes, event_word, event_word_rule, event_context, event_late, events_bytes}
+use Rattle.note.specs.Records.{Record, Context, entry, event, unseen, next_context, record_bytes, record_size, records_bytes, read_records}
+use Rattle.note.specs.Events.{Container, container_bytes, event_word, event_word_rule, event_late, events_bytes}
 use Rattle.note.specs.Files.{version_word, version_rule, configuration_word, configuration_rule, configuration_late, file_bytes, read_file}
 use Rattle.note.specs.Rows.{table_given, table_filled, table_answer, table_buffer}
 use Rattle.note.specs.Writers.{Draft, output_after, record_next, record_output, contents_of, closing_bytes, header_next, header_output}
@@ -28,7 +28,7 @@ use Rattle.demands.specs.Outputs.{Laid}
 use Rattle.demands.specs.Assembly.{EventPieces, FilePieces, AllFitting, EventsFitting, FileFits, container_of, event_of, file_of, Built}
 use Rattle.demands.specs.Assembly.{records_assembled, container_assembled, configuration_assembled, event_assembled, events_assembled}
 use Rattle.demands.specs.Assembly.{file_assembled, Assembled}
-use Rattle.demands.proofs.Bundles.{box, entries, record_item, event_item, parts, same-records}
+use Rattle.demands.proofs.Bundles.{box, record_item, event_item, parts, same-records}
 use Rattle.demands.proofs.Follows.{parts-valid, file_complete}
 use Rattle.demands.proofs.RowLaws.{record_size_lem}
 use Rattle.demands.proofs.RecordLaws.{record_opens}
@@ -155,13 +155,13 @@ container_calls o closed output b ps after e =
     (filled, next, e1, e3, ok_inj e4)
 
 -- A container: what stands afterwards is the container of the pieces, and it is valid.
-pub record Stood (o : Order) (head : ℕ → ℕ) (late : ℕ → ℕ → ℕ) (c : ℕ → Context)
+pub record Stood (o : Order) (head : ℕ → ℕ) (late : ℕ → ℕ → ℕ) (c : Context)
     (b after : Built) (x : Container) : Type 0 where
   pub laid : Lays b after (container_bytes o x)
   pub room : after.next ≤ length b.out
   pub valid : (box o head late c).Ok tt x
 
-module _ (o : Order) (head : ℕ → ℕ) (late : ℕ → ℕ → ℕ) (c : ℕ → Context) (word : ℕ)
+module _ (o : Order) (head : ℕ → ℕ) (late : ℕ → ℕ → ℕ) (c : Context) (word : ℕ)
     (closed : List ℕ → ℕ → ℕ → Res ℕ) (output : List ℕ → ℕ → ℕ → List ℕ)
     (checked : (out : List ℕ) (place end next : ℕ) → closed out place end ≡ ok next → Checked o head late c out place end next word)
     (is : (old : List ℕ) (place end : ℕ) → output old place end ≡ output_after (closed old place end) old place (closing_bytes o word place end)) where
@@ -177,10 +177,9 @@ module _ (o : Order) (head : ℕ → ℕ) (late : ℕ → ℕ → ℕ) (c : ℕ 
       let k = checked old place end next e in
       let contents : contents_of old place end ≡ records_bytes o rs = (laid-contents b.out old (records_bytes o rs) place end l).1 in
       let bytes : Bytes (contents_of old place end) = subst Bytes (sym contents) (pieces-bytes o ps h) in
-      let again : read_records o (c word) (place + 8) (records_bytes o rs) ≡ ok k.read =
-      sym (ap (read_records o (c word) (place + 8)) contents) ∙ k.contents in
+      let again : read_records o c (place + 8) (records_bytes o rs) ≡ ok k.read = sym (ap (read_records o c (place + 8)) contents) ∙ k.contents in
       let same : k.read ≡ rs =
-      records_exact o (c word) (place + 8) rs k.read (pieces-kinds o ps h) (omega (arith, l.ends, k.room)) again in
+      records_exact o c (place + 8) rs k.read (pieces-kinds o ps h) (omega (arith, l.ends, k.room)) again in
       let left : output_after (ok next) old place (closing_bytes o word place end) ≡ output old place end =
       ap (λ (r : Res ℕ). output_after r old place (closing_bytes o word place end)) (sym e) ∙ sym (is old place end) in
       let whole : List Record → Container = λ xs. record { word = word; body = xs } in
@@ -202,17 +201,17 @@ module _ (o : Order) (head : ℕ → ℕ) (late : ℕ → ℕ → ℕ) (c : ℕ 
       (closed-stands b filled ps next h (records-laid o _ ps filled h e1) e2)
 
 pub configuration-stands : (o : Order) (b : Built) (ps : List Piece) (after : Built) → AllFitting ps → configuration_assembled o b ps ≡ ok after
-    → Stood o configuration_rule configuration_late entries b after (container_of o configuration_word ps)
+    → Stood o configuration_rule configuration_late entry b after (container_of o configuration_word ps)
 unfolding configuration_output
 configuration-stands o =
-    container_stands o configuration_rule configuration_late entries configuration_word (configuration_closed o) (configuration_output o)
+    container_stands o configuration_rule configuration_late entry configuration_word (configuration_closed o) (configuration_output o)
     (configuration_checked o) (λ out place end. refl)
 
 pub event-stands : (o : Order) (b : Built) (e : EventPieces) (after : Built) → AllFitting e.records → event_assembled o b e ≡ ok after
-    → Stood o event_word_rule event_late event_context b after (event_of o e)
+    → Stood o event_word_rule event_late (event unseen) b after (event_of o e)
 unfolding event_output
 event-stands o b e after h q =
-    container_stands o event_word_rule event_late event_context (event_word e.class e.category e.type) _ _
+    container_stands o event_word_rule event_late (event unseen) (event_word e.class e.category e.type) _ _
     (λ out place end. event_checked o out place end e.class e.category e.type) (λ out place end. refl) b e.records after h q
 
 events_stand : (o : Order) (b : Built) (es : List EventPieces) (after : Built) → EventsFitting es → events_assembled o b es ≡ ok after

@@ -13,17 +13,16 @@ use Rattle.theory.proofs.TestLaws.{unless-zero, unless_holds, most_passed, most_
 use Rattle.theory.proofs.Items.{Item, Whole, seq_w, Oks}
 use Rattle.theory.proofs.StructureLaws.{stateless, structure, ruled, inside, pair, two_words}
 use Rattle.note.specs.Faults.{too_short, not_afile}
-use Rattle.note.proofs.FaultLaws.{short-some, other_some}
-use Rattle.note.specs.Records.{Record, Context, entry, is_kind, other_kind, is_allowed}
-use Rattle.note.specs.Records.{record_head, record_late, record_rule, next_context}
+use Rattle.note.proofs.FaultLaws.{short-some}
+use Rattle.note.specs.Records.{Record, Context, entry, event, unseen, is_kind, is_allowed, record_head, record_late, record_rule, next_context}
 use Rattle.note.specs.Records.{read_record, read_records}
-use Rattle.note.specs.Events.{Container, container_size, event_word_rule, event_context, event_late, read_event, read_events}
+use Rattle.note.specs.Events.{Container, container_size, event_word_rule, event_late, read_event, read_events}
 use Rattle.note.specs.Files.{Parts, file_mark, version_rule, configuration_rule, configuration_late, read_header, read_configuration, read_parts}
 use Rattle.demands.specs.Valid.{ValidRecord, ValidRecords, ValidEvent, ValidEvents}
 
 -- A record's body, by the rule of the kind that its first word names.
 abbrev pub record_body : Order → Whole (Context × ℕ) (List ℕ)
-record_body o = ruled (λ s. record_rule o s.0 s.1)
+record_body o = ruled (λ s. record_rule o s.1)
 
 abbrev pub record_item : Order → Item Context Record
 record_item o = structure o too_short short-some record_head record_late (record_body o) next_context
@@ -31,19 +30,15 @@ record_item o = structure o too_short short-some record_head record_late (record
 abbrev pub records : Order → Whole Context (List Record)
 records o = seq_w (record_item o)
 
--- A container of records with any tests of its own, its records read in the context that its first word makes.
-abbrev pub box : Order → (ℕ → ℕ) → (ℕ → ℕ → ℕ) → (ℕ → Context) → Item (Unit {0}) Container
-box o head late c = structure o too_short short-some (stateless head) (stateless late) (inside (λ s. c s.1) (records o)) (λ s x. s)
-
--- In a configuration the context of an entry.
-abbrev pub entries : ℕ → Context
-entries w = entry
+-- A container of records with any tests of its own, its records read in the context c.
+abbrev pub box : Order → (ℕ → ℕ) → (ℕ → ℕ → ℕ) → Context → Item (Unit {0}) Container
+box o head late c = structure o too_short short-some (stateless head) (stateless late) (inside (λ s. c) (records o)) (λ s x. s)
 
 abbrev pub configuration_item : Order → Item (Unit {0}) Container
-configuration_item o = box o configuration_rule configuration_late entries
+configuration_item o = box o configuration_rule configuration_late entry
 
 abbrev pub event_item : Order → Item (Unit {0}) Container
-event_item o = box o event_word_rule event_late event_context
+event_item o = box o event_word_rule event_late (event unseen)
 
 abbrev pub events : Order → Whole (Unit {0}) (List Container)
 events o = seq_w (event_item o)
@@ -110,7 +105,7 @@ from_test t c e = unless-zero t (suc c) (omega arith) e
 
 pub record_valid : (o : Order) (c : Context) (r : Record) → (record_item o).Ok c r → ValidRecord o c r
 record_valid o c r v = record {
-  kind_allowed = unless-zero (is_kind c r.word) (other_kind c r.word) (other_some c r.word) v.head_ok;
+  kind_allowed = from_test (is_kind c r.word) 4 v.head_ok;
   place_allowed = from_test (is_allowed c r.word) 8 v.late_ok;
   kind_fits = v.kind-word;
   length-fits = v.length-word;
@@ -120,7 +115,7 @@ record_valid o c r v = record {
 
 pub record_ok : (o : Order) (c : Context) (r : Record) → ValidRecord o c r → (record_item o).Ok c r
 record_ok o c r v = record {
-  head_ok = unless_holds (is_kind c r.word) (other_kind c r.word) v.kind_allowed;
+  head_ok = unless_holds (is_kind c r.word) 5 v.kind_allowed;
   late_ok = unless_holds (is_allowed c r.word) 9 v.place_allowed;
   kind-word = v.kind_fits;
   length-word = v.length-fits;
@@ -141,7 +136,7 @@ event-valid o e v = record {
   word_fits = v.kind-word;
   not_empty = most_passed 1 (length ((records o).enc e.body)) 8 v.late_ok;
   length-fits = v.length-word;
-  records-valid = records-valid o (event_context e.word) e.body v.body_ok;
+  records-valid = records-valid o (event unseen) e.body v.body_ok;
 }
 
 event-ok : (o : Order) (e : Container) → ValidEvent o e → (event_item o).Ok tt e
@@ -150,7 +145,7 @@ event-ok o e v = record {
   late_ok = most_passes 9 v.not_empty;
   kind-word = v.word_fits;
   length-word = v.length-fits;
-  body_ok = records-ok o (event_context e.word) e.body v.records-valid;
+  body_ok = records-ok o (event unseen) e.body v.records-valid;
 }
 
 pub events-valid : (o : Order) (es : List Container) → Oks (event_item o) tt es → ValidEvents o es

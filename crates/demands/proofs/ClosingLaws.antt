@@ -15,24 +15,24 @@ use Rattle.theory.specs.Structures.{read_structure}
 use Rattle.theory.proofs.WordLaws.{Bytes-part, length-puts}
 use Rattle.theory.proofs.TestLaws.{need-ok, bind_ok, ok_inj, most_passed, most_passes}
 use Rattle.note.specs.Limits.{file_limit}
-use Rattle.note.specs.Records.{Record, Context, entry, records_bytes, read_record, read_records}
-use Rattle.note.specs.Events.{Container, container_bytes, event_word, event_fault, event_word_rule, event_context, event_late, read_event}
+use Rattle.note.specs.Records.{Record, Context, entry, event, unseen, records_bytes, read_record, read_records}
+use Rattle.note.specs.Events.{Container, container_bytes, event_word, event_fault, event_word_rule, event_late, read_event}
 use Rattle.note.specs.Files.{configuration_word, configuration_rule, configuration_late, read_configuration}
 use Rattle.note.specs.Writers.{output_after, contents_of, end_given, within, closing_bytes}
 use Rattle.note.specs.Writers.{configuration_closed, configuration_output, event_closed, event_output}
 use Rattle.note.proofs.ContainerFieldLaws.{event-word-fits, event_word_admitted}
 use Rattle.demands.specs.Outputs.{Laid, HasRoom, Closed}
-use Rattle.demands.proofs.Bundles.{records, box, entries, same-records}
+use Rattle.demands.proofs.Bundles.{records, box, same-records}
 use Rattle.demands.proofs.RowLaws.{container_size_lem}
 use Rattle.demands.proofs.OutputLaws.{structure_apart, laid_from, put-laid, refusal_keeps}
 use Rattle.note.specs.Faults.{too_short}
 
 -- ---- any container
 
-module _ (o : Order) (head : ℕ → ℕ) (late : ℕ → ℕ → ℕ) (c : ℕ → Context) where
-  -- The container's reader, its tests of its own words being these and its records read in the context that its first word makes.
+module _ (o : Order) (head : ℕ → ℕ) (late : ℕ → ℕ → ℕ) (c : Context) where
+  -- The container's reader, its tests of its own words being these and its records read in the context c.
   abbrev pub reader : ℕ → List ℕ → Res Container
-  reader = read_structure o too_short head late (λ w at bs. read_records o (c w) (at + 8) bs)
+  reader = read_structure o too_short head late (λ w at bs. read_records o c (at + 8) bs)
 
   same-box : (s : Unit {0}) (at : ℕ) (bs : List ℕ) → reader at bs ≡ (box o head late c).read s at bs
   unfolding read_records read_record
@@ -45,7 +45,7 @@ module _ (o : Order) (head : ℕ → ℕ) (late : ℕ → ℕ → ℕ) (c : ℕ 
     pub head_ok : head word ≡ 0
     pub late_ok : late word (end - (place + 8)) ≡ 0
     pub read : List Record
-    pub contents : read_records o (c word) (place + 8) (contents_of out place end) ≡ ok read
+    pub contents : read_records o c (place + 8) (contents_of out place end) ≡ ok read
     pub is : end ≡ next
 
   module _ (out : List ℕ) (place end next word : ℕ) (k : Checked out place end next word) (h : Bytes (contents_of out place end)) where
@@ -57,8 +57,8 @@ module _ (o : Order) (head : ℕ → ℕ) (late : ℕ → ℕ → ℕ) (c : ℕ 
     inner-size = length-take-le (end - (place + 8)) (drop (place + 8) out) (omega (arith, length-drop (place + 8) out, k.room))
 
     -- The contents are the records that were read from them, and the container is valid.
-    inner : (held ≡ records_bytes o k.read) × (records o).Ok (c word) k.read
-    inner = (records o).sound (c word) (place + 8) held k.read h (sym (same-records o (c word) (place + 8) held) ∙ k.contents)
+    inner : (held ≡ records_bytes o k.read) × (records o).Ok c k.read
+    inner = (records o).sound c (place + 8) held k.read h (sym (same-records o c (place + 8) held) ∙ k.contents)
 
     size : length (records_bytes o k.read) ≡ end - (place + 8)
     size = sym (ap length inner.0) ∙ inner-size
@@ -132,7 +132,7 @@ module _ (o : Order) (head : ℕ → ℕ) (late : ℕ → ℕ → ℕ) (c : ℕ 
         }
 
     -- So a closing that has checked all this leaves a closed container.
-    closes : Closed o reader (c word) out (output_after (ok next) out place (closing_bytes o word place end)) place end next word
+    closes : Closed o reader c out (output_after (ok next) out place (closing_bytes o word place end)) place end next word
     unfolding eight new whole
     closes =
         let all : List ℕ = container_bytes o whole in
@@ -177,7 +177,7 @@ contents-bytes out place end h = Bytes-part (end - (place + 8)) (place + 8) out 
 -- A configuration.
 module _ (o : Order) (out : List ℕ) (place end : ℕ) where
   pub configuration_checked : (next : ℕ) → configuration_closed o out place end ≡ ok next
-      → Checked o configuration_rule configuration_late entries out place end next configuration_word
+      → Checked o configuration_rule configuration_late entry out place end next configuration_word
   unfolding configuration_closed
   configuration_checked next e =
       let (room, q) = within-ok (length out) place end _ next e in
@@ -185,7 +185,7 @@ module _ (o : Order) (out : List ℕ) (place end : ℕ) where
       record { room = room; fits = omega arith; head_ok = refl; late_ok = refl; read = rs; contents = read; is = is }
 
   -- And what a closing asks is no more.
-  pub configuration_grants : Checked o configuration_rule configuration_late entries out place end end configuration_word
+  pub configuration_grants : Checked o configuration_rule configuration_late entry out place end end configuration_word
       → configuration_closed o out place end ≡ ok end
   unfolding configuration_closed
   configuration_grants k = within_grants (length out) place end _ k.room ∙ ap (end_given end) k.contents
@@ -194,7 +194,7 @@ module _ (o : Order) (out : List ℕ) (place end : ℕ) where
       → Closed o (read_configuration o) entry out (configuration_output o out place end) place end next configuration_word
   unfolding read_configuration configuration_output
   configuration_closes next h e =
-      rw e (closes o configuration_rule configuration_late entries out place end next configuration_word
+      rw e (closes o configuration_rule configuration_late entry out place end next configuration_word
       (configuration_checked next e) (contents-bytes out place end h))
 
   -- A refusal leaves the output as it was.
@@ -211,7 +211,7 @@ module _ (o : Order) (out : List ℕ) (place end class category type : ℕ) wher
   abbrev first_word : ℕ
   first_word = event_word class category type
 
-  pub event_checked : (next : ℕ) → closed_event ≡ ok next → Checked o event_word_rule event_late event_context out place end next first_word
+  pub event_checked : (next : ℕ) → closed_event ≡ ok next → Checked o event_word_rule event_late (event unseen) out place end next first_word
   unfolding event_closed
   event_checked next e =
       let (room, q) = within-ok (length out) place end _ next e in
@@ -233,18 +233,17 @@ module _ (o : Order) (out : List ℕ) (place end class category type : ℕ) wher
   event-faultless next e = (need-ok (event_fault class category type) place _ (within-ok (length out) place end _ next e).1).0
 
   -- And what a closing asks is no more than that and a class, category and type without fault.
-  pub event_grants : event_fault class category type ≡ 0 → Checked o event_word_rule event_late event_context out place end end first_word
+  pub event_grants : event_fault class category type ≡ 0 → Checked o event_word_rule event_late (event unseen) out place end end first_word
       → closed_event ≡ ok end
   unfolding event_closed
   event_grants fault k =
       within_grants (length out) place end _ k.room ∙ rw (fault, k.late_ok) (ap (end_given end) k.contents)
 
   pub event_closes : (next : ℕ) → Bytes out → event_closed o out place end class category type ≡ ok next
-      → Closed o (read_event o) (event_context (event_word class category type)) out (event_output o out place end class category type) place end next
-      (event_word class category type)
+      → Closed o (read_event o) (event unseen) out (event_output o out place end class category type) place end next (event_word class category type)
   unfolding read_event event_output
   event_closes next h e =
-      rw e (closes o event_word_rule event_late event_context out place end next first_word (event_checked next e) (contents-bytes out place end h))
+      rw e (closes o event_word_rule event_late (event unseen) out place end next first_word (event_checked next e) (contents-bytes out place end h))
 
   -- A refusal leaves the output as it was.
   pub event-refused : (c p : ℕ) → event_closed o out place end class category type ≡ bad c p

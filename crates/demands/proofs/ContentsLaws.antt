@@ -11,8 +11,8 @@ use Rattle.theory.specs.declared.Order.{Order}
 use Rattle.theory.specs.Words.{Bytes}
 use Rattle.theory.specs.Tests.{ok, bad}
 use Rattle.theory.proofs.Items.{steps, seq_refused, seq_refuses}
-use Rattle.note.specs.Records.{Record, Context, entry, records_bytes, read_record, read_records}
-use Rattle.note.specs.Events.{event_word_rule, event_context, event_late, read_event}
+use Rattle.note.specs.Records.{Record, Context, entry, event, unseen, records_bytes, read_record, read_records}
+use Rattle.note.specs.Events.{event_word_rule, event_late, read_event}
 use Rattle.note.specs.Files.{configuration_rule, configuration_late, read_configuration}
 use Rattle.demands.specs.Valid.{ValidRecords}
 use Rattle.demands.specs.FirstFault.{past, Itself}
@@ -69,7 +69,7 @@ module _ (o : Order) (c : Context) (at : ℕ) (bs : List ℕ) (h : Bytes bs) whe
 -- A container at fault itself is refused so by its reader.
 pub event-itself : (o : Order) (part : List ℕ) (c p : ℕ) → Itself o event_word_rule event_late part c p → read_event o p part ≡ bad c p
 unfolding read_event
-event-itself o part c p own = own (λ w at bs. read_records o (event_context w) (at + 8) bs)
+event-itself o part c p own = own (λ s at bs. read_records o (event unseen) (at + 8) bs)
 
 pub configuration-itself : (o : Order) (part : List ℕ) (c p : ℕ) → Itself o configuration_rule configuration_late part c p
     → read_configuration o p part ≡ bad c p

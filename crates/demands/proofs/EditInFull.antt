@@ -2,7 +2,6 @@
 -- The idea: the row gives the trace's spot (SpotLaws), the spot gives the edit (EditLaws), and the places agree.
 use mathlib.Core.Path.{◌≡◌, refl, sym, ap, ◌∙◌, subst}
 use mathlib.Core.Logic.{◌≢◌}
-use mathlib.Core.Bool.{false}
 use mathlib.Core.List.{List, [], ◌∷◌}
 use Prim.Native.Nat.{ℕ, ◌+◌, ◌-◌, ◌/◌, ◌≤◌, ◌<◌}
 use native.Mathlib.Decide.{ℕ_discrete}
@@ -87,20 +86,20 @@ module _ {o : Order} {bs : List ℕ} {v : ℕ} {c : Container} {p : Spot} {t : R
     sample_changes = trace-edited;
     other_samples_stay = λ k n l other. elim (ℕ_discrete k j) [
       | yes e ↦ other_sample d k l e n (λ q. other (e, q ∙ ap (λ (z : ℕ). byte_at o z / 2 + 1) (sym same-offset)))
-      | no e ↦ ap (sample_given o (at d k) n) (other_row d k l e false)
+      | no e ↦ ap (sample_given o (at d k) n) (other_row d k l e)
     ];
-    other_parts_stay = λ k l e. samples_stay o bs (set bs (i d) x) (at d k) (other_row d k l e false);
-    fields_stay = λ k m l. elim (ℕ_discrete k j) [
-      | yes e ↦ same-fields d k l e m
-      | no e ↦ ap (record_given o m (at d k)) (other_row d k l e m)
+    other_parts_stay = λ k l e. samples_stay o bs (set bs (i d) x) (at d k) (other_row d k l e);
+    fields_stay = λ k l. elim (ℕ_discrete k j) [
+      | yes e ↦ same-fields d k l e
+      | no e ↦ ap (record_given o (at d k)) (other_row d k l e)
     ];
     lists_stay = λ k l. elim (ℕ_discrete k j) [
       | yes e ↦ trace_lists o bs (set bs (i d) x) (at d k) t (trace-old d k l e) d.kind
-      | no e ↦ lists_stay o bs (set bs (i d) x) (at d k) (other_row d k l e false)
+      | no e ↦ lists_stay o bs (set bs (i d) x) (at d k) (other_row d k l e)
     ];
     settings_stay = λ k l. elim (ℕ_discrete k j) [
       | yes e ↦ same_setting d k l e
-      | no e ↦ ap (setting_given o (at d k)) (other_row d k l e false)
+      | no e ↦ ap (setting_given o (at d k)) (other_row d k l e)
     ];
     other_rows_stay = λ k n l other z. get_or-set_other bs (i d) (at d k + n) x 0 (elsewhere_owned k n l other z);
     same_length = length-set bs (i d) x;
@@ -113,7 +112,7 @@ pub edit_in_full : (bs : List ℕ) (f : File) → Bytes bs → read_file bs ≡ 
     → (i x : ℕ) → start_of f j + 56 ≤ i → i < start_of f j + (row (rows_of f) j).whole → x < 256 → Edited (order_in f) bs f j i x
 edit_in_full bs f h e j below trace i x lo hi byte =
     let (is, valid) = file_sound bs f h e in
-    let (p, t, ep, here, start, whole, ordinary, kind) = traces_found f valid j below trace in
+    let (p, t, ep, here, start, whole, kind) = traces_found f valid j below trace in
     let o : Order = order_in f in
     let c : Container = configuration_of f in
     let m : ℕ = i - (place_of o c p + 8) in
@@ -126,7 +125,6 @@ edit_in_full bs f h e j below trace i x lo hi byte =
       here = here;
       start = start;
       whole = whole;
-      ordinary = ordinary;
       kind = kind;
       from = omega arith;
       inside = omega arith;

@@ -5,7 +5,7 @@ use mathlib.Core.Path.{◌≡◌, refl, sym, ap, ap₂, ◌∙◌, subst}
 use mathlib.Core.Logic.{◌≢◌}
 use mathlib.Core.Bool.{Bool, true, false, cond, ◌&&◌}
 use mathlib.Core.List.{List, [], ◌∷◌, ◌++◌, map, append_assoc}
-use mathlib.Core.Option.{some, none}
+use mathlib.Core.Option.{Option, some, none}
 use Prim.Native.Nat.{ℕ, zero, suc, ◌+◌, ◌-◌, ◌*◌, ◌/◌, ◌%◌, ◌≤◌, ◌<◌}
 use native.Mathlib.Omega.{arith}
 use lib.Dec.{leb, eqb}
@@ -14,7 +14,7 @@ use lib.Seq.{get_or_at, get_or-drop, get_or-set_same, get_or-set_other, drop-set
 use borrow.Author.Tests.{eqb-true, eqb-false, leb-true, le-leb}
 use Rattle.theory.specs.declared.Order.{Order}
 use Rattle.theory.specs.Words.{Bytes}
-use Rattle.theory.specs.Tests.{ok, bad}
+use Rattle.theory.specs.Tests.{ok}
 use Rattle.theory.specs.Layout.{Row, Child, Node, box, row}
 use Rattle.theory.proofs.WordLaws.{Bytes-set, Bytes-drop, Bytes-at, set-append-add}
 use Rattle.theory.proofs.Items.{Oks, steps, Oks-append}
@@ -23,25 +23,22 @@ use Rattle.note.specs.Limits.{file_limit}
 use Rattle.note.specs.Words.{word, byte_at}
 use Rattle.note.specs.Answers.{Given, accepted, refused, counts}
 use Rattle.note.specs.Trace.{trace_kind, trace_of, trace_rule, sample_in}
-use Rattle.note.specs.Records.{Record, Context, monitoring, in_monitoring, kind_in, kind_of, is_kind, other_kind, record_head, record_late, record_rule}
-use Rattle.note.specs.Records.{next_context, record_size, records_bytes}
-use Rattle.note.specs.Events.{Container, container_bytes, container_size, event_word_rule, event_context, event_late, events_bytes}
+use Rattle.note.specs.Records.{Record, event, unseen, record_head, record_late, record_rule, next_context, record_size, records_bytes, kind_of}
+use Rattle.note.specs.Events.{Container, container_bytes, container_size, event_word_rule, event_late, events_bytes}
 use Rattle.note.specs.Files.{File, order_in, configuration_of, header_bytes, file_bytes, read_file}
 use Rattle.note.specs.Rows.{child_of, children_of, event_node, nodes_of, rows_of}
 use Rattle.note.specs.Calls.{record_found, record_at, setting_at, samples_part, samples_at, sample_at}
 use Rattle.note.proofs.TraceLaws.{trace-length, trace_blind, trace_row_blind, trace_values_blind}
 use Rattle.note.proofs.TraceLaws.{sample_is_bytes, changed_is_bytes, sample_stays, byte_at_twice, byte_inside}
 use Rattle.demands.specs.Valid.{ValidRecord, Valid}
-use Rattle.demands.specs.RowRecords.{Beside, ToldSo, found_as}
+use Rattle.demands.specs.RowRecords.{found_as}
 use Rattle.demands.specs.Edited.{start_of, pair, half_replaced, replaced}
 use Rattle.demands.proofs.Bundles.{record_item, event_item, header_item, record_valid}
 use Rattle.demands.proofs.Follows.{parts-ok, parts-valid, file_complete}
 use Rattle.demands.proofs.RowLaws.{container_size_lem}
-use Rattle.demands.proofs.EventLaws.{type_decides, still}
-use Rattle.demands.proofs.RecordLaws.{found_either_way, found-not}
 use Rattle.demands.proofs.ContentLaws.{record_at_row}
 use Rattle.demands.proofs.PartLaws.{byte-found, samples-given}
-use Rattle.demands.proofs.SpotLaws.{monitoring_at, beside_at, records_before, records_after, place_of, records-split}
+use Rattle.demands.proofs.SpotLaws.{records_before, records_after, place_of, records-split}
 use Rattle.note.specs.Faults.{too_short}
 use Rattle.note.proofs.FaultLaws.{short-some}
 use Rattle.theory.proofs.StructureLaws.{stateless}
@@ -56,23 +53,17 @@ elsewhere d a b (x ∷ xs) ys zero h = refl
 elsewhere d a b (x ∷ xs) ys (suc k) h = elsewhere d a b xs ys k (λ e. h (ap suc e))
 
 -- Beside the rows of a file that has the record r at the spot p: what stands at row k.
-abbrev beside : Container → Spot → Record → ℕ → Beside
-beside c p r k = get_or (records_before c p ++ (beside_at p r ∷ records_after p)) k none
+abbrev beside : Container → Spot → Record → ℕ → Option Record
+beside c p r k = get_or (records_before c p ++ (some r ∷ records_after p)) k none
 
--- And that is what Record, told what is so, finds there.
+-- And that is what Record finds there.
 found_at : (o : Order) (v : ℕ) (c : Container) (p : Spot) (r : Record) (bs : List ℕ) → Bytes bs → read_file bs ≡ ok (o, (v, (c, plug p r)))
-    → (k : ℕ) → k < length (rows_of (o, (v, (c, plug p r)))) → (m : Bool) → ToldSo m (beside c p r k)
-    → record_found o m bs (start_of (o, (v, (c, plug p r))) k) ≡ found_as (start_of (o, (v, (c, plug p r))) k) (beside c p r k)
-found_at o v c p r bs h e k l m so =
+    → (k : ℕ) → k < length (rows_of (o, (v, (c, plug p r))))
+    → record_found o bs (start_of (o, (v, (c, plug p r))) k) ≡ found_as (start_of (o, (v, (c, plug p r))) k) (beside c p r k)
+found_at o v c p r bs h e k l =
     let f : File = (o, (v, (c, plug p r))) in
-    let split = records-split o v c p r in
-    record_at_row bs f h e k l m (subst (λ (ls : List Beside). ToldSo m (get_or ls k none)) (sym split) so)
-    ∙ ap (λ (ls : List Beside). found_as (start_of f k) (get_or ls k none)) split
-
--- However many records are behind, the context stays that of a monitoring event, or of none.
-steps_still : (o : Order) (c : Context) (rs : List Record) → in_monitoring (steps (record_item o) c rs) ≡ in_monitoring c
-steps_still o c [] = refl
-steps_still o c (r ∷ rs) = steps_still o (next_context c r) rs ∙ still c r.word
+    record_at_row bs f h e k l
+    ∙ ap (λ (ls : List (Option Record)). found_as (start_of f k) (get_or ls k none)) (records-split o v c p r)
 
 -- ---- one byte of a sample
 
@@ -138,7 +129,6 @@ pub record Edit (bs : List ℕ) (f : File) (p : Spot) (t : Record) (j m x : ℕ)
   pub here : j ≡ length (records_before (configuration_of f) p)
   pub start : start_of f j ≡ place_of (order_in f) (configuration_of f) p
   pub whole : (row (rows_of f) j).whole ≡ record_size t
-  pub ordinary : monitoring_at p ≡ false
   pub kind : t.word ≡ trace_kind.word
   pub from : 48 ≤ m
   pub inside : m < length t.body
@@ -163,29 +153,20 @@ module _ {o : Order} {bs : List ℕ} {v : ℕ} {c : Container} {p : Spot} {t : R
   abbrev bs' : List ℕ
   bs' = set bs i x
 
-  -- The context in which the trace is read, which is that of no monitoring event.
-  abbrev there_read : Context
-  there_read = steps (record_item o) (event_context p.word) p.left
-
-  outside : in_monitoring there_read ≡ false
-  outside = steps_still o (event_context p.word) p.left ∙ type_decides p.word ∙ d.ordinary
-
   -- The trace's rule doesn't look at the byte, so that the byte is free.
-  rule_blind : record_rule o there_read t.word (set t.body m x) ≡ record_rule o there_read t.word t.body
+  rule_blind : record_rule o t.word (set t.body m x) ≡ record_rule o t.word t.body
   unfolding kind_of
-  rule_blind =
-      subst (λ (n : Bool). (kind_in n t.word).rule o (set t.body m x) ≡ (kind_in n t.word).rule o t.body) (sym outside)
-      (rw d.kind (trace_blind o t.body m x d.from))
+  rule_blind = rw d.kind (trace_blind o t.body m x d.from)
 
-  free : Free o too_short short-some record_head record_late (λ s. record_rule o s.0 s.1) next_context
-      (stateless event_word_rule) (stateless event_late) (λ s. event_context s.1) (λ s e. s) tt p t m x
+  free : Free o too_short short-some record_head record_late (λ s. record_rule o s.1) next_context
+      (stateless event_word_rule) (stateless event_late) (λ s. event unseen) (λ s e. s) tt p t m x
   free = record { inside-body = d.inside; byte = d.byte; rule_blind = rule_blind; step_blind = refl; box_blind = refl }
 
   -- The events are valid again.
   events_ok' : Oks (event_item o) tt (plug p t')
   events_ok' =
-      free_valid o too_short short-some record_head record_late (λ s. record_rule o s.0 s.1) next_context
-      (stateless event_word_rule) (stateless event_late) (λ s. event_context s.1) (λ s e. s)
+      free_valid o too_short short-some record_head record_late (λ s. record_rule o s.1) next_context
+      (stateless event_word_rule) (stateless event_late) (λ s. event unseen) (λ s e. s)
       tt p t m x free (parts-ok old d.valid).1.1
 
   -- the bytes
@@ -199,8 +180,8 @@ module _ {o : Order} {bs : List ℕ} {v : ℕ} {c : Container} {p : Spot} {t : R
       ap₂ (λ (s : List ℕ) (z : ℕ). set s z x) (sym (append_assoc (header_bytes o v) (container_bytes o c) (events_bytes o (plug p t)))) at
       ∙ set-append-add front (events_bytes o (plug p t)) q x
       ∙ ap (λ (s : List ℕ). front ++ s)
-      (free_bytes o too_short short-some record_head record_late (λ s. record_rule o s.0 s.1) next_context
-      (stateless event_word_rule) (stateless event_late) (λ s. event_context s.1) (λ s e. s)
+      (free_bytes o too_short short-some record_head record_late (λ s. record_rule o s.1) next_context
+      (stateless event_word_rule) (stateless event_late) (λ s. event unseen) (λ s e. s)
       tt p t m x free)
       ∙ append_assoc (header_bytes o v) (container_bytes o c) (events_bytes o (plug p t'))
 
@@ -212,15 +193,15 @@ module _ {o : Order} {bs : List ℕ} {v : ℕ} {c : Container} {p : Spot} {t : R
       (subst (λ (s : List ℕ). length s ≤ file_limit) edited-bytes (rw (length-set (file_bytes old) i x) d.valid.within-limit))
 
   -- the rows: the trace's own says the same
-  child_same : child_of o (monitoring_at p) t' ≡ child_of o (monitoring_at p) t
+  child_same : child_of o t' ≡ child_of o t
   unfolding child_of kind_of
   child_same =
       let same = trace_row_blind o t.body m x d.from in
-      rw (d.ordinary, d.kind, same.0, same.1, length-set t.body m x)
+      rw (d.kind, same.0, same.1, length-set t.body m x)
 
-  children_same : (xs ys : List Record) → children_of o (monitoring_at p) (xs ++ t' ∷ ys) ≡ children_of o (monitoring_at p) (xs ++ t ∷ ys)
-  children_same [] ys = ap (λ (k : Child). k ∷ children_of o (monitoring_at p) ys) child_same
-  children_same (y ∷ xs) ys = ap (λ (l : List Child). child_of o (monitoring_at p) y ∷ l) (children_same xs ys)
+  children_same : (xs ys : List Record) → children_of o (xs ++ t' ∷ ys) ≡ children_of o (xs ++ t ∷ ys)
+  children_same [] ys = ap (λ (k : Child). k ∷ children_of o ys) child_same
+  children_same (y ∷ xs) ys = ap (λ (l : List Child). child_of o y ∷ l) (children_same xs ys)
 
   counts_same : (xs ys : List Record) → length (xs ++ t' ∷ ys) ≡ length (xs ++ t ∷ ys)
   counts_same xs ys = length-append xs (t' ∷ ys) ∙ sym (length-append xs (t ∷ ys))
@@ -250,55 +231,35 @@ module _ {o : Order} {bs : List ℕ} {v : ℕ} {c : Container} {p : Spot} {t : R
       subst (λ (s : List ℕ). read_file s ≡ ok new) (sym is) (file_complete new edited-valid)
 
   module _ (k : ℕ) (l : k < length (rows_of old)) where
-    -- What is found at row k, before and after, told what is so.
-    found-old : (n : Bool) → ToldSo n (beside c p t k) → record_found o n bs (at k) ≡ found_as (at k) (beside c p t k)
+    -- What is found at row k, before and after.
+    found-old : record_found o bs (at k) ≡ found_as (at k) (beside c p t k)
     found-old = found_at o v c p t bs d.bytes read-old k l
 
-    found-new : (n : Bool) → ToldSo n (beside c p t' k) → record_found o n bs' (at k) ≡ found_as (at k) (beside c p t' k)
-    found-new n so =
-        subst (λ (rs : List Row). record_found o n bs' (row rs k).start ≡ found_as (row rs k).start (beside c p t' k)) edited-rows
-        (found_at o v c p t' bs' (Bytes-set bs i x d.byte d.bytes) read-new k (rw edited-rows l) n so)
+    found-new : record_found o bs' (at k) ≡ found_as (at k) (beside c p t' k)
+    found-new =
+        subst (λ (rs : List Row). record_found o bs' (row rs k).start ≡ found_as (row rs k).start (beside c p t' k)) edited-rows
+        (found_at o v c p t' bs' (Bytes-set bs i x d.byte d.bytes) read-new k (rw edited-rows l))
 
-    -- at another row the same is found, told either way
-    pub other_row : k ≢ j → (n : Bool) → record_found o n bs' (at k) ≡ record_found o n bs (at k)
-    other_row e n = go (beside c p t k) refl
-      where
-        away : beside c p t' k ≡ beside c p t k
-        away = elsewhere none (beside_at p t') (beside_at p t) (records_before c p) (records_after p) k (λ q. e (q ∙ sym d.here))
-
-        go : (b : Beside) → beside c p t k ≡ b → record_found o n bs' (at k) ≡ record_found o n bs (at k)
-        go none q =
-            found-new n (subst (ToldSo n) (sym (away ∙ q)) tt) ∙ ap (found_as (at k)) away ∙ sym (found-old n (subst (ToldSo n) (sym q) tt))
-        go (some (w, r)) q =
-            found_either_way o w n bs bs' (at k) r
-            (found-old w (subst (ToldSo w) (sym q) refl) ∙ ap (found_as (at k)) q)
-            (found-new w (subst (ToldSo w) (sym (away ∙ q)) refl) ∙ ap (found_as (at k)) (away ∙ q))
+    -- at another row the same is found
+    pub other_row : k ≢ j → record_found o bs' (at k) ≡ record_found o bs (at k)
+    other_row e =
+        let away = elsewhere none (some t') (some t) (records_before c p) (records_after p) k (λ q. e (q ∙ sym d.here)) in
+        found-new ∙ ap (found_as (at k)) away ∙ sym found-old
 
     -- at the trace's own row the trace, before and after
     module _ (own : k ≡ j) where
-      there : (r : Record) → beside c p r k ≡ beside_at p r
-      there r = get_or_at (records_before c p) (beside_at p r) (records_after p) none k (sym (own ∙ d.here))
+      there : (r : Record) → beside c p r k ≡ some r
+      there r = get_or_at (records_before c p) (some r) (records_after p) none k (sym (own ∙ d.here))
 
-      told_there : (r : Record) → ToldSo false (beside c p r k)
-      told_there r = subst (ToldSo false) (sym (there r)) (sym d.ordinary)
+      pub trace-old : record_found o bs (at k) ≡ ok t
+      trace-old = found-old ∙ ap (found_as (at k)) (there t)
 
-      pub trace-old : record_found o false bs (at k) ≡ ok t
-      trace-old = found-old false (told_there t) ∙ ap (found_as (at k)) (there t)
+      trace-new : record_found o bs' (at k) ≡ ok t'
+      trace-new = found-new ∙ ap (found_as (at k)) (there t')
 
-      trace-new : record_found o false bs' (at k) ≡ ok t'
-      trace-new = found-new false (told_there t') ∙ ap (found_as (at k)) (there t')
-
-      -- In a monitoring event a trace would be of a wrong kind.
-      not_there : (b : List ℕ) (r : Record) → record_found o false b (at k) ≡ ok r
-          → r.word ≡ trace_kind.word → record_found o true b (at k) ≡ bad 5 (at k)
-      unfolding is_kind
-      not_there b r e w =
-          found-not o false true b (at k) r e (ap (is_kind monitoring) w) (ap (other_kind monitoring) w)
-
-      pub same-fields : (n : Bool) → record_at o n bs' (at k) ≡ record_at o n bs (at k)
+      pub same-fields : record_at o bs' (at k) ≡ record_at o bs (at k)
       unfolding record_at kind_of
-      same-fields true = rw (not_there bs' t' trace-new d.kind, not_there bs t trace-old d.kind)
-      same-fields false = rw (trace-new, trace-old, d.kind, trace_values_blind o t.body m x d.from (at k))
+      same-fields = rw (trace-new, trace-old, d.kind, trace_values_blind o t.body m x d.from (at k))
 
       pub same_setting : setting_at o bs' (at k) ≡ setting_at o bs (at k)
       unfolding setting_at
@@ -320,17 +281,16 @@ module _ {o : Order} {bs : List ℕ} {v : ℕ} {c : Container} {p : Spot} {t : R
       n = word o 44 t.body
 
       -- The trace is valid where it stands, so its rule gives the size of its samples.
-      is-valid : ValidRecord o there_read t
+      is-valid : ValidRecord o (steps (record_item o) (event unseen) p.left) t
       is-valid =
           let oks : Oks (event_item o) tt (plug p t) = (parts-ok old d.valid).1.1 in
           let (before, (box-ok, after)) = (Oks-append (event_item o) tt p.before (box_at p t ∷ p.after)).0 oks in
-          record_valid o there_read t ((Oks-append (record_item o) (event_context p.word) p.left (t ∷ p.right)).0 box-ok.body_ok).1.0
+          record_valid o (steps (record_item o) (event unseen) p.left) t
+          ((Oks-append (record_item o) (event unseen) p.left (t ∷ p.right)).0 box-ok.body_ok).1.0
 
       rule-passes : trace_rule o t.body ≡ 0
       unfolding kind_of
-      rule-passes =
-          subst (λ (w : ℕ). (kind_of w).rule o t.body ≡ 0) d.kind
-          (subst (λ (n : Bool). (kind_in n t.word).rule o t.body ≡ 0) outside is-valid.body-rule)
+      rule-passes = subst (λ (w : ℕ). record_rule o w t.body ≡ 0) d.kind is-valid.body-rule
 
       sizes : (length part ≡ 2 * n) × (n % 2 ≡ 0)
       unfolding n
@@ -386,7 +346,7 @@ module _ {o : Order} {bs : List ℕ} {v : ℕ} {c : Container} {p : Spot} {t : R
       in_file z l =
           let far : at k + 8 + (48 + z) ≡ at k + 56 + z = omega arith in
           get_or-drop 48 t.body z 0
-          ∙ byte-found o false bs (at k) t trace-old (48 + z) (omega (arith, l, length-drop 48 t.body))
+          ∙ byte-found o bs (at k) t trace-old (48 + z) (omega (arith, l, length-drop 48 t.body))
           ∙ ap (λ (q : ℕ). get_or bs q 0) far
 
       -- The two bytes of the sample, in the part and in the file.

@@ -2,7 +2,6 @@
 -- The idea: by induction, with the kinds that came before in mind: what is still to come may follow them.
 use Prim.Native.Nat.{ℕ, ◌+◌, ◌≤◌}
 use mathlib.Core.Path.{◌≡◌, refl, sym, ◌∙◌, subst}
-use mathlib.Core.Logic.Iff
 use mathlib.Core.Logic.{◌↔◌, ◌⊎◌, inl, inr, ⊎_elim, ◌≢◌}
 use mathlib.Core.Bool.{Bool, true, false}
 use mathlib.Core.List.{List, [], ◌∷◌}
@@ -10,38 +9,36 @@ use native.Mathlib.Omega.{arith}
 use lib.Dec.{eqb}
 use borrow.Author.Tests.{eqb-true, eqb-false, eq-eqb}
 use Rattle.theory.specs.declared.Order.{Order}
-use Rattle.note.specs.EventKinds.{IsEntryKind, IsRecordKind, IsMonitoringKind, occurs, MayFollow, StartsWith, EventKinds}
-use Rattle.note.specs.Records.{Record, Context, entry, event, monitoring, alone, unseen, monitoring_kinds, in_monitoring, kind_in, is_kind, is_allowed, behind}
+use Rattle.note.specs.EventKinds.{IsEntryKind, IsRecordKind, occurs, MayFollow, StartsWith, EventKinds}
+use Rattle.note.specs.Records.{Record, Context, entry, event, alone, unseen, is_kind, is_allowed, behind}
 use Rattle.note.specs.Readings.{seen_after}
-use Rattle.note.proofs.BoolLaws.{among_tells}
 use Rattle.note.proofs.PlaceLaws.{one_more_seen, entry_kinds_exact, record_kinds_exact, all_kinds_exact, place_exact}
 use Rattle.demands.specs.Valid.{ValidRecord, ValidRecords}
-use Rattle.demands.specs.EventRecords.{kinds_of, EachValid, EventRecords, MonitoringRecords, ConfigurationEntries}
+use Rattle.demands.specs.EventRecords.{kinds_of, EachValid, EventRecords, ConfigurationEntries}
 
 -- ---- one record
 
 -- A record that is valid in a context is valid alone; and alone it needs only the context's two tests.
-by_itself : (o : Order) (c : Context) (r : Record) → in_monitoring c ≡ false → IsEntryKind r.word ⊎ IsRecordKind r.word → ValidRecord o c r
-    → ValidRecord o alone r
+by_itself : (o : Order) (c : Context) (r : Record) → IsEntryKind r.word ⊎ IsRecordKind r.word → ValidRecord o c r → ValidRecord o alone r
 unfolding is_allowed
-by_itself o c r out k v = record {
+by_itself o c r k v = record {
   kind_allowed = (all_kinds_exact r.word).1 k;
   place_allowed = refl;
   kind_fits = v.kind_fits;
   length-fits = v.length-fits;
   body_bytes = v.body_bytes;
-  body-rule = subst (λ (m : Bool). (kind_in m r.word).rule o r.body ≡ 0) out v.body-rule;
+  body-rule = v.body-rule;
 }
 
-in_context : (o : Order) (c : Context) (r : Record) → in_monitoring c ≡ false → is_kind c r.word ≡ true → is_allowed c r.word ≡ true
-    → ValidRecord o alone r → ValidRecord o c r
-in_context o c r out k p v = record {
+in_context : (o : Order) (c : Context) (r : Record) → is_kind c r.word ≡ true → is_allowed c r.word ≡ true → ValidRecord o alone r
+    → ValidRecord o c r
+in_context o c r k p v = record {
   kind_allowed = k;
   place_allowed = p;
   kind_fits = v.kind_fits;
   length-fits = v.length-fits;
   body_bytes = v.body_bytes;
-  body-rule = subst (λ (m : Bool). (kind_in m r.word).rule o r.body ≡ 0) (sym out) v.body-rule;
+  body-rule = v.body-rule;
 }
 
 -- ---- entries
@@ -51,26 +48,8 @@ unfolding is_allowed behind
 configuration_entries_exact o [] = (λ v. tt, λ v. tt)
 configuration_entries_exact o (r ∷ rs) =
     let rest = configuration_entries_exact o rs in (
-      λ v. let k = (entry_kinds_exact r.word).0 v.0.kind_allowed in ((k, by_itself o entry r refl (inl k) v.0), rest.0 v.1),
-      λ v. (in_context o entry r refl ((entry_kinds_exact r.word).1 v.0.0) refl v.0.1, rest.1 v.1),
-    )
-
--- ---- a monitoring event's records
-
-pub monitoring_kinds_exact : (k : ℕ) → (is_kind monitoring k ≡ true) ↔ IsMonitoringKind k
-unfolding is_kind
-monitoring_kinds_exact k = Iff.trans (among_tells monitoring_kinds k) (
-  ⊎_elim inl (λ r. inr (⊎_elim inl (λ s. inr (⊎_elim (λ e. e) (λ h. absurd h) s)) r)),
-  ⊎_elim inl (λ r. inr (⊎_elim inl (λ s. inr (inl s)) r)),
-)
-
-pub monitoring_records_exact : (o : Order) (rs : List Record) → ValidRecords o monitoring rs ↔ MonitoringRecords o rs
-unfolding behind
-monitoring_records_exact o [] = (λ v. tt, λ v. tt)
-monitoring_records_exact o (r ∷ rs) =
-    let rest = monitoring_records_exact o rs in (
-      λ v. (((monitoring_kinds_exact r.word).0 v.0.kind_allowed, v.0), rest.0 v.1),
-      λ v. (v.0.1, rest.1 v.1),
+      λ v. let k = (entry_kinds_exact r.word).0 v.0.kind_allowed in ((k, by_itself o entry r (inl k) v.0), rest.0 v.1),
+      λ v. (in_context o entry r ((entry_kinds_exact r.word).1 v.0.0) refl v.0.1, rest.1 v.1),
     )
 
 -- ---- records
@@ -81,20 +60,20 @@ Follow before [] = Unit {0}
 Follow before (k ∷ ks) = MayFollow before k × Follow (k ∷ before) ks
 
 follow_valid : (o : Order) (before : List ℕ) (rs : List Record)
-    → ValidRecords o (event (seen_after before)) rs ↔ (Follow before (kinds_of rs) × EachValid o false IsRecordKind rs)
+    → ValidRecords o (event (seen_after before)) rs ↔ (Follow before (kinds_of rs) × EachValid o IsRecordKind rs)
 unfolding behind
 follow_valid o before [] = (λ v. (tt, tt), λ v. tt)
 follow_valid o before (r ∷ rs) =
     let c : Context = event (seen_after before) in
-    let rest : ValidRecords o (behind c r.word) rs ↔ (Follow (r.word ∷ before) (kinds_of rs) × EachValid o false IsRecordKind rs) =
+    let rest : ValidRecords o (behind c r.word) rs ↔ (Follow (r.word ∷ before) (kinds_of rs) × EachValid o IsRecordKind rs) =
     rw (one_more_seen before r.word) (follow_valid o (r.word ∷ before) rs) in (
       λ v.
           let k = (record_kinds_exact (seen_after before) r.word).0 v.0.kind_allowed in
           let (f, e) = rest.0 v.1 in
-          (((place_exact before r.word k).0 v.0.place_allowed, f), ((k, by_itself o c r refl (inr k) v.0), e)),
+          (((place_exact before r.word k).0 v.0.place_allowed, f), ((k, by_itself o c r (inr k) v.0), e)),
       λ h.
           let ((m, f), ((k, v), e)) = h in
-          (in_context o c r refl ((record_kinds_exact (seen_after before) r.word).1 k) ((place_exact before r.word k).1 m) v, rest.1 (f, e)),
+          (in_context o c r ((record_kinds_exact (seen_after before) r.word).1 k) ((place_exact before r.word k).1 m) v, rest.1 (f, e)),
     )
 
 -- How often k occurs with one number more.

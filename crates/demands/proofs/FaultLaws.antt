@@ -20,15 +20,15 @@ use Rattle.theory.proofs.Items.{steps, seq_refused, seq_refuses}
 use Rattle.theory.proofs.StructureLaws.{stateless, BodyFault, refused, structure-past, restore_two, inside, pair, pair-refused, pair-refuses, words-refused}
 use Rattle.note.specs.Limits.{file_limit}
 use Rattle.note.specs.Words.{words}
-use Rattle.note.specs.Records.{Record, Context, record_head, record_late, record_rule, next_context, records_bytes, read_record}
-use Rattle.note.specs.Events.{Container, container_bytes, events_bytes, event_mark, event_word_rule, event_context, event_late}
+use Rattle.note.specs.Records.{Record, Context, entry, event, unseen, record_head, record_late, record_rule, next_context, records_bytes, read_record}
+use Rattle.note.specs.Events.{Container, container_bytes, events_bytes, event_mark, event_word_rule, event_late}
 use Rattle.note.specs.Files.{Parts, File, order_of, order_in, configuration_word, configuration_rule, configuration_late, header_bytes, file_mark, version_rule}
 use Rattle.note.specs.Files.{version_of, configuration_of, events_of, file_bytes, read_header, read_parts, read_file}
 use Rattle.demands.specs.Valid.{ValidRecords, Valid}
 use Rattle.demands.specs.FirstFault.{Cut, ValidHeader, front, past, Itself}
 use Rattle.demands.specs.Refusals.{Refusal, too_large, within-limit}
 use Rattle.demands.specs.FirstFault.{FirstFault, at-header, at-configuration, at_entry, at-event, at_record}
-use Rattle.demands.proofs.Bundles.{record_body, record_item, records, box, entries, configuration_item, event_item, events, header_item, parts}
+use Rattle.demands.proofs.Bundles.{record_body, record_item, records, box, configuration_item, event_item, events, header_item, parts}
 use Rattle.demands.proofs.Bundles.{same_record, same_parts, records-valid, records-ok}
 use Rattle.demands.proofs.Follows.{parts-valid, parts-ok, order_admitted, order_shown, accepted_means, read-within}
 use Rattle.note.specs.Faults.{too_short, not_afile}
@@ -40,7 +40,7 @@ record_fault_here o c at bs k p e = elim (refused o too_short short-some record_
   | inl own ↦ own.place
   | inr b ↦
       let body : List ℕ = take (word_at o 4 4 bs) (drop 8 bs) in
-      inner (record_rule o c (word_at o 4 0 bs) body) body b.body_is
+      inner (record_rule o (word_at o 4 0 bs) body) body b.body_is
 ]
   where
     inner : (f : ℕ) (b : List ℕ) → need f at (ok b) ≡ bad k p → p ≡ at
@@ -61,7 +61,7 @@ unfolding puts
 front_bytes o w n = ap (λ (r : List ℕ). put o 4 w ++ r) (sym (append-nil (put o 4 n)))
 
 -- A container of records that is refused: itself, or at one of its records, those before it being valid.
-module _ (o : Order) (head : ℕ → ℕ) (late : ℕ → ℕ → ℕ) (start : ℕ → Context) where
+module _ (o : Order) (head : ℕ → ℕ) (late : ℕ → ℕ → ℕ) (start : Context) where
   pub record Within (at : ℕ) (bs : List ℕ) (c p : ℕ) : Type 0 where
     pub word : ℕ
     pub before : List Record
@@ -71,11 +71,11 @@ module _ (o : Order) (head : ℕ → ℕ) (late : ℕ → ℕ → ℕ) (start : 
     pub length-fits : Fits 4 (length (records_bytes o before ++ part))
     pub head_ok : head word ≡ 0
     pub late_ok : late word (length (records_bytes o before ++ part)) ≡ 0
-    pub valid : ValidRecords o (start word) before
+    pub valid : ValidRecords o start before
     pub left : 1 ≤ length part
     pub splits : bs ≡ (front o word (length (records_bytes o before ++ part)) ++ records_bytes o before) ++ (part ++ beyond)
     pub place : p ≡ at + (8 + length (records_bytes o before))
-    pub fault : read_record o (past (start word) before) p part ≡ bad c p
+    pub fault : read_record o (past start before) p part ≡ bad c p
 
   -- The two ways.
   abbrev pub ContainerFault : ℕ → List ℕ → ℕ → ℕ → Type 0
@@ -83,7 +83,7 @@ module _ (o : Order) (head : ℕ → ℕ) (late : ℕ → ℕ → ℕ) (start : 
 
   module _ (at : ℕ) (bs : List ℕ) (c p : ℕ) (h : Bytes bs) where
     -- A fault in the contents is at a record.
-    within : BodyFault o too_short short-some (stateless head) (stateless late) (inside (λ s. start s.1) (records o)).read tt at bs c p
+    within : BodyFault o too_short short-some (stateless head) (stateless late) (inside (λ s. start) (records o)).read tt at bs c p
         → Within at bs c p
     within b =
         let k : ℕ = word_at o 4 0 bs in
@@ -93,9 +93,8 @@ module _ (o : Order) (head : ℕ → ℕ) (late : ℕ → ℕ → ℕ) (start : 
         let fits : 8 + n ≤ length bs = b.fits in
         let size : length content ≡ n = length-take-le n (drop 8 bs) (omega (arith, length-drop 8 bs)) in
         let bytes : Bytes content = Bytes-part n 8 bs h in
-        let (xs, rest, es, os, left, q) =
-        seq_refused (record_item o) (length content) (start k) (at + 8) content c p (omega arith) bytes b.body_is in
-        let passed : Context = steps (record_item o) (start k) xs in
+        let (xs, rest, es, os, left, q) = seq_refused (record_item o) (length content) start (at + 8) content c p (omega arith) bytes b.body_is in
+        let passed : Context = steps (record_item o) start xs in
         let here : p ≡ at + 8 + length (records_bytes o xs) = record_fault_here o passed (at + 8 + length (records_bytes o xs)) rest c p q in
         let filled : n ≡ length (records_bytes o xs ++ rest) = sym size ∙ ap length es in
         let behind : drop 8 bs ≡ records_bytes o xs ++ (rest ++ beyond) =
@@ -109,13 +108,13 @@ module _ (o : Order) (head : ℕ → ℕ) (late : ℕ → ℕ → ℕ) (start : 
           length-fits = subst (Fits 4) filled (word_fits o 4 4 bs h (omega arith));
           head_ok = b.head_ok;
           late_ok = subst (λ (m : ℕ). late k m ≡ 0) filled b.late_ok;
-          valid = records-valid o (start k) xs os;
+          valid = records-valid o start xs os;
           left = left;
           splits = sym (restore_two o bs h (omega arith))
               ∙ ap₂ (λ (m : ℕ) (r : List ℕ). put o 4 k ++ (put o 4 m ++ r)) filled behind
               ∙ simp append_assoc;
           place = omega arith;
-          fault = ap (λ (x : Context). read_record o x p rest) (sym (steps-past o (start k) xs))
+          fault = ap (λ (x : Context). read_record o x p rest) (sym (steps-past o start xs))
               ∙ same_record o passed p rest
               ∙ ap (λ (m : ℕ). (record_item o).read passed m rest) here
               ∙ q;
@@ -124,7 +123,7 @@ module _ (o : Order) (head : ℕ → ℕ) (late : ℕ → ℕ → ℕ) (start : 
     -- A container that is refused has its fault in one of the two ways.
     pub container_refused : (box o head late start).read tt at bs ≡ bad c p → ContainerFault at bs c p
     container_refused e =
-        elim (refused o too_short short-some (stateless head) (stateless late) (inside (λ s. start s.1) (records o)).read tt at bs c p e) [
+        elim (refused o too_short short-some (stateless head) (stateless late) (inside (λ s. start) (records o)).read tt at bs c p e) [
           | inl own ↦ inl (own.place, λ contents. own.whatever (λ x. contents x.1) ∙ ap (λ (m : ℕ). bad c m) own.place)
           | inr b ↦ inr (within b)
         ]
@@ -132,21 +131,20 @@ module _ (o : Order) (head : ℕ → ℕ) (late : ℕ → ℕ → ℕ) (start : 
   -- And each of the two refuses the container.
   pub container_refuses : (at : ℕ) (bs : List ℕ) (c p : ℕ) → ContainerFault at bs c p → (box o head late start).read tt at bs ≡ bad c p
   container_refuses at bs c p (inl (here, own)) =
-      own (λ w. (inside (λ (s : Unit {0} × ℕ). start s.1) (records o)).read (tt, w)) ∙ ap (λ (m : ℕ). bad c m) (sym here)
+      own (λ w. (inside (λ (s : Unit {0} × ℕ). start) (records o)).read (tt, w)) ∙ ap (λ (m : ℕ). bad c m) (sym here)
   container_refuses at bs c p (inr w) =
       let xs : List Record = w.before in
       let content : List ℕ = records_bytes o xs ++ w.part in
       let shape : bs ≡ put o 4 w.word ++ (put o 4 (length content) ++ (content ++ w.beyond)) = w.splits ∙ simp append_assoc in
       let there : at + 8 + length (records_bytes o xs) ≡ p = omega (arith, w.place) in
-      let first : Context = start w.word in
-      let fault : (record_item o).read (steps (record_item o) first xs) (at + 8 + length (records_bytes o xs)) w.part ≡ bad c p =
-      ap₂ (λ (x : Context) (m : ℕ). (record_item o).read x m w.part) (steps-past o first xs) there
-      ∙ sym (same_record o (past first xs) p w.part)
+      let fault : (record_item o).read (steps (record_item o) start xs) (at + 8 + length (records_bytes o xs)) w.part ≡ bad c p =
+      ap₂ (λ (x : Context) (m : ℕ). (record_item o).read x m w.part) (steps-past o start xs) there
+      ∙ sym (same_record o (past start xs) p w.part)
       ∙ w.fault in
-      let body : (records o).read first (at + 8) content ≡ bad c p =
-      seq_refuses (record_item o) (length content) first (at + 8) xs w.part c p (omega arith) (records-ok o first xs w.valid) w.left fault in
+      let body : (records o).read start (at + 8) content ≡ bad c p =
+      seq_refuses (record_item o) (length content) start (at + 8) xs w.part c p (omega arith) (records-ok o start xs w.valid) w.left fault in
       ap ((box o head late start).read tt at) shape
-      ∙ structure-past o too_short (stateless head) (stateless late) (inside (λ s. start s.1) (records o)).read tt at w.word content w.beyond
+      ∙ structure-past o too_short (stateless head) (stateless late) (inside (λ s. start) (records o)).read tt at w.word content w.beyond
       w.word_fits w.length-fits w.head_ok w.late_ok
       ∙ ap (λ (r : Res (List Record)). bind r (λ b. ok (record { word = w.word; body = b }))) body
 
@@ -176,8 +174,8 @@ module _ (o : Order) (head : ℕ → ℕ) (late : ℕ → ℕ → ℕ) (start : 
     }
 
     cut-within : (w : ℕ) (rs : List Record) (part beyond : List ℕ) → length bs ≤ file_limit → Fits 4 w
-        → head w ≡ 0 → late w (length (records_bytes o rs ++ part)) ≡ 0 → ValidRecords o (start w) rs → 1 ≤ length part
-        → Cut bs (X ++ opening w rs part) part beyond p → read_record o (past (start w) rs) p part ≡ bad c p
+        → head w ≡ 0 → late w (length (records_bytes o rs ++ part)) ≡ 0 → ValidRecords o start rs → 1 ≤ length part
+        → Cut bs (X ++ opening w rs part) part beyond p → read_record o (past start rs) p part ≡ bad c p
         → Within (length X) (opening w rs part ++ (part ++ beyond)) c p
     cut-within w rs part beyond l hw hh hl v left cut e =
         let size : length bs ≡ length (X ++ opening w rs part) + length (part ++ beyond) =
@@ -224,10 +222,10 @@ event-word-fits w e = let is : w / 65536 ≡ event_mark = equal_passed (w / 6553
 
 -- Faults of the configuration behind a header, and of an event behind what would be a file.
 abbrev InConfiguration : Order → ℕ → List ℕ → ℕ → ℕ → Type 0
-InConfiguration o v rest c p = ContainerFault o configuration_rule configuration_late entries (length (header_bytes o v)) rest c p
+InConfiguration o v rest c p = ContainerFault o configuration_rule configuration_late entry (length (header_bytes o v)) rest c p
 
 abbrev InEvent : Order → File → List ℕ → ℕ → ℕ → Type 0
-InEvent o f rest c p = ContainerFault o event_word_rule event_late event_context (length (file_bytes f)) rest c p
+InEvent o f rest c p = ContainerFault o event_word_rule event_late (event unseen) (length (file_bytes f)) rest c p
 
 module _ (bs : List ℕ) (c p : ℕ) where
   -- Each is a first fault of the file.
@@ -243,7 +241,7 @@ module _ (bs : List ℕ) (c p : ℕ) where
       at_entry v rs w.part w.beyond hv w.valid (omega (arith, w.left))
       (subst (λ (x : ℕ). Cut bs (header_bytes (order_of bs) v ++ (front (order_of bs) x n ++ records_bytes (order_of bs) rs)) w.part w.beyond p)
       (equal_passed w.word configuration_word 4 w.head_ok)
-      (within-cut (order_of bs) configuration_rule configuration_late entries bs (header_bytes (order_of bs) v) c p rest is w))
+      (within-cut (order_of bs) configuration_rule configuration_late entry bs (header_bytes (order_of bs) v) c p rest is w))
       w.fault
 
   event-fault : (f : File) (rest : List ℕ) → Valid f → 1 ≤ length rest → bs ≡ file_bytes f ++ rest → InEvent (order_in f) f rest c p → FirstFault bs c p
@@ -253,7 +251,7 @@ module _ (bs : List ℕ) (c p : ℕ) where
       (subst (λ (m : ℕ). Itself (order_in f) event_word_rule event_late rest c m) (sym here) own)
   event-fault f rest v left is (inr w) =
       at_record f w.word w.before w.part w.beyond v w.head_ok w.valid (omega (arith, w.left))
-      (within-cut (order_in f) event_word_rule event_late event_context bs (file_bytes f) c p rest is w)
+      (within-cut (order_in f) event_word_rule event_late (event unseen) bs (file_bytes f) c p rest is w)
       w.fault
 
   -- Each refuses the file.
@@ -262,7 +260,7 @@ module _ (bs : List ℕ) (c p : ℕ) where
   configuration-refuses v rest hv is e =
       let refuses : (configuration_item (order_of bs)).read tt 8 rest ≡ bad c p =
       ap (λ (m : ℕ). (configuration_item (order_of bs)).read tt m rest) (sym (length-header (order_of bs) v))
-      ∙ container_refuses (order_of bs) configuration_rule configuration_late entries (length (header_bytes (order_of bs) v)) rest c p e in
+      ∙ container_refuses (order_of bs) configuration_rule configuration_late entry (length (header_bytes (order_of bs) v)) rest c p e in
       pair-refuses (header_item (order_of bs)) (pair (configuration_item (order_of bs)) (events (order_of bs))) tt 0 bs c p
       (inr (v, rest, is, (hv.rule, hv.fits), pair-refuses (configuration_item (order_of bs)) (events (order_of bs)) tt 8 rest c p (inl refuses)))
 
@@ -276,7 +274,7 @@ module _ (bs : List ℕ) (c p : ℕ) where
       let valid : (parts o).Ok tt f.1 = parts-ok f v in
       let refuses : (event_item o).read tt (at + length E) rest ≡ bad c p =
       ap (λ (m : ℕ). (event_item o).read tt m rest) (file_end f)
-      ∙ container_refuses o event_word_rule event_late event_context (length (file_bytes f)) rest c p e in
+      ∙ container_refuses o event_word_rule event_late (event unseen) (length (file_bytes f)) rest c p e in
       let behind : (events o).read tt at (E ++ rest) ≡ bad c p =
       seq_refuses (event_item o) (length (E ++ rest)) tt at (events_of f) rest c p (omega arith) valid.1.1 left refuses in
       let both : (pair (configuration_item o) (events o)).read tt 8 (C ++ (E ++ rest)) ≡ bad c p =
@@ -318,7 +316,7 @@ first-fault bs c p h l e =
         is ∙ ap (λ (b : List ℕ). header_bytes o v ++ (container_bytes o conf ++ b)) er ∙ simp append_assoc in
         let small : length (file_bytes f) ≤ file_limit = omega (arith, ap length whole, length-append (file_bytes f) part) in
         event-fault bs c p f part (parts-valid f (order_admitted bs) (okv, (okc, os)) small) left whole
-        (container_refused o event_word_rule event_late event_context (length (file_bytes f)) part c p
+        (container_refused o event_word_rule event_late (event unseen) (length (file_bytes f)) part c p
         (Bytes-right (events_bytes o xs) part (subst Bytes er h)) (ap (λ (m : ℕ). (event_item o).read tt m part) (sym (file_end f)) ∙ r))
 
     -- Behind a valid header, the configuration or the events.
@@ -327,7 +325,7 @@ first-fault bs c p h l e =
     behind-header v rest is ok' h q = elim (pair-refused (configuration_item o) (events o) tt 8 rest c p h q) [
       | inl r ↦
           configuration-fault bs c p v rest (record { rule = ok'.0; fits = ok'.1 }) is
-          (container_refused o configuration_rule configuration_late entries (length (header_bytes o v)) rest c p h
+          (container_refused o configuration_rule configuration_late entry (length (header_bytes o v)) rest c p h
           (ap (λ (m : ℕ). (configuration_item o).read tt m rest) (length-header o v) ∙ r))
       | inr (conf, later, er, okc, r) ↦ behind-configuration v conf later (is ∙ ap (λ (b : List ℕ). header_bytes o v ++ b) er) (ok', okc)
           (Bytes-right (container_bytes o conf) later (subst Bytes er h)) r
@@ -349,7 +347,7 @@ parts-refused bs c p l (at-configuration v part hv cut own) =
 parts-refused bs c p l (at_entry v rs part beyond hv valid left cut e) =
     let X : List ℕ = header_bytes (order_of bs) v in
     configuration-refuses bs c p v _ hv (cut.splits ∙ append_assoc X _ (part ++ beyond))
-    (inr (cut-within (order_of bs) configuration_rule configuration_late entries bs X c p configuration_word rs part beyond l
+    (inr (cut-within (order_of bs) configuration_rule configuration_late entry bs X c p configuration_word rs part beyond l
     (omega arith) refl refl valid (omega arith) cut e))
 parts-refused bs c p l (at-event f part v left cut own) =
     rw (shown_order bs f (part ++ []) v cut.splits)
@@ -364,7 +362,7 @@ parts-refused bs c p l (at_record f w rs part beyond v admitted valid left cut e
     let is : bs ≡ X ++ (first ++ (part ++ beyond)) = cut.splits ∙ append_assoc X first (part ++ beyond) in
     rw (shown_order bs f (first ++ (part ++ beyond)) v is)
     (event-refuses bs c p f (first ++ (part ++ beyond)) v left_there is
-    (inr (cut-within o event_word_rule event_late event_context bs X c p w rs part beyond l
+    (inr (cut-within o event_word_rule event_late (event unseen) bs X c p w rs part beyond l
     (event-word-fits w admitted) admitted (most_passes 9 some) valid left cut e)))
 
 -- A file within the limit that has a first fault is refused so.

@@ -12,10 +12,10 @@ use Rattle.theory.specs.Words.{Bytes}
 use Rattle.theory.specs.Tests.{ok, bad}
 use Rattle.note.specs.Answers.{accepted, refused, counts}
 use Rattle.note.specs.Records.{Record, record_size}
-use Rattle.note.specs.Events.{Container, container_size, is_monitoring}
+use Rattle.note.specs.Events.{Container, container_size}
 use Rattle.note.specs.Files.{File, order_in, configuration_of, events_of, read_file}
 use Rattle.note.specs.Rows.{rows_of}
-use Rattle.note.specs.Calls.{TraceAt, kept_if, is_trace, traces_in, event_number, event_traces, traces_from, traces_of, matches, first_match, find_at}
+use Rattle.note.specs.Calls.{TraceAt, kept_if, is_trace, traces_in, event_number, traces_from, traces_of, matches, first_match, find_at}
 use Rattle.note.proofs.BoolLaws.{Tells, both_tell, eq_tells}
 use Rattle.note.proofs.AnswerLaws.{counts_determined}
 use Rattle.demands.specs.RowTraces.{row_traces, TraceMatches, NoneMatches, FirstMatch}
@@ -113,18 +113,12 @@ module _ (o : Order) (low : ℕ) where
   behind-records number at (r ∷ rs) l =
       behind_kept (is_trace r) _ (traces_in o number (at + record_size r) rs) l (behind-records number (at + record_size r) rs (omega arith))
 
-  -- A monitoring event has none.
-  behind-event : (t : Bool) (ts : List TraceAt) → Behind low ts → Behind low (cond t [] ts)
-  behind-event true ts h = tt
-  behind-event false ts h = h
-
   behind-events : (at : ℕ) (es : List Container) → low ≤ at + 8 → Behind low (traces_from o at es)
   unfolding traces_from
   behind-events at [] l = tt
   behind-events at (e ∷ es) l =
-      behind_both (event_traces o at e) (traces_from o (at + container_size o e) es)
-      (behind-event (is_monitoring e.word) _ (behind-records (event_number o e.body) (at + 8) e.body l))
-      (behind-events (at + container_size o e) es (omega arith))
+      behind_both (traces_in o (event_number o e.body) (at + 8) e.body) (traces_from o (at + container_size o e) es)
+      (behind-records (event_number o e.body) (at + 8) e.body l) (behind-events (at + container_size o e) es (omega arith))
 
 -- ---- Find's answer
 

@@ -10,12 +10,8 @@ use Rattle.note.specs.Administrative.{administrative_words}
 use Rattle.note.specs.History.{Section}
 use Rattle.note.specs.Trigger.{trigger_masks}
 use Rattle.note.specs.Tlb.{tlb_words}
-use Rattle.note.specs.Thresholds.{thresholds_head}
-use Rattle.note.specs.TriggerRates.{trigger_rates_head}
-use Rattle.note.specs.VetoRates.{veto_rates_head}
 use Rattle.note.proofs.SizeLaws.{all_signed_exact, all_fit_exact, trace_fits_exact}
-use Rattle.demands.specs.Pieces.{Piece, phonon, charge, administrative, trace, history, gps, trigger, tlb, thresholds, trigger_rates, veto_rates}
-use Rattle.demands.specs.Pieces.{PieceFits, SectionFits}
+use Rattle.demands.specs.Pieces.{Piece, phonon, charge, administrative, trace, history, gps, trigger, tlb, PieceFits, SectionFits}
 use Rattle.demands.specs.Assembly.{EventPieces, FilePieces, AllFitting, EventsFitting, FileFits}
 use Rattle.demands.specs.OfTypes.{SectionOfTypes, OfTypes, FileOfTypes}
 
@@ -36,17 +32,6 @@ types_fit (history f) h = (section_fits f.veto h.0, section_fits f.trigger h.1)
 types_fit (gps f) h = tt
 types_fit (trigger f) h = (all_fit_exact (trigger_masks f)).1 h
 types_fit (tlb f) h = (all_fit_exact (tlb_words f)).1 h
-types_fit (thresholds f) h =
-    let lists = h.1 in (
-      (all_fit_exact (thresholds_head f)).1 h.0,
-      (all-bytes f.codes lists.0, (all-bytes f.operations lists.1.0, all-bytes f.values lists.1.1)),
-    )
-types_fit (trigger_rates f) h =
-    let lists = h.1 in (
-      (all_fit_exact (trigger_rates_head f)).1 h.0,
-      (all-bytes f.codes lists.0, (all-bytes f.lines lists.1.0, all-bytes f.counters lists.1.1)),
-    )
-types_fit (veto_rates f) h = ((all_fit_exact (veto_rates_head f)).1 h.0, (all-bytes f.codes h.1.0, all-bytes f.counters h.1.1))
 
 all_fitting : (ps : List Piece) → Each OfTypes ps → AllFitting ps
 all_fitting [] h = tt

@@ -1,9 +1,8 @@
 -- When a file's calls are granted: exactly when the fields are without fault, each piece stands where it may, and there is room. So fields
 -- without fault whose file would be accepted are never refused.
 -- The idea: a writer asks for its fields and for room; a closing reads the pieces that were laid before it, and valid pieces are read.
-use mathlib.Core.Path.{◌≡◌, refl, sym, ap, ◌∙◌, subst}
+use mathlib.Core.Path.{◌≡◌, refl, ap, ◌∙◌}
 use mathlib.Core.Logic.{◌↔◌}
-use mathlib.Core.Bool.{Bool}
 use mathlib.Core.List.{List, [], ◌∷◌, ◌++◌, map}
 use Prim.Native.Nat.{ℕ, ◌+◌, ◌≤◌}
 use native.Mathlib.Omega.{arith}
@@ -16,19 +15,18 @@ use Rattle.theory.proofs.WordLaws.{Bytes-append, Bytes-put}
 use Rattle.theory.proofs.TestLaws.{bind_ok}
 use Rattle.theory.proofs.Items.{Oks}
 use Rattle.note.specs.Limits.{file_limit}
-use Rattle.note.specs.Records.{Record, Context, entry, in_monitoring, told, kind_in, behind, record_rule, record_bytes, record_size, records_bytes, read_records}
-use Rattle.note.specs.Events.{Container, container_bytes, event_word, event_word_rule, event_context, event_late}
+use Rattle.note.specs.Records.{Record, Context, entry, event, unseen, behind, record_bytes, record_size, records_bytes, read_records}
+use Rattle.note.specs.Events.{Container, container_bytes, event_word, event_word_rule, event_late}
 use Rattle.note.specs.Files.{version_word, file_mark, header_bytes, configuration_word, configuration_rule, configuration_late, file_bytes, read_file}
 use Rattle.note.specs.Writers.{Draft, record_next, record_output, header_next, configuration_closed, configuration_output}
-use Rattle.note.proofs.KindLaws.{told_so}
 use Rattle.note.proofs.ContainerFieldLaws.{event-word-fits, event_word_admitted}
-use Rattle.demands.specs.Pieces.{Piece, of_monitoring, draft_of, record_of, PieceFits}
+use Rattle.demands.specs.Pieces.{Piece, draft_of, record_of}
 use Rattle.demands.specs.Valid.{ValidRecords, ValidEvents, Valid}
 use Rattle.demands.specs.Assembly.{EventPieces, FilePieces, AllFitting, EventsFitting, FileFits}
 use Rattle.demands.specs.Assembly.{AllFaultless, EventFaultless, EventsFaultless, FileFaultless, AllPlaced, EventsPlaced, FilePlaced}
 use Rattle.demands.specs.Assembly.{container_of, event_of, file_of, Built, records_assembled, container_assembled}
 use Rattle.demands.specs.Assembly.{configuration_assembled, event_assembled, events_assembled, file_assembled, Assembled}
-use Rattle.demands.proofs.Bundles.{box, entries, header_item, configuration_item, event_item, records, same-records}
+use Rattle.demands.proofs.Bundles.{box, header_item, configuration_item, event_item, records, same-records}
 use Rattle.demands.proofs.Follows.{parts-valid, parts-ok, file_sound}
 use Rattle.demands.proofs.RowLaws.{record_size_lem, container_size_lem}
 use Rattle.demands.proofs.OutputLaws.{laid-within, laid-contents, grants}
@@ -48,17 +46,11 @@ first-event : (o : Order) (e : EventPieces) (es : List EventPieces)
     → length (event_pieces_bytes o (e ∷ es)) ≡ 8 + length (pieces_bytes o e.records) + length (event_pieces_bytes o es)
 first-event o e es = omega (arith, length-append (container_bytes o (event_of o e)) (event_pieces_bytes o es), container_size_lem o (event_of o e))
 
--- A piece of the container's own sort, without fault, follows the rule of its kind there.
-pub own-sort-follows : (o : Order) (c : Context) (p : Piece) → PieceFits p → in_monitoring c ≡ of_monitoring p → (draft_of o p).fault ≡ 0
-    → record_rule o c (record_of o p).word (record_of o p).body ≡ 0
-own-sort-follows o c p h sort e =
-    subst (λ (m : Bool). (kind_in m (record_of o p).word).rule o (record_of o p).body ≡ 0) (told_so (of_monitoring p) ∙ sym sort)
-    ((piece_writes o p h).body-rule e)
-
-pieces-valid : (o : Order) (c : Context) (ps : List Piece) → AllFitting ps → AllPlaced o c ps → length (pieces_bytes o ps) ≤ file_limit
+pieces-valid : (o : Order) (c : Context) (ps : List Piece) → AllFitting ps → AllFaultless o ps → AllPlaced o c ps
+    → length (pieces_bytes o ps) ≤ file_limit
     → ValidRecords o c (map (record_of o) ps)
-pieces-valid o c [] h k l = tt
-pieces-valid o c (p ∷ ps) h k l =
+pieces-valid o c [] h f k l = tt
+pieces-valid o c (p ∷ ps) h f k l =
     let w = piece_writes o p h.0 in
     let size = first_piece o p ps in (
       record {
@@ -67,9 +59,9 @@ pieces-valid o c (p ∷ ps) h k l =
         kind_fits = w.kind_fits;
         length-fits = omega arith;
         body_bytes = w.body_bytes;
-        body-rule = k.2;
+        body-rule = w.body-rule f.0;
       },
-      pieces-valid o (behind c (record_of o p).word) ps h.1 k.3 (omega arith),
+      pieces-valid o (behind c (record_of o p).word) ps h.1 f.1 k.2 (omega arith),
     )
 
 -- Some pieces have some bytes.
@@ -87,8 +79,7 @@ events-valid o (e ∷ es) h f k l =
         word_fits = event-word-fits e.class e.category e.type f.0.word;
         not_empty = some_bytes o e.records k.0.some;
         length-fits = omega arith;
-        records-valid =
-            pieces-valid o (event_context (event_word e.class e.category e.type)) e.records h.0 k.0.records (omega arith);
+        records-valid = pieces-valid o (event unseen) e.records h.0 f.0.records k.0.records (omega arith);
       },
       events-valid o es h.1 f.1 k.1 (omega arith),
     )
@@ -121,7 +112,7 @@ records-granted o b (p ∷ ps) h f r =
     (record { limit = omega (arith, r.limit); room = omega (arith, r.room, first_piece o p ps) }) in
     (after, ap (λ (r : Res ℕ). bind r (λ n. records_assembled o (record { next = n; out = mid.out }) ps)) one ∙ rest)
 
-module _ (o : Order) (head : ℕ → ℕ) (late : ℕ → ℕ → ℕ) (c : ℕ → Context) (word : ℕ)
+module _ (o : Order) (head : ℕ → ℕ) (late : ℕ → ℕ → ℕ) (c : Context) (word : ℕ)
     (closed : List ℕ → ℕ → ℕ → Res ℕ) (output : List ℕ → ℕ → ℕ → List ℕ)
     (closing-grants : (out : List ℕ) (place end : ℕ) → Checked o head late c out place end end word → closed out place end ≡ ok end) where
   -- Then a valid container of them is closed.
@@ -143,9 +134,9 @@ module _ (o : Order) (head : ℕ → ℕ) (late : ℕ → ℕ → ℕ) (c : ℕ 
         head_ok = v.head_ok;
         late_ok = ap (late word) n ∙ v.late_ok;
         read = rs;
-        contents = ap (read_records o (c word) (place + 8)) contents
-            ∙ same-records o (c word) (place + 8) (records_bytes o rs)
-            ∙ (records o).complete (c word) (place + 8) rs v.body_ok;
+        contents = ap (read_records o c (place + 8)) contents
+            ∙ same-records o c (place + 8) (records_bytes o rs)
+            ∙ (records o).complete c (place + 8) rs v.body_ok;
         is = refl;
       } in
       let made : Built → ℕ → Res Built = λ x next. ok (closed_with output b x next) in (
@@ -158,13 +149,13 @@ configuration-granted : (o : Order) (b : Built) (ps : List Piece) → AllFitting
     → (configuration_item o).Ok tt (container_of o configuration_word ps) → Room b (container_bytes o (container_of o configuration_word ps))
     → Answers (configuration_assembled o b ps)
 configuration-granted o =
-    container_granted o configuration_rule configuration_late entries configuration_word (configuration_closed o) (configuration_output o)
+    container_granted o configuration_rule configuration_late entry configuration_word (configuration_closed o) (configuration_output o)
     (configuration_grants o)
 
 event-granted : (o : Order) (b : Built) (e : EventPieces) → AllFitting e.records → EventFaultless o e → (event_item o).Ok tt (event_of o e)
     → Room b (container_bytes o (event_of o e)) → Answers (event_assembled o b e)
 event-granted o b e h f v r =
-    container_granted o event_word_rule event_late event_context (event_word e.class e.category e.type) _ _
+    container_granted o event_word_rule event_late (event unseen) (event_word e.class e.category e.type) _ _
     (λ out place end. event_grants o out place end e.class e.category e.type f.word) b e.records h f.records v r
 
 events-granted : (o : Order) (b : Built) (es : List EventPieces) → EventsFitting es → EventsFaultless o es → Oks (event_item o) tt (map (event_of o) es)
@@ -207,8 +198,7 @@ events-faultless o b (e ∷ es) after q =
 -- In a valid tree each piece stands where it may.
 pieces_placed : (o : Order) (c : Context) (ps : List Piece) → ValidRecords o c (map (record_of o) ps) → AllPlaced o c ps
 pieces_placed o c [] v = tt
-pieces_placed o c (p ∷ ps) v =
-    (v.0.kind_allowed, v.0.place_allowed, v.0.body-rule, pieces_placed o (behind c (record_of o p).word) ps v.1)
+pieces_placed o c (p ∷ ps) v = (v.0.kind_allowed, v.0.place_allowed, pieces_placed o (behind c (record_of o p).word) ps v.1)
 
 some-pieces : (o : Order) (ps : List Piece) → 1 ≤ length (pieces_bytes o ps) → 1 ≤ length ps
 some-pieces o [] l = l
@@ -218,10 +208,7 @@ events_placed : (o : Order) (es : List EventPieces) → ValidEvents o (map (even
 events_placed o [] v = tt
 events_placed o (e ∷ es) v =
     let own = v.0 in (
-      record {
-        some = some-pieces o e.records own.not_empty;
-        records = pieces_placed o (event_context (event_word e.class e.category e.type)) e.records own.records-valid;
-      },
+      record { some = some-pieces o e.records own.not_empty; records = pieces_placed o (event unseen) e.records own.records-valid },
       events_placed o es v.1,
     )
 
@@ -272,7 +259,7 @@ file-valid f h fine placed l =
       version-fits = (version-ok f h).1;
       configuration-word = refl;
       configuration-fits = omega (arith, file-size Little f h);
-      entries-valid = pieces-valid Little entry f.entries h.entries placed.entries (omega (arith, file-size Little f h));
+      entries-valid = pieces-valid Little entry f.entries h.entries fine.entries placed.entries (omega (arith, file-size Little f h));
       events-valid = events-valid Little f.events h.events fine.events placed.events (omega (arith, file-size Little f h));
       within-limit = l;
     }

@@ -1,28 +1,26 @@
 -- The lists of specs/Numbers are the numbers that the calls give for these inputs, computed: no list has a number that its call never gives. 1 is
 -- given over the limit, whatever stands there.
 use mathlib.Core.Path.{◌≡◌, refl}
-use mathlib.Core.Bool.{Bool, true, false}
 use mathlib.Core.List.{List, [], ◌∷◌, ◌++◌, map}
 use Prim.Native.Nat.{ℕ, ◌<◌}
 use borrow.Author.Tests.{lt-leb}
 use lib.Dec.{leb}
 use lib.IntN.{pos}
-use lib.ListN.{length, drop, replicate}
+use lib.ListN.{length, drop}
 use Rattle.theory.specs.declared.Order.TheVariants.{Little}
 use Rattle.theory.specs.Tests.{Res, ok, bad, need, unless}
 use Rattle.note.specs.Limits.{file_limit}
 use Rattle.note.specs.Words.{words}
 use Rattle.note.specs.Answers.{Given, refused}
 use Rattle.note.specs.Channels.{channel_answer, code_answer}
-use Rattle.note.specs.Records.{entry, event, monitoring, unseen, alone, told, read_record}
+use Rattle.note.specs.Records.{entry, event, unseen, alone, read_record}
 use Rattle.note.specs.Files.{read_file}
 use Rattle.note.specs.Rows.{table_answer}
 use Rattle.note.specs.Calls.{record_found, record_at, setting_at, sample_at}
 use Rattle.note.specs.Writers.{writer_next, record_next, header_next, configuration_closed, event_closed, rewrite_next}
 use Rattle.note.specs.Examples.{file_with, p14}
 use Rattle.note.proofs.Computing.{computing}
-use Rattle.demands.specs.Pieces.{Piece, phonon, charge, administrative, trace, history, gps, trigger, tlb, thresholds, trigger_rates, veto_rates}
-use Rattle.demands.specs.Pieces.{draft_of}
+use Rattle.demands.specs.Pieces.{Piece, phonon, charge, administrative, trace, history, gps, trigger, tlb, draft_of}
 use Rattle.demands.specs.Numbers.{record_numbers, header_numbers, configuration_numbers, rest_numbers, writer_numbers}
 use Rattle.demands.specs.Numbers.{configuration_closing_numbers, event_closing_numbers}
 
@@ -32,10 +30,9 @@ over : {A : Type 0} (n : ℕ) (r : Res A) → file_limit < n → need (unless (l
 over n r h = rw (lt-leb n file_limit h)
 
 -- A lent file over the limit, for a file's calls and for Record's; an output over the limit, for every writer.
-pub long_file_refused : (bs : List ℕ) → file_limit < length bs
-    → (read_file bs ≡ bad 1 0) × ((m : Bool) (place : ℕ) → record_found Little m bs place ≡ bad 1 0)
+pub long_file_refused : (bs : List ℕ) → file_limit < length bs → (read_file bs ≡ bad 1 0) × ((place : ℕ) → record_found Little bs place ≡ bad 1 0)
 unfolding read_file record_found
-long_file_refused bs h = (over (length bs) _ h, λ m place. over (length bs) (read_record Little (told m) place (drop place bs)) h)
+long_file_refused bs h = (over (length bs) _ h, λ place. over (length bs) (read_record Little alone place (drop place bs)) h)
 
 pub long_output_refused : (out : List ℕ) → file_limit < length out
     → ((place fault size : ℕ) → writer_next (length out) place fault size ≡ bad 1 0)
@@ -79,8 +76,7 @@ pub file_numbers_given :
     × (map read_file (words Little (0x01020304 ∷ 0x01000200 ∷ []) ∷ words Little (0x01020304 ∷ 0x01000200 ∷ 0 ∷ 0 ∷ []) ∷ [])
     ≡ at 8 configuration_numbers)
     × (map (λ bs. number (read_file bs)) (
-    file_with (0 ∷ []) ∷ file_with (0 ∷ 0 ∷ []) ∷ configured 8 (0x00010001 ∷ 0 ∷ []) ∷ file_with (0xA9801000 ∷ 0 ∷ []) ∷
-    file_with (0xA9800007 ∷ 8 ∷ 0x40 ∷ 0 ∷ []) ∷
+    file_with (0 ∷ []) ∷ file_with (0 ∷ 0 ∷ []) ∷ configured 8 (0x00010001 ∷ 0 ∷ []) ∷ file_with (0xA9801000 ∷ 0 ∷ []) ∷ file_with (0xA9800007 ∷ 0 ∷ []) ∷
     file_with (0xA9800000 ∷ 0 ∷ []) ∷ configured 40 unnamed ∷ file_with (0xA9800000 ∷ 88 ∷ (dated ++ unsampled)) ∷ []) ≡ rest_numbers)
 unfolding computing
 file_numbers_given = (refl, refl, refl)
@@ -97,17 +93,10 @@ records = [] ∷ words Little (0 ∷ 0 ∷ []) ∷ words Little (0x02 ∷ 0 ∷ 
 abbrev refusals : List Given
 refusals = map (λ (c : ℕ). refused c 0) (record_numbers alone)
 
--- Told that it reads in a monitoring event: nothing, a trace, a length, a kind without a layout, a veto code.
-abbrev monitors : List (List ℕ)
-monitors =
-    [] ∷ words Little (0x11 ∷ 0 ∷ []) ∷ words Little (0x21 ∷ 0 ∷ []) ∷ words Little (0x40 ∷ 0 ∷ []) ∷
-    words Little (0x31 ∷ 16 ∷ 0 ∷ 1 ∷ 101 ∷ 0 ∷ []) ∷ []
-
-pub record_numbers_given : (map (λ bs. record_at Little false bs 0) records ≡ refusals) × (map (λ bs. setting_at Little bs 0) records ≡ refusals)
+pub record_numbers_given : (map (λ bs. record_at Little bs 0) records ≡ refusals) × (map (λ bs. setting_at Little bs 0) records ≡ refusals)
     × (map (λ bs. sample_at Little bs 0 1) records ≡ refusals)
-    × (map (λ bs. record_at Little true bs 0) monitors ≡ map (λ (c : ℕ). refused c 0) (record_numbers monitoring))
 unfolding computing
-record_numbers_given = (refl, refl, refl, refl)
+record_numbers_given = (refl, refl, refl)
 
 pub channel_numbers_given : ((channel_answer 12000000).number ≡ 10) × (code_answer 12 0 [] ≡ refused 10 0)
 unfolding computing
@@ -161,24 +150,6 @@ gps_of_day day = gps (record { year = 2010; day = day; status = 0; hour = 0; min
 abbrev tlb_of_tower : ℕ → Piece
 tlb_of_tower w = tlb (record { tower1 = w; tower2 = 0; tower3 = 0; tower4 = 0; tower5 = 0; tower6 = 0 })
 
-abbrev thresholds_of_codes : List ℕ → List ℕ → Piece
-thresholds_of_codes codes operations = thresholds (record {
-  minimum = 0;
-  maximum = 0;
-  range = 0;
-  tower = 0;
-  codes = words Little codes;
-  operations = words Little operations;
-  values = replicate 216 0;
-})
-
-abbrev rates_of_lines : List ℕ → Piece
-rates_of_lines lines =
-    trigger_rates (record { interval = 0; tower = 0; codes = words Little (replicate 6 101); lines = words Little lines; counters = replicate 120 0 })
-
-abbrev veto_of_codes : ℕ → List ℕ → Piece
-veto_of_codes entries codes = veto_rates (record { interval = 0; entries = entries; codes = words Little codes; counters = replicate 8 0 })
-
 abbrev masks : Piece
 masks = trigger (record { mask1 = 0; mask2 = 0; mask3 = 0; mask4 = 0; mask5 = 0; mask6 = 0 })
 
@@ -196,14 +167,8 @@ pub writer_numbers_given :
     × (given (gps_of_day 366 ∷ gps_of_day 365 ∷ []) ≡ at 3 (writer_numbers (gps_of_day 365)))
     × (given (masks ∷ []) ≡ at 3 (writer_numbers masks))
     × (given (tlb_of_tower 1 ∷ tlb_of_tower 0 ∷ []) ≡ at 3 (writer_numbers (tlb_of_tower 0)))
-    × (given (
-    thresholds_of_codes [] [] ∷ thresholds_of_codes (replicate 6 300) (replicate 9 1005) ∷ thresholds_of_codes (replicate 6 300) (replicate 9 1001) ∷ [])
-    ≡ at 3 (writer_numbers (thresholds_of_codes [] [])))
-    × (given (rates_of_lines [] ∷ rates_of_lines (replicate 5 6) ∷ rates_of_lines (replicate 5 5) ∷ []) ≡ at 3 (writer_numbers (rates_of_lines [])))
-    × (given (veto_of_codes 1 (300 ∷ []) ∷ veto_of_codes 2 (300 ∷ 299 ∷ []) ∷ veto_of_codes 2 (300 ∷ 399 ∷ []) ∷ [])
-    ≡ at 3 (writer_numbers (veto_of_codes 0 [])))
 unfolding computing draft_of
-writer_numbers_given = (refl, refl, refl, refl, refl, refl, refl, refl, refl, refl, refl)
+writer_numbers_given = (refl, refl, refl, refl, refl, refl, refl, refl)
 
 pub header-number-given : header_next [] ≡ bad 13 0
 unfolding computing
@@ -221,21 +186,16 @@ configuration_over ws = configuration_closed Little (eight ws) 0 (length (eight 
 abbrev event_over : List ℕ → Res ℕ
 event_over ws = event_closed Little (eight ws) 0 (length (eight ws)) 0 0 0
 
-abbrev monitoring_over : List ℕ → Res ℕ
-monitoring_over ws = event_closed Little (eight ws) 0 (length (eight ws)) 0 0 7
-
 pub closing_numbers_given :
     (configuration_closed Little [] 3 0 ∷ [] ≡ at 3 configuration_closing_numbers)
     × (map configuration_over ((0 ∷ []) ∷ (0 ∷ 0 ∷ []) ∷ (0x00010001 ∷ 0 ∷ []) ∷ unnamed ∷ []) ≡ at 8 (record_numbers entry))
-    × (event_closed Little (eight []) 0 8 1 0 0 ∷ event_over [] ∷ event_closed Little [] 0 0 0 0 0 ∷ []
+    × (event_closed Little (eight []) 0 8 1 0 0 ∷ event_closed Little (eight []) 0 8 0 0 7 ∷ event_over [] ∷ event_closed Little [] 0 0 0 0 0 ∷ []
     ≡ at 0 event_closing_numbers)
     × (map (λ ws. number (event_over ws)) (
     (0 ∷ []) ∷ (0 ∷ 0 ∷ []) ∷ (0x02 ∷ 0 ∷ []) ∷ (0x11 ∷ 0 ∷ []) ∷ (0x02 ∷ 24 ∷ 0 ∷ 0 ∷ 0 ∷ 0 ∷ 0 ∷ 0 ∷ []) ∷ (dated ++ unsampled) ∷ [])
     ≡ record_numbers (event unseen))
-    × (map monitoring_over (
-    (0 ∷ []) ∷ (0x02 ∷ 0 ∷ []) ∷ (0x22 ∷ 0 ∷ []) ∷ (0 ∷ 0 ∷ []) ∷ (0x31 ∷ 16 ∷ 0 ∷ 1 ∷ 400 ∷ 0 ∷ []) ∷ []) ≡ at 8 (record_numbers monitoring))
 unfolding computing
-closing_numbers_given = (refl, refl, refl, refl, refl)
+closing_numbers_given = (refl, refl, refl, refl)
 
 pub rewrite_numbers_given : (rewrite_next p14 [] ≡ bad 13 0) × (rewrite_next [] [] ≡ bad 2 0)
 unfolding computing

@@ -22,23 +22,18 @@ use Rattle.note.specs.Trace.{trace_of, trace_fault}
 use Rattle.note.specs.History.{history_fault}
 use Rattle.note.specs.Gps.{gps_fault}
 use Rattle.note.specs.Tlb.{tlb_fault}
-use Rattle.note.specs.Thresholds.{thresholds_fault}
-use Rattle.note.specs.TriggerRates.{trigger_rates_fault}
-use Rattle.note.specs.VetoRates.{veto_rates_fault}
-use Rattle.note.specs.Records.{Record, Context, entry, alone, told, read_record, read_records}
-use Rattle.note.specs.Events.{event_fault, event_word, event_context}
+use Rattle.note.specs.Records.{Record, Context, entry, event, unseen, alone, read_record, read_records}
+use Rattle.note.specs.Events.{event_fault}
 use Rattle.note.specs.Files.{File, read_file}
 use Rattle.note.specs.Rows.{rows_of, fits, table_given, table_answer, yield_given, yield_at}
 use Rattle.note.specs.Visitor.{visit_given, visit_answer}
 use Rattle.note.specs.Calls.{record_found, record_given, record_at, setting_given, setting_at, is_trace, sample_given, sample_at, find_given, find_at}
 use Rattle.note.specs.Writers.{writer_next, phonon_draft, charge_draft, administrative_draft, trace_draft, history_draft, gps_draft}
 use Rattle.note.specs.Writers.{trigger_draft, tlb_draft, record_next, header_next, contents_of, end_given, within, configuration_closed, event_closed}
-use Rattle.note.specs.Writers.{thresholds_draft, trigger_rates_draft, veto_rates_draft, file_rewritten, rewrite_next}
+use Rattle.note.specs.Writers.{file_rewritten, rewrite_next}
 use Rattle.note.proofs.RuleNumbers.{phonon_fault_numbers, charge_fault_numbers, administrative_fault_numbers, trace_fault_numbers}
 use Rattle.note.proofs.RuleNumbers.{history_fault_numbers, gps_fault_numbers, tlb_fault_numbers, event_fault_numbers}
-use Rattle.note.proofs.RuleNumbers.{thresholds_fault_numbers, trigger_rates_fault_numbers, veto_rates_fault_numbers}
-use Rattle.demands.specs.Pieces.{Piece, phonon, charge, administrative, trace, history, gps, trigger, tlb, thresholds, trigger_rates, veto_rates}
-use Rattle.demands.specs.Pieces.{draft_of}
+use Rattle.demands.specs.Pieces.{Piece, phonon, charge, administrative, trace, history, gps, trigger, tlb, draft_of}
 use Rattle.demands.specs.Refusals.{Refusal, within-limit}
 use Rattle.demands.specs.Numbers.{At, From, record_numbers, ContainerNumbers, itself, inside}
 use Rattle.demands.specs.Numbers.{FileRefusal, RecordRefusal, TableRefusal, of_file, few_rows_lem}
@@ -101,45 +96,45 @@ module _ (bs : List ℕ) where
       go (bad c p) h = h
       go (ok f) h = tt
 
-found_gives : (o : Order) (m : Bool) (bs : List ℕ) (place : ℕ) → Gives (RecordRefusal m bs place) (record_found o m bs place)
-unfolding record_found
-found_gives o m bs place =
-    limit_gives (At place (record_numbers (told m))) (length bs) (read_record o (told m) place (drop place bs))
-    (record_gives o (told m) place (drop place bs))
-
-pub record_numbers_lem : (o : Order) (m : Bool) (bs : List ℕ) (place c p : ℕ) → record_at o m bs place ≡ refused c p → RecordRefusal m bs place c p
-unfolding record_at
-record_numbers_lem o m bs place c p e = subst (Refuses (RecordRefusal m bs place)) e (go (record_found o m bs place) (found_gives o m bs place))
-  where
-    go : (r : Res Record) → Gives (RecordRefusal m bs place) r → Refuses (RecordRefusal m bs place) (record_given o m place r)
-    go (bad c p) h = h
-    go (ok r) h = tt
-
 module _ (o : Order) (bs : List ℕ) (place : ℕ) where
   abbrev Mine : ℕ → ℕ → Type 0
-  Mine = RecordRefusal false bs place
+  Mine = RecordRefusal bs place
+
+  found_gives : Gives Mine (record_found o bs place)
+  unfolding record_found
+  found_gives =
+      limit_gives (At place (record_numbers alone)) (length bs) (read_record o alone place (drop place bs))
+      (record_gives o alone place (drop place bs))
 
   -- What was found was looked for within the limit, so a number of the call's own is given at the place.
-  found_within : (r : Record) → record_found o false bs place ≡ ok r → (c : ℕ) → among c (record_numbers alone) ≡ true → Mine c place
+  found_within : (r : Record) → record_found o bs place ≡ ok r → (c : ℕ) → among c (record_numbers alone) ≡ true → Mine c place
   unfolding record_found
   found_within r e c h =
       within-limit (most_passed (length bs) file_limit 0 (need-ok (unless (leb (length bs) file_limit) 1) 0 _ e).0) (h, refl)
 
-  pub setting_numbers : (c p : ℕ) → setting_at o bs place ≡ refused c p → RecordRefusal false bs place c p
-  unfolding setting_at
-  setting_numbers c p e = subst (Refuses Mine) e (go (record_found o false bs place) refl (found_gives o false bs place))
+  pub record_numbers_lem : (c p : ℕ) → record_at o bs place ≡ refused c p → RecordRefusal bs place c p
+  unfolding record_at
+  record_numbers_lem c p e = subst (Refuses Mine) e (go (record_found o bs place) found_gives)
     where
-      go : (r : Res Record) → record_found o false bs place ≡ r → Gives Mine r → Refuses Mine (setting_given o place r)
+      go : (r : Res Record) → Gives Mine r → Refuses Mine (record_given o place r)
+      go (bad c p) h = h
+      go (ok r) h = tt
+
+  pub setting_numbers : (c p : ℕ) → setting_at o bs place ≡ refused c p → RecordRefusal bs place c p
+  unfolding setting_at
+  setting_numbers c p e = subst (Refuses Mine) e (go (record_found o bs place) refl found_gives)
+    where
+      go : (r : Res Record) → record_found o bs place ≡ r → Gives Mine r → Refuses Mine (setting_given o place r)
       go (bad c p) q h = h
       go (ok r) q h =
           either Mine (eqb r.word phonon_kind.word) _ _ tt
           (either Mine (eqb r.word charge_kind.word) _ (refused 5 place) tt (found_within r q 5 refl))
 
-  pub sample_numbers : (k c p : ℕ) → sample_at o bs place k ≡ refused c p → RecordRefusal false bs place c p
+  pub sample_numbers : (k c p : ℕ) → sample_at o bs place k ≡ refused c p → RecordRefusal bs place c p
   unfolding sample_at
-  sample_numbers k c p e = subst (Refuses Mine) e (go (record_found o false bs place) refl (found_gives o false bs place))
+  sample_numbers k c p e = subst (Refuses Mine) e (go (record_found o bs place) refl found_gives)
     where
-      go : (r : Res Record) → record_found o false bs place ≡ r → Gives Mine r → Refuses Mine (sample_given o place k r)
+      go : (r : Res Record) → record_found o bs place ≡ r → Gives Mine r → Refuses Mine (sample_given o place k r)
       go (bad c p) q h = h
       go (ok r) q h =
           either Mine (is_trace r) _ (refused 5 place)
@@ -190,30 +185,20 @@ room-numbered (history f) = refl
 room-numbered (gps f) = refl
 room-numbered (trigger f) = refl
 room-numbered (tlb f) = refl
-room-numbered (thresholds f) = refl
-room-numbered (trigger_rates f) = refl
-room-numbered (veto_rates f) = refl
-
-six_or_ten : (c : ℕ) → Numbered (6 ∷ 10 ∷ []) c → Numbered (6 ∷ 10 ∷ 13 ∷ []) c
-six_or_ten c h = numbered_wider (6 ∷ 10 ∷ []) (6 ∷ 10 ∷ 13 ∷ []) c refl h
 
 ten : (c : ℕ) → Numbered (10 ∷ []) c → Numbered (10 ∷ 13 ∷ []) c
 ten c h = numbered_wider (10 ∷ []) (10 ∷ 13 ∷ []) c refl h
 
 fault-numbered : (o : Order) (piece : Piece) → Numbered (writer_numbers piece) (draft_of o piece).fault
 unfolding draft_of phonon_draft charge_draft administrative_draft trace_draft history_draft gps_draft trigger_draft tlb_draft Numbered
-    thresholds_draft trigger_rates_draft veto_rates_draft
 fault-numbered o (phonon f) = ten (phonon_fault (unsigned f.code)) (phonon_fault_numbers (unsigned f.code))
 fault-numbered o (charge f) = ten (charge_fault (unsigned f.code)) (charge_fault_numbers (unsigned f.code))
 fault-numbered o (administrative f) = ten (administrative_fault f.date f.clock) (administrative_fault_numbers f.date f.clock)
 fault-numbered o (trace f) = numbered_wider (6 ∷ 10 ∷ 11 ∷ []) (6 ∷ 10 ∷ 11 ∷ 13 ∷ []) (trace_fault f) refl (trace_fault_numbers f)
-fault-numbered o (history f) = six_or_ten (history_fault f) (history_fault_numbers f)
+fault-numbered o (history f) = numbered_wider (6 ∷ 10 ∷ []) (6 ∷ 10 ∷ 13 ∷ []) (history_fault f) refl (history_fault_numbers f)
 fault-numbered o (gps f) = ten (gps_fault f) (gps_fault_numbers f)
 fault-numbered o (trigger f) = tt
 fault-numbered o (tlb f) = ten (tlb_fault f) (tlb_fault_numbers f)
-fault-numbered o (thresholds f) = six_or_ten (thresholds_fault o f) (thresholds_fault_numbers o f)
-fault-numbered o (trigger_rates f) = six_or_ten (trigger_rates_fault o f) (trigger_rates_fault_numbers o f)
-fault-numbered o (veto_rates f) = six_or_ten (veto_rates_fault o f) (veto_rates_fault_numbers o f)
 
 pub writer_numbers_lem : (o : Order) (piece : Piece) (out : List ℕ) (place c p : ℕ) → record_next out place (draft_of o piece) ≡ bad c p
     → WriterRefusal out place (writer_numbers piece) c p
@@ -261,21 +246,20 @@ module _ (o : Order) (out : List ℕ) (place end : ℕ) where
       (within_gives configuration_closing_numbers (record_numbers entry) _ refl (contents_give configuration_closing_numbers entry))
 
   pub event_closing_numbers_lem : (class category type c p : ℕ) → event_closed o out place end class category type ≡ bad c p
-      → ClosingRefusal out place event_closing_numbers (event_context (event_word class category type)) c p
+      → ClosingRefusal out place event_closing_numbers (event unseen) c p
   unfolding event_closed
   event_closing_numbers_lem class category type c p e =
       let own : List ℕ = event_closing_numbers in
-      let context : Context = event_context (event_word class category type) in
-      let P : ℕ → ℕ → Type 0 = ContainerNumbers place own (record_numbers context) in
+      let P : ℕ → ℕ → Type 0 = ContainerNumbers place own (record_numbers (event unseen)) in
       let mine : (c : ℕ) → among c own ≡ true → P c place = λ c a. itself (a, refl) in
       let fault : ℕ = event_fault class category type in
       let some : Bool = leb 1 (end - (place + 8)) in
-      let contents : Res ℕ = end_given end (read_records o context (place + 8) (contents_of out place end)) in
+      let contents : Res ℕ = end_given end (read_records o (event unseen) (place + 8) (contents_of out place end)) in
       let full : Res ℕ = need (unless some 9) place contents in
-      subst (Gives (ClosingRefusal out place own context)) e
-      (within_gives own (record_numbers context) (need fault place full) refl
-      (need_gives P own fault place full (numbered_wider (7 ∷ []) own fault refl (event_fault_numbers class category type)) mine
-      (λ f. need_gives P own (unless some 9) place contents (unless-numbered own some 9 refl) mine (λ s. contents_give own context))))
+      subst (Gives (ClosingRefusal out place own (event unseen))) e
+      (within_gives own (record_numbers (event unseen)) (need fault place full) refl
+      (need_gives P own fault place full (numbered_wider (7 ∷ 8 ∷ []) own fault refl (event_fault_numbers class category type)) mine
+      (λ f. need_gives P own (unless some 9) place contents (unless-numbered own some 9 refl) mine (λ s. contents_give own (event unseen)))))
 
 pub rewrite_numbers : (bs out : List ℕ) (c p : ℕ) → rewrite_next bs out ≡ bad c p → Refusal (length out) (RewriteNumbers bs) c p
 unfolding rewrite_next

@@ -1,30 +1,27 @@
 -- Parents by kind (FORMAT 7.3): header, configuration and events have none, entries have the configuration's row, records that of an event.
 -- The idea: the rows are walked with the nodes before them, so that the row of the container that holds them is known.
 use mathlib.Core.Path.{◌≡◌, refl, sym, ap, ◌∙◌, subst}
-use mathlib.Core.Logic.{◌↔◌}
-use mathlib.Core.Bool.{Bool, true, false, false≢true}
+use mathlib.Core.Bool.{true, false≢true}
 use mathlib.Core.List.{List, [], ◌∷◌, ◌++◌, map, append_assoc}
-use Prim.Native.Nat.{ℕ, suc, ◌+◌, ◌%◌, ◌≤◌, ◌<◌}
+use Prim.Native.Nat.{ℕ, suc, ◌+◌, ◌≤◌, ◌<◌}
 use native.Mathlib.Omega.{arith}
 use lib.ListN.{length}
-use borrow.Author.Tests.{eqb-true, eqb-false}
 use Rattle.theory.specs.declared.Order.{Order}
 use Rattle.theory.specs.Words.{Bytes}
 use Rattle.theory.specs.Tests.{ok}
 use Rattle.theory.specs.Layout.{Row, Node, child_rows, rows, row_count, row}
 use Rattle.theory.proofs.LayoutLaws.{All, All-append, All-at, length-rows, row_count-append, box-at}
-use Rattle.note.specs.Records.{Record, Seen, entry, event, monitoring, unseen, is_kind, behind, noted, record_size, kind_of, monitoring_kind_of}
-use Rattle.note.specs.Events.{Container, is_monitoring}
+use Rattle.note.specs.Records.{Record, Seen, entry, event, unseen, is_kind, behind, noted, record_size, kind_of}
+use Rattle.note.specs.Events.{Container}
 use Rattle.note.specs.Files.{File, order_in, configuration_of, events_of, read_file}
 use Rattle.note.specs.Rows.{child_of, children_of, event_node, nodes_of, rows_of}
-use Rattle.note.proofs.KindCases.{kind_cases, monitoring_cases}
+use Rattle.note.proofs.KindCases.{kind_cases}
 use Rattle.demands.specs.Valid.{ValidRecord, ValidRecords, ValidEvents, Valid}
 use Rattle.demands.specs.Parents.{ParentByKind}
-use Rattle.demands.proofs.EventLaws.{by-type}
 use Rattle.demands.proofs.Follows.{file_sound}
 use Rattle.demands.proofs.RowLaws.{next_row, next_place, record_rows, event_rows, nodes_before, rows_behind}
 
--- An entry is of row kind 3 or 4, a record in an event of 6 to 11, in a monitoring event of 12 to 14.
+-- An entry is of row kind 3 or 4, a record in an event of 6 to 11.
 entry-kind : (o : Order) (r : Record) → ValidRecord o entry r → (3 ≤ (kind_of r.word).row) × ((kind_of r.word).row ≤ 4)
 unfolding is_kind
 entry-kind o r v =
@@ -41,12 +38,6 @@ record_kind o s r v =
     (λ e q. omega arith) (λ e q. omega arith) (λ e q. omega arith) (λ e q. absurd (omega arith))
     v.kind_allowed v.body-rule
 
-monitoring-kind : (o : Order) (r : Record) → ValidRecord o monitoring r
-    → (12 ≤ (monitoring_kind_of r.word).row) × ((monitoring_kind_of r.word).row ≤ 14)
-monitoring-kind o r v =
-    monitoring_cases (λ w x. x.rule o r.body ≡ 0 → (12 ≤ x.row) × (x.row ≤ 14)) r.word
-    (λ q. omega arith) (λ q. omega arith) (λ q. omega arith) (λ q. absurd (omega arith)) v.body-rule
-
 module _ (o : Order) (all : List Row) where
   -- A row without a parent, of a kind that stands in no container.
   outer_by_kind : (r : Row) → 1 ≤ r.kind → r.kind ≤ 5 → (3 ≤ r.kind → r.kind ≤ 4 → ⊥) → r.parent ≡ 0 → ParentByKind all r
@@ -61,7 +52,7 @@ module _ (o : Order) (all : List Row) where
 
   -- The rows of entries, where the second row is a configuration's.
   entries-by-kind : (at : ℕ) (rs : List Record) → (row all 1).kind ≡ 2 → ValidRecords o entry rs
-      → All (ParentByKind all) (record_rows o false 2 at rs)
+      → All (ParentByKind all) (record_rows o 2 at rs)
   unfolding child_rows child_of behind
   entries-by-kind at [] k v = tt
   entries-by-kind at (r ∷ rs) k v =
@@ -77,39 +68,23 @@ module _ (o : Order) (all : List Row) where
         entries-by-kind (at + record_size r) rs k v.1,
       )
 
-  -- A row inside the event that row p is.
-  inner-by-kind : (r : Row) (p : ℕ) → 6 ≤ r.kind → r.kind ≤ 14 → r.parent ≡ suc p → p < length all → (row all p).kind ≡ 5
-      → ((12 ≤ r.kind) ↔ ((row all p).one % 256 ≡ 7)) → ParentByKind all r
-  inner-by-kind r p from to above l k type = record {
-    kind-listed = (omega arith, to);
-    header = λ e. absurd (omega arith);
-    configuration = λ e. absurd (omega arith);
-    event = λ e. absurd (omega arith);
-    entry = λ a b. absurd (omega arith);
-    inside-event = λ a. (p, above, l, k, type);
-  }
-
-  -- The rows of an event's records, where row p is the event's; of a monitoring event's.
-  module _ (p : ℕ) (l : p < length all) (k : (row all p).kind ≡ 5) where
-    records-by-kind : (at : ℕ) (s : Seen) (rs : List Record) → ((row all p).one % 256 ≡ 7 → ⊥) → ValidRecords o (event s) rs
-        → All (ParentByKind all) (record_rows o false (suc p) at rs)
-    unfolding child_rows child_of behind
-    records-by-kind at s [] type v = tt
-    records-by-kind at s (r ∷ rs) type v =
-        let (from, to) = record_kind o s r v.0 in (
-          inner-by-kind _ p from (omega arith) refl l k (λ a. absurd (omega arith), λ e. absurd (type e)),
-          records-by-kind (at + record_size r) (noted s r.word) rs type v.1,
-        )
-
-    monitors-by-kind : (at : ℕ) (rs : List Record) → (row all p).one % 256 ≡ 7 → ValidRecords o monitoring rs
-        → All (ParentByKind all) (record_rows o true (suc p) at rs)
-    unfolding child_rows child_of behind
-    monitors-by-kind at [] type v = tt
-    monitors-by-kind at (r ∷ rs) type v =
-        let (from, to) = monitoring-kind o r v.0 in (
-          inner-by-kind _ p (omega arith) to refl l k (λ a. type, λ e. from),
-          monitors-by-kind (at + record_size r) rs type v.1,
-        )
+  -- The rows of an event's records, where row p is the event's.
+  records-by-kind : (p at : ℕ) (s : Seen) (rs : List Record) → p < length all → (row all p).kind ≡ 5 → ValidRecords o (event s) rs
+      → All (ParentByKind all) (record_rows o (suc p) at rs)
+  unfolding child_rows child_of behind
+  records-by-kind p at s [] l k v = tt
+  records-by-kind p at s (r ∷ rs) l k v =
+      let (from, to) = record_kind o s r v.0 in (
+        record {
+          kind-listed = omega arith;
+          header = λ e. absurd (omega arith);
+          configuration = λ e. absurd (omega arith);
+          event = λ e. absurd (omega arith);
+          entry = λ a b. absurd (omega arith);
+          inside-event = λ a. (p, refl, l, k);
+        },
+        records-by-kind p (at + record_size r) (noted s r.word) rs l k v.1,
+      )
 
   -- The rows of events, behind the nodes that were passed.
   events-by-kind : (passed : List Node) (at : ℕ) (es : List Container) → all ≡ rows 1 0 (passed ++ map (event_node o) es) → ValidEvents o es
@@ -120,24 +95,18 @@ module _ (o : Order) (all : List Row) where
       let i : ℕ = suc (row_count passed) in
       let more : List Node = map (event_node o) es in
       let own : Node = event_node o e in
-      let m : Bool = is_monitoring e.word in
-      let there = ap (λ (rs : List Row). row rs (row_count passed)) q ∙ box-at passed 5 _ _ (children_of o m e.body) more in
-      let is-event : (row all (row_count passed)).kind ≡ 5 = ap (λ (r : Row). r.kind) there in
-      let type-is : (row all (row_count passed)).one ≡ e.word % 65536 = ap (λ (r : Row). r.one) there in
+      let is-event : (row all (row_count passed)).kind ≡ 5 =
+      ap (λ (rs : List Row). (row rs (row_count passed)).kind) q
+      ∙ ap (λ (r : Row). r.kind) (box-at passed 5 _ _ (children_of o e.body) more) in
       let below : row_count passed < length all =
       omega (arith, ap length q, length-rows 1 0 (passed ++ own ∷ more), row_count-append passed (own ∷ more)) in
-      let number : suc (row_count (passed ++ own ∷ [])) ≡ next_row o m i e = omega (arith, row_count-append passed (own ∷ [])) in
-      let later : List Row = event_rows o (next_row o m i e) (next_place o m at e) es in (
+      let number : suc (row_count (passed ++ own ∷ [])) ≡ next_row o i e = omega (arith, row_count-append passed (own ∷ [])) in
+      let later : List Row = event_rows o (next_row o i e) (next_place o at e) es in (
         outer_by_kind _ (omega arith) (omega arith) (λ a b. omega arith) refl,
-        All-append (ParentByKind all) (record_rows o m i (at + 8) e.body) later
-            (by-type (λ t c. ValidRecords o c e.body → All (ParentByKind all) (record_rows o t i (at + 8) e.body)) e.word
-            (λ t. let seven = eqb-true (e.word % 256) 7 t in
-            monitors-by-kind (row_count passed) below is-event (at + 8) e.body (omega (arith, type-is)))
-            (λ t. let other = eqb-false (e.word % 256) 7 t in
-            records-by-kind (row_count passed) below is-event (at + 8) unseen e.body (λ w. other (omega (arith, type-is))))
-            v.0.records-valid)
-            (subst (λ (n : ℕ). All (ParentByKind all) (event_rows o n (next_place o m at e) es)) number
-            (events-by-kind (passed ++ own ∷ []) (next_place o m at e) es (q ∙ ap (rows 1 0) (sym (append_assoc passed (own ∷ []) more))) v.1)),
+        All-append (ParentByKind all) (record_rows o i (at + 8) e.body) later
+            (records-by-kind (row_count passed) (at + 8) unseen e.body below is-event v.0.records-valid)
+            (subst (λ (n : ℕ). All (ParentByKind all) (event_rows o n (next_place o at e) es)) number
+            (events-by-kind (passed ++ own ∷ []) (next_place o at e) es (q ∙ ap (rows 1 0) (sym (append_assoc passed (own ∷ []) more))) v.1)),
       )
 
 -- Of a valid file's rows.
@@ -145,15 +114,14 @@ rows-by-kind : (f : File) → Valid f → All (ParentByKind (rows_of f)) (rows_o
 unfolding rows_of nodes_of rows
 rows-by-kind f v =
     let c : Container = configuration_of f in
-    let number : suc (row_count (nodes_before (order_in f) f)) ≡ next_row (order_in f) false 2 c = omega arith in (
+    let number : suc (row_count (nodes_before (order_in f) f)) ≡ next_row (order_in f) 2 c = omega arith in (
       outer_by_kind (order_in f) (rows_of f) _ (omega arith) (omega arith) (λ a b. omega arith) refl,
       (
         outer_by_kind (order_in f) (rows_of f) _ (omega arith) (omega arith) (λ a b. omega arith) refl,
-        All-append (ParentByKind (rows_of f)) (record_rows (order_in f) false 2 16 c.body) (rows_behind (order_in f) f)
+        All-append (ParentByKind (rows_of f)) (record_rows (order_in f) 2 16 c.body) (rows_behind (order_in f) f)
             (entries-by-kind (order_in f) (rows_of f) 16 c.body refl v.entries-valid)
-            (subst (λ (n : ℕ). All (ParentByKind (rows_of f)) (event_rows (order_in f) n (next_place (order_in f) false 8 c) (events_of f))) number
-            (events-by-kind (order_in f) (rows_of f) (nodes_before (order_in f) f) (next_place (order_in f) false 8 c)
-            (events_of f) refl v.events-valid)),
+            (subst (λ (n : ℕ). All (ParentByKind (rows_of f)) (event_rows (order_in f) n (next_place (order_in f) 8 c) (events_of f))) number
+            (events-by-kind (order_in f) (rows_of f) (nodes_before (order_in f) f) (next_place (order_in f) 8 c) (events_of f) refl v.events-valid)),
       ),
     )
 

@@ -20,7 +20,7 @@ use Rattle.note.specs.Words.{word}
 use Rattle.note.specs.Answers.{whole, float, Given, accepted, refused, count, counts}
 use Rattle.note.specs.Trace.{trace_kind, trace_rule}
 use Rattle.note.specs.History.{history_kind, history_rule, width_at, width_of, end_at, trigger_at, section_values}
-use Rattle.note.specs.Records.{Record, told, record_head, record_late, record_rule, read_record, kind_of}
+use Rattle.note.specs.Records.{Record, alone, record_head, record_late, record_rule, read_record, kind_of}
 use Rattle.note.specs.Calls.{record_found, record_given, is_trace, part_given, record_at, samples_part, samples_at}
 use Rattle.note.proofs.AnswerLaws.{counts_determined}
 use Rattle.note.proofs.KindCases.{kind_cases}
@@ -32,13 +32,13 @@ use Rattle.demands.proofs.RecordLaws.{found-body}
 use Rattle.note.specs.Faults.{too_short}
 use Rattle.note.proofs.FaultLaws.{short-some}
 
-module _ (o : Order) (m : Bool) (bs : List ℕ) (place : ℕ) (r : Record) (found : record_found o m bs place ≡ ok r) where
+module _ (o : Order) (bs : List ℕ) (place : ℕ) (r : Record) (found : record_found o bs place ≡ ok r) where
   -- n bytes of the body, from its byte q on, are the file's
   pub part-found : (q n : ℕ) → q + n ≤ length r.body → take n (drop (place + 8 + q) bs) ≡ take n (drop q r.body)
   part-found q n l =
       let w : ℕ = word_at o 4 4 (drop place bs) in
       let behind : List ℕ = drop 8 (drop place bs) in
-      let is : r.body ≡ take w behind = found-body o m bs place r found in
+      let is : r.body ≡ take w behind = found-body o bs place r found in
       let size : length r.body ≡ length (take w behind) = ap length is in
       let there : drop q behind ≡ drop (place + 8 + q) bs =
       ap (drop q) (drop-drop 8 place bs) ∙ drop-drop q (place + 8) bs in
@@ -47,28 +47,28 @@ module _ (o : Order) (m : Bool) (bs : List ℕ) (place : ℕ) (r : Record) (foun
       ∙ ap (λ (b : List ℕ). take n (drop q b)) (sym is)
 
   -- one of its bytes
-  pub byte-found : (i : ℕ) → i < length r.body → get_or r.body i 0 ≡ get_or bs (place + 8 + i) 0
-  byte-found i l =
+  pub byte-found : (m : ℕ) → m < length r.body → get_or r.body m 0 ≡ get_or bs (place + 8 + m) 0
+  byte-found m l =
       let n : ℕ = word_at o 4 4 (drop place bs) in
-      let is : r.body ≡ take n (drop 8 (drop place bs)) = found-body o m bs place r found in
-      let below : i < n = omega (arith, ap length is, length-take n (drop 8 (drop place bs))) in
-      ap (λ (b : List ℕ). get_or b i 0) is
-      ∙ get_or-take n (drop 8 (drop place bs)) i 0 below
-      ∙ ap (λ (b : List ℕ). get_or b i 0) (drop-drop 8 place bs)
-      ∙ get_or-drop (place + 8) bs i 0
+      let is : r.body ≡ take n (drop 8 (drop place bs)) = found-body o bs place r found in
+      let below : m < n = omega (arith, ap length is, length-take n (drop 8 (drop place bs))) in
+      ap (λ (b : List ℕ). get_or b m 0) is
+      ∙ get_or-take n (drop 8 (drop place bs)) m 0 below
+      ∙ ap (λ (b : List ℕ). get_or b m 0) (drop-drop 8 place bs)
+      ∙ get_or-drop (place + 8) bs m 0
 
   -- what was found follows its kind's rule
-  pub rule_found : record_rule o (told m) r.word r.body ≡ 0
+  pub rule_found : record_rule o r.word r.body ≡ 0
   unfolding record_found
   rule_found =
       let from : List ℕ = drop place bs in
-      let (l, q) = need-ok (unless (leb (length bs) file_limit) 1) 0 (read_record o (told m) place from) found in
+      let (l, q) = need-ok (unless (leb (length bs) file_limit) 1) 0 (read_record o alone place from) found in
       let shown =
-      opens o too_short short-some record_head record_late (ruled (λ s. record_rule o s.0 s.1)).read (told m) place from r
-      (sym (same_record o (told m) place from) ∙ q) in
+      opens o too_short short-some record_head record_late (ruled (λ s. record_rule o s.1)).read alone place from r
+      (sym (same_record o alone place from) ∙ q) in
       let b : List ℕ = take (word_at o 4 4 from) (drop 8 from) in
-      let (passed, same) = need-ok (record_rule o (told m) (word_at o 4 0 from) b) place (ok b) shown.body_is in
-      rw shown.kind-is (subst (λ (x : List ℕ). record_rule o (told m) (word_at o 4 0 from) x ≡ 0) (ok_inj same) passed)
+      let (passed, same) = need-ok (record_rule o (word_at o 4 0 from) b) place (ok b) shown.body_is in
+      rw shown.kind-is (subst (λ (x : List ℕ). record_rule o (word_at o 4 0 from) x ≡ 0) (ok_inj same) passed)
 
 -- ---- the samples
 
@@ -77,14 +77,14 @@ abbrev pub samples_given : Res Record → List ℕ
 samples_given (bad c p) = []
 samples_given (ok r) = cond (is_trace r) (drop 48 r.body) []
 
-pub samples-given : (o : Order) (bs : List ℕ) (place : ℕ) → samples_at o bs place ≡ samples_given (record_found o false bs place)
+pub samples-given : (o : Order) (bs : List ℕ) (place : ℕ) → samples_at o bs place ≡ samples_given (record_found o bs place)
 unfolding samples_at samples_part kind_of
-samples-given o bs place = go (record_found o false bs place) refl
+samples-given o bs place = go (record_found o bs place) refl
   where
     cut : ℕ × ℕ → List ℕ
     cut s = take s.1 (drop s.0 bs)
 
-    go : (s : Res Record) → record_found o false bs place ≡ s → cut (part_given place s) ≡ samples_given s
+    go : (s : Res Record) → record_found o bs place ≡ s → cut (part_given place s) ≡ samples_given s
     go (bad c p) e = refl
     go (ok r) e = trace (is_trace r) refl
       where
@@ -95,14 +95,14 @@ samples-given o bs place = go (record_found o false bs place) refl
         trace false k = refl
         trace true k =
             let passes : trace_rule o r.body ≡ 0 =
-            subst (λ (w : ℕ). (kind_of w).rule o r.body ≡ 0) (eqb-true r.word trace_kind.word k) (rule_found o false bs place r e) in
+            subst (λ (w : ℕ). record_rule o w r.body ≡ 0) (eqb-true r.word trace_kind.word k) (rule_found o bs place r e) in
             let size : length r.body ≡ 48 + 2 * word o 44 r.body = (trace-length o r.body passes).0 in
             let from : place + 56 ≡ place + 8 + 48 = omega arith in
             let short : length (drop 48 r.body) ≤ n = omega (arith, length-drop 48 r.body) in
-            ap (λ (p : ℕ). take n (drop p bs)) from ∙ part-found o false bs place r e 48 n (omega arith) ∙ take_all n (drop 48 r.body) short
+            ap (λ (p : ℕ). take n (drop p bs)) from ∙ part-found o bs place r e 48 n (omega arith) ∙ take_all n (drop 48 r.body) short
 
 -- Where the same is found in both files, Samples gives the same part of both, with the same bytes.
-pub samples_stay : (o : Order) (bs bs' : List ℕ) (place : ℕ) → record_found o false bs' place ≡ record_found o false bs place
+pub samples_stay : (o : Order) (bs bs' : List ℕ) (place : ℕ) → record_found o bs' place ≡ record_found o bs place
     → (samples_part o bs' place ≡ samples_part o bs place) × (samples_at o bs' place ≡ samples_at o bs place)
 unfolding samples_part
 samples_stay o bs bs' place same =
@@ -126,10 +126,9 @@ history-kind k =
     (λ e. absurd (omega arith)) (λ e. absurd (omega arith)) (λ e. absurd (omega arith)) (λ e. absurd (omega arith))
 
 -- Where the same record is found in both files, a section of it has the same lists.
-module _ (o : Order) (bs bs' : List ℕ) (place : ℕ) (r : Record) (was : record_found o false bs place ≡ ok r)
-    (is : record_found o false bs' place ≡ ok r) where
+module _ (o : Order) (bs bs' : List ℕ) (place : ℕ) (r : Record) (was : record_found o bs place ≡ ok r) (is : record_found o bs' place ≡ ok r) where
   same-part : (q n : ℕ) → q + n ≤ length r.body → take n (drop (place + 8 + q) bs') ≡ take n (drop (place + 8 + q) bs)
-  same-part q n l = part-found o false bs' place r is q n l ∙ sym (part-found o false bs place r was q n l)
+  same-part q n l = part-found o bs' place r is q n l ∙ sym (part-found o bs place r was q n l)
 
   same_section : (p : ℕ) → end_at o p r.body ≤ length r.body
       → SameSection bs bs' (word o p r.body) (place + 8 + (p + 4)) (width_of o p r.body) (place + 8 + (width_at o p r.body + 4))
@@ -144,32 +143,32 @@ module _ (o : Order) (bs bs' : List ℕ) (place : ℕ) (r : Record) (was : recor
   same_lists e n t w m n' t' w' m' given =
       let k : r.word ≡ history_kind.word = history-kind r.word e in
       let b : List ℕ = r.body in
-      let passes : history_rule o b ≡ 0 = subst (λ (q : ℕ). (kind_of q).rule o b ≡ 0) k (rule_found o false bs place r was) in
+      let passes : history_rule o b ≡ 0 = subst (λ (q : ℕ). record_rule o q b ≡ 0) k (rule_found o bs place r was) in
       let (room, end) = history-ends o b passes in
       let ns : List ℕ = 8 ∷ (section_values o (place + 8) 0 b ++ section_values o (place + 8) (trigger_at o b) b) in
-      let told : record_at o false bs place ≡ accepted (counts ns) = rw (was, k) in
+      let told : record_at o bs place ≡ accepted (counts ns) = rw (was, k) in
       let same = counts_determined ns (8 ∷ n ∷ t ∷ w ∷ m ∷ n' ∷ t' ∷ w' ∷ m' ∷ []) (sym told ∙ given) in
       subst (λ (ns : List ℕ). SameSection bs bs' (get_or ns 1 0) (get_or ns 2 0) (get_or ns 3 0) (get_or ns 4 0)
       × SameSection bs bs' (get_or ns 5 0) (get_or ns 6 0) (get_or ns 7 0) (get_or ns 8 0)) same
       (same_section 0 room, same_section (trigger_at o b) (omega arith))
 
 -- Where the same is found in both files, a history there has the same lists.
-pub lists_stay : (o : Order) (bs bs' : List ℕ) (place : ℕ) → record_found o false bs' place ≡ record_found o false bs place → SameLists o bs bs' place
+pub lists_stay : (o : Order) (bs bs' : List ℕ) (place : ℕ) → record_found o bs' place ≡ record_found o bs place → SameLists o bs bs' place
 unfolding record_at
-lists_stay o bs bs' place same = go (record_found o false bs place) refl
+lists_stay o bs bs' place same = go (record_found o bs place) refl
   where
-    go : (s : Res Record) → record_found o false bs place ≡ s → SameLists o bs bs' place
+    go : (s : Res Record) → record_found o bs place ≡ s → SameLists o bs bs' place
     go (bad c p) e n t w m n' t' w' m' given =
-        let both : ◌≡◌ {A = ℕ} 0 8 = ap first_number (sym (ap (record_given o false place) e) ∙ given) in
+        let both : ◌≡◌ {A = ℕ} 0 8 = ap first_number (sym (ap (record_given o place) e) ∙ given) in
         absurd (omega arith)
     go (ok r) e n t w m n' t' w' m' given =
-        same_lists o bs bs' place r e (same ∙ e) (ap first_number (sym (ap (record_given o false place) e) ∙ given)) n t w m n' t' w' m' given
+        same_lists o bs bs' place r e (same ∙ e) (ap first_number (sym (ap (record_given o place) e) ∙ given)) n t w m n' t' w' m' given
 
 -- Where a trace is found Record's answer is no history's.
-pub trace_lists : (o : Order) (bs bs' : List ℕ) (place : ℕ) (r : Record) → record_found o false bs place ≡ ok r → r.word ≡ trace_kind.word
+pub trace_lists : (o : Order) (bs bs' : List ℕ) (place : ℕ) (r : Record) → record_found o bs place ≡ ok r → r.word ≡ trace_kind.word
     → SameLists o bs bs' place
 unfolding record_at kind_of
 trace_lists o bs bs' place r e k n t w m n' t' w' m' given =
-    let told : record_at o false bs place ≡ accepted (count 7 ∷ trace_kind.values o place r.body) = rw (e, k) in
+    let told : record_at o bs place ≡ accepted (count 7 ∷ trace_kind.values o place r.body) = rw (e, k) in
     let both : ◌≡◌ {A = ℕ} 7 8 = ap first_number (sym told ∙ given) in
     absurd (omega arith)

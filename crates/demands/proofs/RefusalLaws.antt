@@ -1,7 +1,7 @@
 -- Which numbers each reader can refuse with, and where; so a file's refusal is one of the listed numbers (FORMAT 2.1), and never 0.
 -- The idea: `need` gives back a test's number at its place and `bind` passes on what it is given; each reader is made of these two.
 use mathlib.Core.Path.{◌≡◌, refl, sym, ◌∙◌, subst}
-use mathlib.Core.Bool.{Bool, true, false, cond, false≢true}
+use mathlib.Core.Bool.{Bool, true, false, false≢true}
 use mathlib.Core.List.{List, [], ◌∷◌}
 use Prim.Native.Nat.{ℕ, zero, suc, ◌+◌, ◌%◌, ◌≤◌, ◌<◌}
 use native.Mathlib.Omega.{arith}
@@ -15,20 +15,17 @@ use Rattle.theory.specs.Structures.{Structure, read_structure, read_sequence}
 use Rattle.theory.proofs.StructureLaws.{stateless, read_in}
 use Rattle.theory.proofs.TestLaws.{Numbered, unless-numbered, unless-zero, numbered_wider, among_wider}
 use Rattle.note.specs.Limits.{file_limit}
-use Rattle.note.specs.Records.{Record, Context, entry, event, monitoring, alone, unseen, kind_of, monitoring_kind_of, is_kind, is_allowed}
-use Rattle.note.specs.Records.{entry_kinds, kinds_without_layout}
+use Rattle.note.specs.Records.{Record, Context, entry, event, alone, unseen, is_kind, is_allowed, entry_kinds}
 use Rattle.note.specs.Records.{record_head, record_late, record_rule, next_context, record_size, behind, read_record, read_records}
-use Rattle.note.specs.Events.{Container, container_size, event_word_rule, event_context, event_late, read_event, read_events}
+use Rattle.note.specs.Events.{Container, container_size, event_word_rule, event_late, read_event, read_events}
 use Rattle.note.specs.Files.{order_of, file_mark, format, version_rule, configuration_word, configuration_rule, configuration_late}
 use Rattle.note.specs.Files.{Parts, File, read_header, read_configuration, read_parts, read_file}
 use Rattle.note.proofs.BoolLaws.{among_tells, up_to, one-up-to}
-use Rattle.note.proofs.RuleNumbers.{rule_numbers, entry_rule_numbers, monitoring_rule_numbers, event_word_numbers}
+use Rattle.note.proofs.RuleNumbers.{rule_numbers, entry_rule_numbers, event_word_numbers}
 use Rattle.demands.specs.Refusals.{Refusal, too_large, within-limit}
 use Rattle.demands.specs.Numbers.{At, From, record_numbers, ContainerNumbers, itself, inside}
 use Rattle.demands.specs.Numbers.{header_numbers, configuration_numbers, rest_numbers}
 use Rattle.demands.specs.Numbers.{FileNumbers, of_header, of_configuration, of_rest, FileRefusal}
-use Rattle.demands.proofs.Bundles.{entries}
-use Rattle.demands.proofs.EventLaws.{by-type}
 use Rattle.note.specs.Faults.{too_short}
 
 -- An answer, or a refusal of this sort.
@@ -91,33 +88,24 @@ module _ {S A : Type 0} (step : S → A → S) (size : A → ℕ) (read : S → 
 record_head_numbers : (c : Context) (w : ℕ) → Numbered (record_numbers c) (record_head c w)
 record_head_numbers entry w = unless-numbered _ (is_kind entry w) 5 refl
 record_head_numbers (event seen) w = unless-numbered _ (is_kind (event seen) w) 5 refl
-record_head_numbers monitoring w = go (is_kind monitoring w) (among w kinds_without_layout)
-  where
-    go : (a b : Bool) → Numbered (record_numbers monitoring) (unless a (cond b 8 5))
-    go a true = unless-numbered _ a 8 refl
-    go a false = unless-numbered _ a 5 refl
 record_head_numbers alone w = unless-numbered _ (is_kind alone w) 5 refl
 
 record_late_numbers : (c : Context) (w n : ℕ) → Numbered (record_numbers c) (record_late c w n)
 unfolding is_allowed Numbered
 record_late_numbers entry w n = tt
 record_late_numbers (event seen) w n = unless-numbered _ (is_allowed (event seen) w) 9 refl
-record_late_numbers monitoring w n = tt
 record_late_numbers alone w n = tt
 
-record_rule_numbers : (o : Order) (c : Context) (w : ℕ) (b : List ℕ) → record_head c w ≡ 0 → Numbered (record_numbers c) (record_rule o c w b)
+record_rule_numbers : (o : Order) (c : Context) (w : ℕ) (b : List ℕ) → record_head c w ≡ 0 → Numbered (record_numbers c) (record_rule o w b)
 unfolding is_kind
 record_rule_numbers o entry w b h =
-    numbered_wider (5 ∷ 6 ∷ 10 ∷ []) _ ((kind_of w).rule o b) refl (entry_rule_numbers o w b (unless-zero (among w entry_kinds) 5 (omega arith) h))
-record_rule_numbers o (event seen) w b h = numbered_wider (5 ∷ 6 ∷ 10 ∷ 11 ∷ []) _ ((kind_of w).rule o b) refl (rule_numbers o w b)
-record_rule_numbers o monitoring w b h =
-    numbered_wider (5 ∷ 6 ∷ 10 ∷ []) _ ((monitoring_kind_of w).rule o b) refl (monitoring_rule_numbers o w b)
-record_rule_numbers o alone w b h = numbered_wider (5 ∷ 6 ∷ 10 ∷ 11 ∷ []) _ ((kind_of w).rule o b) refl (rule_numbers o w b)
+    numbered_wider (5 ∷ 6 ∷ 10 ∷ []) _ (record_rule o w b) refl (entry_rule_numbers o w b (unless-zero (among w entry_kinds) 5 (omega arith) h))
+record_rule_numbers o (event seen) w b h = numbered_wider (5 ∷ 6 ∷ 10 ∷ 11 ∷ []) _ (record_rule o w b) refl (rule_numbers o w b)
+record_rule_numbers o alone w b h = numbered_wider (5 ∷ 6 ∷ 10 ∷ 11 ∷ []) _ (record_rule o w b) refl (rule_numbers o w b)
 
 two-among : (c : Context) → among 2 (record_numbers c) ≡ true
 two-among entry = refl
 two-among (event seen) = refl
-two-among monitoring = refl
 two-among alone = refl
 
 pub record_gives : (o : Order) (c : Context) (at : ℕ) (bs : List ℕ) → Gives (At at (record_numbers c)) (read_record o c at bs)
@@ -125,16 +113,15 @@ unfolding read_record
 record_gives o c at bs =
     let P : ℕ → ℕ → Type 0 = At at (record_numbers c) in
     let own : (n : ℕ) → among n (record_numbers c) ≡ true → P n at = λ n h. (h, refl) in
-    structure_gives o record_head record_late (λ s at b. need (record_rule o s.0 s.1 b) at (ok b)) P (record_numbers c) (two-among c) c
+    structure_gives o record_head record_late (λ s at b. need (record_rule o s.1 b) at (ok b)) P (record_numbers c) (two-among c) c
     (record_head_numbers c) (record_late_numbers c) at bs own
-    (λ w part h. need_gives P (record_numbers c) (record_rule o c w part) at (ok part) (record_rule_numbers o c w part h) own (λ e. tt))
+    (λ w part h. need_gives P (record_numbers c) (record_rule o w part) at (ok part) (record_rule_numbers o c w part h) own (λ e. tt))
 
 -- A context stays of its sort.
 numbers_stay : (c : Context) (k : ℕ) → record_numbers (behind c k) ≡ record_numbers c
 unfolding behind
 numbers_stay entry k = refl
 numbers_stay (event seen) k = refl
-numbers_stay monitoring k = refl
 numbers_stay alone k = refl
 
 pub records_give : (o : Order) (c : Context) (at : ℕ) (bs : List ℕ) → Gives (From at (record_numbers c)) (read_records o c at bs)
@@ -148,42 +135,29 @@ records_give o c at bs =
     (λ n p e. (subst (λ (ns : List ℕ). among n ns ≡ true) h.0 e.0, omega (arith, e.1, h.1))) (record_gives o s q bs))
     (length bs) c at bs (refl, omega arith)
 
--- Any container of records, whose contexts have no other numbers than these.
-container_gives : (o : Order) (head : ℕ → ℕ) (late : ℕ → ℕ → ℕ) (c : ℕ → Context) (own contents : List ℕ) → among 2 own ≡ true
-    → ((w n : ℕ) → among n (record_numbers (c w)) ≡ true → among n contents ≡ true)
+-- Any container of records.
+container_gives : (o : Order) (head : ℕ → ℕ) (late : ℕ → ℕ → ℕ) (c : Context) (own : List ℕ) → among 2 own ≡ true
     → ((w : ℕ) → Numbered own (head w)) → ((w n : ℕ) → Numbered own (late w n)) → (at : ℕ) (bs : List ℕ)
-    → Gives (ContainerNumbers at own contents) (read_structure o too_short head late (λ w at bs. read_records o (c w) (at + 8) bs) at bs)
-container_gives o head late c own contents two listed heads lates at bs =
-    let P : ℕ → ℕ → Type 0 = ContainerNumbers at own contents in
-    structure_gives o (stateless head) (stateless late) (λ s at bs. read_records o (c s.1) (at + 8) bs) P own two tt heads lates at bs
+    → Gives (ContainerNumbers at own (record_numbers c)) (read_structure o too_short head late (λ w at bs. read_records o c (at + 8) bs) at bs)
+container_gives o head late c own two heads lates at bs =
+    let P : ℕ → ℕ → Type 0 = ContainerNumbers at own (record_numbers c) in
+    structure_gives o (stateless head) (stateless late) (λ s at bs. read_records o c (at + 8) bs) P own two tt heads lates at bs
     (λ n h. itself (h, refl))
-    (λ w part h. gives_wider (From (at + 8) (record_numbers (c w))) P (read_records o (c w) (at + 8) part)
-    (λ n p e. inside (listed w n e.0, e.1)) (records_give o (c w) (at + 8) part))
+    (λ w part h. gives_wider (From (at + 8) (record_numbers c)) P (read_records o c (at + 8) part) (λ n p e. inside e) (records_give o c (at + 8) part))
 
 configuration_gives : (o : Order) (at : ℕ) (bs : List ℕ)
     → Gives (ContainerNumbers at configuration_numbers (record_numbers entry)) (read_configuration o at bs)
 unfolding read_configuration Numbered
 configuration_gives o at bs =
-    container_gives o configuration_rule configuration_late entries configuration_numbers (record_numbers entry) refl (λ w n h. h)
+    container_gives o configuration_rule configuration_late entry configuration_numbers refl
     (λ w. unless-numbered configuration_numbers (eqb w configuration_word) 5 refl) (λ w n. tt) at bs
 
--- Those of an event itself, and of the records of either sort of event.
-abbrev event_numbers : List ℕ
-event_numbers = 2 ∷ 5 ∷ 7 ∷ 9 ∷ []
-
-abbrev inside_numbers : List ℕ
-inside_numbers = 2 ∷ 5 ∷ 6 ∷ 8 ∷ 9 ∷ 10 ∷ 11 ∷ []
-
-either_listed : (w n : ℕ) → among n (record_numbers (event_context w)) ≡ true → among n inside_numbers ≡ true
-either_listed w n =
-    by-type (λ m c. among n (record_numbers c) ≡ true → among n inside_numbers ≡ true) w
-    (λ e. among_wider (record_numbers monitoring) inside_numbers n refl) (λ e. among_wider (record_numbers (event unseen)) inside_numbers n refl)
-
-event_gives : (o : Order) (at : ℕ) (bs : List ℕ) → Gives (ContainerNumbers at event_numbers inside_numbers) (read_event o at bs)
+event_gives : (o : Order) (at : ℕ) (bs : List ℕ)
+    → Gives (ContainerNumbers at (2 ∷ 5 ∷ 7 ∷ 8 ∷ 9 ∷ []) (record_numbers (event unseen))) (read_event o at bs)
 unfolding read_event
 event_gives o at bs =
-    container_gives o event_word_rule event_late event_context event_numbers inside_numbers refl either_listed
-    (λ w. numbered_wider (5 ∷ 7 ∷ []) _ (event_word_rule w) refl (event_word_numbers w)) (λ w n. unless-numbered _ (leb 1 n) 9 refl) at bs
+    container_gives o event_word_rule event_late (event unseen) (2 ∷ 5 ∷ 7 ∷ 8 ∷ 9 ∷ []) refl
+    (λ w. numbered_wider (5 ∷ 7 ∷ 8 ∷ []) _ (event_word_rule w) refl (event_word_numbers w)) (λ w n. unless-numbered _ (leb 1 n) 9 refl) at bs
 
 events_give : (o : Order) (from at : ℕ) (bs : List ℕ) → from ≤ at → Gives (From from rest_numbers) (read_events o at bs)
 unfolding read_events
@@ -192,9 +166,9 @@ events_give o from at bs l =
     sequence_gives {S = Unit {0}} (λ s e. s) (container_size o) (λ s. read_event o) P (λ s q. from ≤ q) (λ s q e h. omega (arith, h))
     (λ s q bs h. gives_wider _ P (read_event o q bs) (λ n p e. spread q n p h e) (event_gives o q bs)) (length bs) tt at bs l
   where
-    spread : (q n p : ℕ) → from ≤ q → ContainerNumbers q event_numbers inside_numbers n p → From from rest_numbers n p
-    spread q n p h (itself (a, e)) = (among_wider event_numbers rest_numbers n refl a, omega arith)
-    spread q n p h (inside (a, e)) = (among_wider inside_numbers rest_numbers n refl a, omega arith)
+    spread : (q n p : ℕ) → from ≤ q → ContainerNumbers q (2 ∷ 5 ∷ 7 ∷ 8 ∷ 9 ∷ []) (record_numbers (event unseen)) n p → From from rest_numbers n p
+    spread q n p h (itself (a, e)) = (among_wider (2 ∷ 5 ∷ 7 ∷ 8 ∷ 9 ∷ []) rest_numbers n refl a, omega arith)
+    spread q n p h (inside (a, e)) = (among_wider (record_numbers (event unseen)) rest_numbers n refl a, omega arith)
 
 header_gives : (o : Order) (bs : List ℕ) → Gives (At 0 header_numbers) (read_header o 0 bs)
 unfolding read_header

@@ -16,48 +16,41 @@ use Rattle.theory.specs.Tests.{Res, ok, bad, need, bind, unless}
 use Rattle.theory.specs.Structures.{sequence_bytes}
 use Rattle.theory.proofs.TestLaws.{ok-bad, ok_inj}
 use Rattle.note.specs.Limits.{file_limit}
-use Rattle.note.specs.Records.{Record, Context, entry, in_monitoring, behind}
-use Rattle.note.specs.Events.{Container, container_bytes, events_bytes, is_monitoring, event_context}
+use Rattle.note.specs.Records.{Record, Context, entry, event, unseen, behind}
+use Rattle.note.specs.Events.{Container, container_bytes, events_bytes}
 use Rattle.note.specs.Files.{File, order_in, version_of, configuration_of, events_of, header_bytes, file_bytes, read_file}
-use Rattle.note.specs.Writers.{record_again, container_rewritten, event_rewritten, file_rewritten, output_after, rewritten, rewrite_next, rewrite_output}
+use Rattle.note.specs.Writers.{record_again, container_rewritten, file_rewritten, output_after, rewritten, rewrite_next, rewrite_output}
 use Rattle.note.proofs.KindLaws.{again_restores}
 use Rattle.demands.specs.Valid.{ValidRecord, ValidRecords, ValidEvents, Valid}
 use Rattle.demands.specs.Outputs.{RewriteRefused, output_over, file-refused, no_room, RewriteGranted}
-use Rattle.demands.proofs.EventLaws.{type_decides, still}
 use Rattle.demands.proofs.Follows.{file_sound}
 use Rattle.demands.proofs.OutputLaws.{refusal_keeps}
 
 -- A valid record, written again from its fields, is itself.
-pub record_restored : (o : Order) (c : Context) (r : Record) → ValidRecord o c r → record_again o (in_monitoring c) r ≡ r
+pub record_restored : (o : Order) (c : Context) (r : Record) → ValidRecord o c r → record_again o r ≡ r
 unfolding record_again
-record_restored o c r v =
-    λ i. record { word = r.word; body = again_restores o (in_monitoring c) r.word r.body v.body_bytes v.body-rule i }
+record_restored o c r v = λ i. record { word = r.word; body = again_restores o r.word r.body v.body_bytes v.body-rule i }
 
-records_restored : (o : Order) (c : Context) (m : Bool) (rs : List Record) → in_monitoring c ≡ m → ValidRecords o c rs → map (record_again o m) rs ≡ rs
-records_restored o c m [] em v = refl
-records_restored o c m (r ∷ rs) em v =
-    ap₂ (λ (x : Record) (xs : List Record). x ∷ xs) (ap (λ (n : Bool). record_again o n r) (sym em) ∙ record_restored o c r v.0)
-    (records_restored o (behind c r.word) m rs (still c r.word ∙ em) v.1)
+records_restored : (o : Order) (c : Context) (rs : List Record) → ValidRecords o c rs → map (record_again o) rs ≡ rs
+records_restored o c [] v = refl
+records_restored o c (r ∷ rs) v =
+    ap₂ (λ (x : Record) (xs : List Record). x ∷ xs) (record_restored o c r v.0) (records_restored o (behind c r.word) rs v.1)
 
-container_restored : (o : Order) (c : Context) (m : Bool) (x : Container) → in_monitoring c ≡ m → ValidRecords o c x.body
-    → container_rewritten o m x ≡ container_bytes o x
-container_restored o c m x em v =
-    ap (λ (rs : List Record). container_bytes o (record { word = x.word; body = rs })) (records_restored o c m x.body em v)
+container_restored : (o : Order) (c : Context) (x : Container) → ValidRecords o c x.body → container_rewritten o x ≡ container_bytes o x
+container_restored o c x v =
+    ap (λ (rs : List Record). container_bytes o (record { word = x.word; body = rs })) (records_restored o c x.body v)
 
-events_restored : (o : Order) (es : List Container) → ValidEvents o es → sequence_bytes (event_rewritten o) es ≡ events_bytes o es
+events_restored : (o : Order) (es : List Container) → ValidEvents o es → sequence_bytes (container_rewritten o) es ≡ events_bytes o es
 events_restored o [] v = refl
 events_restored o (e ∷ es) v =
-    ap₂ (λ (a b : List ℕ). a ++ b)
-    (container_restored o (event_context e.word) (is_monitoring e.word) e (type_decides e.word) v.0.records-valid)
-    (events_restored o es v.1)
+    ap₂ (λ (a b : List ℕ). a ++ b) (container_restored o (event unseen) e v.0.records-valid) (events_restored o es v.1)
 
 -- A valid tree, written again from its fields, has its own bytes.
 pub fields_restore : (f : File) → Valid f → file_rewritten f ≡ file_bytes f
 unfolding file_rewritten
 fields_restore f v =
     ap₂ (λ (a b : List ℕ). header_bytes (order_in f) (version_of f) ++ (a ++ b))
-    (container_restored (order_in f) entry false (configuration_of f) refl v.entries-valid)
-    (events_restored (order_in f) (events_of f) v.events-valid)
+    (container_restored (order_in f) entry (configuration_of f) v.entries-valid) (events_restored (order_in f) (events_of f) v.events-valid)
 
 -- So an accepted file, written again from its fields, is its bytes.
 bytes_restored : (bs : List ℕ) (f : File) → Bytes bs → read_file bs ≡ ok f → file_rewritten f ≡ bs

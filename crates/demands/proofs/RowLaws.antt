@@ -2,7 +2,7 @@
 -- stands before it, and there are no more rows than an eighth of the length.
 -- The idea: a file's nodes have the sizes of its structures; the theory's laws of rows do the rest.
 use mathlib.Core.Path.{◌≡◌, refl, sym, subst}
-use mathlib.Core.Bool.{Bool, true, false}
+use mathlib.Core.Bool.{true, false}
 use mathlib.Core.Logic.{◌↔◌, ◌⊎◌}
 use mathlib.Core.List.{List, [], ◌∷◌, ◌++◌, map}
 use Prim.Native.Nat.{ℕ, ◌+◌, ◌*◌, ◌%◌, ◌≤◌, ◌<◌}
@@ -14,12 +14,12 @@ use Rattle.theory.specs.Tests.{ok}
 use Rattle.theory.specs.Layout.{Row, Node, single, box, total, extents, child_rows, rows, row, Tiles, Owns, OneParent}
 use Rattle.theory.proofs.StructureLaws.{length-structure}
 use Rattle.theory.proofs.LayoutLaws.{GoodChildren, Good, row_tiles, few_rows_lem, owner, owner_one, one_parent, parent-before}
-use Rattle.note.specs.Records.{Record, record_bytes, record_size, records_bytes, kind_in}
-use Rattle.note.specs.Events.{Container, container_bytes, container_size, events_bytes, is_monitoring}
+use Rattle.note.specs.Records.{Record, record_bytes, record_size, records_bytes, kind_of}
+use Rattle.note.specs.Events.{Container, container_bytes, container_size, events_bytes}
 use Rattle.note.specs.Files.{File, order_in, configuration_of, events_of, version_of, header_bytes, file_bytes, read_file}
 use Rattle.note.specs.Rows.{child_of, children_of, event_node, nodes_of, rows_of, is_box}
 use Rattle.note.proofs.BoolLaws.{either_tells, eq_tells}
-use Rattle.note.proofs.KindCases.{kind_cases, monitoring_cases}
+use Rattle.note.proofs.KindCases.{kind_cases}
 use Rattle.demands.proofs.Bundles.{header_item}
 use Rattle.demands.proofs.Follows.{file_sound}
 
@@ -32,11 +32,11 @@ boxes_exact k = either_tells (eq_tells k 2) (eq_tells k 5)
 pub record_size_lem : (o : Order) (r : Record) → length (record_bytes o r) ≡ record_size r
 record_size_lem o r = length-structure o (λ (b : List ℕ). b) r
 
-pub children_total : (o : Order) (m : Bool) (rs : List Record) → total (children_of o m rs) ≡ length (records_bytes o rs)
+pub children_total : (o : Order) (rs : List Record) → total (children_of o rs) ≡ length (records_bytes o rs)
 unfolding child_of
-children_total o m [] = refl
-children_total o m (r ∷ rs) =
-    omega (arith, length-append (record_bytes o r) (records_bytes o rs), record_size_lem o r, children_total o m rs)
+children_total o [] = refl
+children_total o (r ∷ rs) =
+    omega (arith, length-append (record_bytes o r) (records_bytes o rs), record_size_lem o r, children_total o rs)
 
 pub container_size_lem : (o : Order) (c : Container) → length (container_bytes o c) ≡ container_size o c
 container_size_lem o c = length-structure o (records_bytes o) c
@@ -44,13 +44,7 @@ container_size_lem o c = length-structure o (records_bytes o) c
 pub events-extents : (o : Order) (es : List Container) → extents (map (event_node o) es) ≡ length (events_bytes o es)
 events-extents o [] = refl
 events-extents o (e ∷ es) =
-    omega (
-      arith,
-      length-append (container_bytes o e) (events_bytes o es),
-      container_size_lem o e,
-      children_total o (is_monitoring e.word) e.body,
-      events-extents o es,
-    )
+    omega (arith, length-append (container_bytes o e) (events_bytes o es), container_size_lem o e, children_total o e.body, events-extents o es)
 
 pub file-length : (f : File) → length (file_bytes f)
     ≡ 8 + (container_size (order_in f) (configuration_of f) + length (events_bytes (order_in f) (events_of f)))
@@ -65,35 +59,28 @@ file-length f =
 
 nodes-extents : (f : File) → extents (nodes_of f) ≡ length (file_bytes f)
 unfolding nodes_of
-nodes-extents f = omega (arith, file-length f, children_total (order_in f) false (configuration_of f).body, events-extents (order_in f) (events_of f))
+nodes-extents f = omega (arith, file-length f, children_total (order_in f) (configuration_of f).body, events-extents (order_in f) (events_of f))
 
 -- ---- the parts of which a file's rows are made
 
 -- A configuration's own row, and that of an event at the place `at`.
 abbrev pub configuration_row : Order → Container → Row
-configuration_row o c = record { kind = 2; start = 8; whole = 8 + total (children_of o false c.body); parent = 0; one = length c.body; two = 0 }
+configuration_row o c = record { kind = 2; start = 8; whole = 8 + total (children_of o c.body); parent = 0; one = length c.body; two = 0 }
 
 abbrev pub event_row : Order → ℕ → Container → Row
 event_row o at e =
-    record {
-      kind = 5;
-      start = at;
-      whole = 8 + total (children_of o (is_monitoring e.word) e.body);
-      parent = 0;
-      one = e.word % 65536;
-      two = length e.body;
-    }
+    record { kind = 5; start = at; whole = 8 + total (children_of o e.body); parent = 0; one = e.word % 65536; two = length e.body }
 
 -- Behind a container that has row number i and stands at the place `at`: the next row number, the next place.
-abbrev pub next_row : Order → Bool → ℕ → Container → ℕ
-next_row o m i c = i + 1 + length (children_of o m c.body)
+abbrev pub next_row : Order → ℕ → Container → ℕ
+next_row o i c = i + 1 + length (children_of o c.body)
 
-abbrev pub next_place : Order → Bool → ℕ → Container → ℕ
-next_place o m at c = at + (8 + total (children_of o m c.body))
+abbrev pub next_place : Order → ℕ → Container → ℕ
+next_place o at c = at + (8 + total (children_of o c.body))
 
 -- The rows of records whose parent has row number i; of events, the first of which has it; the first stands at the place `at`.
-abbrev pub record_rows : Order → Bool → ℕ → ℕ → List Record → List Row
-record_rows o m i at rs = child_rows i at (children_of o m rs)
+abbrev pub record_rows : Order → ℕ → ℕ → List Record → List Row
+record_rows o i at rs = child_rows i at (children_of o rs)
 
 abbrev pub event_rows : Order → ℕ → ℕ → List Container → List Row
 event_rows o i at es = rows i at (map (event_node o) es)
@@ -103,31 +90,30 @@ abbrev pub header_node : File → Node
 header_node f = single (record { kind = 1; size = 8; one = version_of f; two = 0 })
 
 abbrev pub nodes_before : Order → File → List Node
-nodes_before o f = header_node f ∷ box 2 (length (configuration_of f).body) 0 (children_of o false (configuration_of f).body) ∷ []
+nodes_before o f = header_node f ∷ box 2 (length (configuration_of f).body) 0 (children_of o (configuration_of f).body) ∷ []
 
 -- The rows of a file's events: behind its configuration, which has row number 2 and stands at byte 8.
 abbrev pub rows_behind : Order → File → List Row
-rows_behind o f = event_rows o (next_row o false 2 (configuration_of f)) (next_place o false 8 (configuration_of f)) (events_of f)
+rows_behind o f = event_rows o (next_row o 2 (configuration_of f)) (next_place o 8 (configuration_of f)) (events_of f)
 
 -- ---- no child is a box
 
 -- the row kinds of records are no boxes, whatever the kind word
-pub child_kind : (m : Bool) (k : ℕ) → is_box (kind_in m k).row ≡ false
-child_kind true k = monitoring_cases (λ w x. is_box x.row ≡ false) k refl refl refl refl
-child_kind false k = kind_cases (λ w x. is_box x.row ≡ false) k refl refl refl refl refl refl refl refl refl
+pub child_kind : (k : ℕ) → is_box (kind_of k).row ≡ false
+child_kind k = kind_cases (λ w x. is_box x.row ≡ false) k refl refl refl refl refl refl refl refl refl
 
-children_good : (o : Order) (m : Bool) (rs : List Record) → GoodChildren is_box (children_of o m rs)
+children_good : (o : Order) (rs : List Record) → GoodChildren is_box (children_of o rs)
 unfolding child_of
-children_good o m [] = tt
-children_good o m (r ∷ rs) = ((child_kind m r.word, omega arith), children_good o m rs)
+children_good o [] = tt
+children_good o (r ∷ rs) = ((child_kind r.word, omega arith), children_good o rs)
 
 events-good : (o : Order) (es : List Container) → Good is_box (map (event_node o) es)
 events-good o [] = tt
-events-good o (e ∷ es) = (refl, children_good o (is_monitoring e.word) e.body, events-good o es)
+events-good o (e ∷ es) = (refl, children_good o e.body, events-good o es)
 
 nodes-good : (f : File) → Good is_box (nodes_of f)
 unfolding nodes_of
-nodes-good f = ((refl, omega arith), (refl, children_good (order_in f) false (configuration_of f).body, events-good (order_in f) (events_of f)))
+nodes-good f = ((refl, omega arith), (refl, children_good (order_in f) (configuration_of f).body, events-good (order_in f) (events_of f)))
 
 -- ---- the demands, of a tree
 

@@ -1,7 +1,6 @@
 -- A sample by number, of any bytes and at any place where Record finds a trace: the two bytes of the file that spell it.
 -- The idea: the trace's rule fixes how many bytes the samples have, and a byte of the body that was found is a byte of the file.
 use mathlib.Core.Path.{◌≡◌, sym, ap, ap₂, ◌∙◌, subst}
-use mathlib.Core.Bool.{false}
 use mathlib.Core.List.{List, [], ◌∷◌}
 use Prim.Native.Nat.{ℕ, ◌+◌, ◌-◌, ◌*◌, ◌%◌, ◌≤◌, ◌<◌}
 use native.Mathlib.Omega.{arith}
@@ -15,15 +14,14 @@ use Rattle.theory.proofs.WordLaws.{Bytes-drop, Bytes-take}
 use Rattle.note.specs.Words.{word, byte_at}
 use Rattle.note.specs.Answers.{accepted, counts}
 use Rattle.note.specs.Trace.{trace_of, trace_rule, sample_in}
-use Rattle.note.specs.Records.{Record, kind_of}
+use Rattle.note.specs.Records.{Record, record_rule, kind_of}
 use Rattle.note.specs.Calls.{record_found, sample_at}
 use Rattle.note.proofs.TraceLaws.{trace-length, sample_is_bytes, byte_inside}
 use Rattle.demands.specs.Edited.{pair}
 use Rattle.demands.proofs.RecordLaws.{found-body}
 use Rattle.demands.proofs.PartLaws.{byte-found, rule_found}
 
-module _ (o : Order) (bs : List ℕ) (place : ℕ) (r : Record) (h : Bytes bs)
-    (found : record_found o false bs place ≡ ok r) (trace : r.word ≡ 0x11) where
+module _ (o : Order) (bs : List ℕ) (place : ℕ) (r : Record) (h : Bytes bs) (found : record_found o bs place ≡ ok r) (trace : r.word ≡ 0x11) where
   abbrev part : List ℕ
   part = drop 48 r.body
 
@@ -32,11 +30,11 @@ module _ (o : Order) (bs : List ℕ) (place : ℕ) (r : Record) (h : Bytes bs)
       let from : List ℕ = drop place bs in
       let n : ℕ = word_at o 4 4 from in
       Bytes-drop 48 r.body
-      (subst Bytes (sym (found-body o false bs place r found)) (Bytes-take n (drop 8 from) (Bytes-drop 8 from (Bytes-drop place bs h))))
+      (subst Bytes (sym (found-body o bs place r found)) (Bytes-take n (drop 8 from) (Bytes-drop 8 from (Bytes-drop place bs h))))
 
   rule-passes : trace_rule o r.body ≡ 0
   unfolding kind_of
-  rule-passes = subst (λ (w : ℕ). (kind_of w).rule o r.body ≡ 0) trace (rule_found o false bs place r found)
+  rule-passes = subst (λ (w : ℕ). record_rule o w r.body ≡ 0) trace (rule_found o bs place r found)
 
   sizes : (length part ≡ 2 * word o 44 r.body) × (word o 44 r.body % 2 ≡ 0)
   sizes = let s = trace-length o r.body rule-passes in (omega (arith, s.0, length-drop 48 r.body), s.1)
@@ -46,7 +44,7 @@ module _ (o : Order) (bs : List ℕ) (place : ℕ) (r : Record) (h : Bytes bs)
   in_file z l =
       let far : place + 8 + (48 + z) ≡ place + 56 + z = omega arith in
       get_or-drop 48 r.body z 0
-      ∙ byte-found o false bs place r found (48 + z) (omega (arith, l, length-drop 48 r.body))
+      ∙ byte-found o bs place r found (48 + z) (omega (arith, l, length-drop 48 r.body))
       ∙ ap (λ (q : ℕ). get_or bs q 0) far
 
   module _ (k : ℕ) (lo : 1 ≤ k) (hi : k ≤ word o 44 r.body) where

@@ -1,7 +1,7 @@
 -- What a writer wrote, Record reads back the same, at that place, for every kind; all else in the output stays.
 -- The idea: the bytes at the place are those of a record that is valid alone; what the fields show is each kind's own round trip.
 use mathlib.Core.Path.{◌≡◌, refl, sym, ap, ap₂, ◌∙◌, subst}
-use mathlib.Core.Bool.{Bool, true, false}
+use mathlib.Core.Bool.{true}
 use mathlib.Core.List.{List, [], ◌∷◌, ◌++◌, append_assoc}
 use Prim.Native.Nat.{ℕ, ◌+◌, ◌-◌, ◌*◌, ◌≤◌}
 use native.Mathlib.Omega.{arith}
@@ -26,31 +26,25 @@ use Rattle.note.specs.History.{section_bytes, history_bytes, history_fault, sect
 use Rattle.note.specs.Gps.{Gps, gps_kind, gps_bytes}
 use Rattle.note.specs.Trigger.{Trigger, trigger_kind, trigger_bytes}
 use Rattle.note.specs.Tlb.{Tlb, tlb_kind, tlb_bytes}
-use Rattle.note.specs.Thresholds.{Thresholds, thresholds_kind, thresholds_head, thresholds_bytes, thresholds_of}
-use Rattle.note.specs.TriggerRates.{TriggerRates, trigger_rates_kind, trigger_rates_head, trigger_rates_bytes, trigger_rates_of}
-use Rattle.note.specs.VetoRates.{VetoRates, veto_rates_kind, veto_rates_head, veto_rates_bytes, veto_rates_of}
-use Rattle.note.specs.Records.{Record, in_monitoring, told, kind_in, kind_of, monitoring_kind_of, is_kind, record_bytes, read_record}
+use Rattle.note.specs.Records.{Record, alone, is_kind, is_allowed, kind_of, record_bytes, read_record}
 use Rattle.note.specs.Files.{version_word, header_bytes}
 use Rattle.note.specs.Writers.{Draft, wrapped, record_next, record_output, header_next, header_output}
 use Rattle.note.specs.Writers.{phonon_draft, charge_draft, administrative_draft, trace_draft, history_draft}
-use Rattle.note.specs.Writers.{gps_draft, trigger_draft, tlb_draft, thresholds_draft, trigger_rates_draft, veto_rates_draft}
+use Rattle.note.specs.Writers.{gps_draft, trigger_draft, tlb_draft}
 use Rattle.note.specs.Answers.{Value, accepted, count, counts}
 use Rattle.note.specs.Calls.{record_found, record_given, record_at, part_given, samples_part, samples_at}
 use Rattle.note.proofs.FieldLaws.{phonon_read_back, charge_read_back, administrative_read_back, trigger_read_back, tlb_read_back}
 use Rattle.note.proofs.TraceLaws.{trace_read_back, trace-length}
 use Rattle.note.proofs.HistoryLaws.{history_read_back}
 use Rattle.note.proofs.GpsLaws.{gps_read_back}
-use Rattle.note.proofs.KindLaws.{told_so}
-use Rattle.note.proofs.MonitorLaws.{thresholds_read_back, trigger_rates_read_back, veto_rates_read_back}
 use Rattle.demands.specs.Valid.{ValidRecord}
-use Rattle.demands.specs.Pieces.{Piece, phonon, charge, administrative, trace, history, gps, trigger, tlb, thresholds, trigger_rates, veto_rates}
-use Rattle.demands.specs.Pieces.{of_monitoring}
+use Rattle.demands.specs.Pieces.{Piece, phonon, charge, administrative, trace, history, gps, trigger, tlb}
 use Rattle.demands.specs.Pieces.{draft_of, of_kind, record_of, Writes, SectionFits, PieceFits, times_from, masks_from}
 use Rattle.demands.specs.Pieces.{section_answer, section_size, veto_from, trigger_from, answer_of}
-use Rattle.demands.specs.Outputs.{Laid, SectionStands, ListStands}
+use Rattle.demands.specs.Outputs.{Laid, SectionStands}
 use Rattle.demands.proofs.Bundles.{header_item}
 use Rattle.demands.proofs.RowLaws.{record_size_lem}
-use Rattle.demands.proofs.RecordLaws.{told_allowed, reads_record}
+use Rattle.demands.proofs.RecordLaws.{reads_record}
 use Rattle.demands.proofs.OutputLaws.{structure_apart, laid_from, put-laid, Granted, granted, refusal_keeps}
 
 -- ---- one record
@@ -92,15 +86,15 @@ header_refused o out major minor c p e = refusal_keeps (header_next out) out (he
 -- ---- any record is found
 
 -- What any writer wrote, Record finds there.
-module _ (o : Order) (m : Bool) (out : List ℕ) (place next : ℕ) (w : Draft) (r : Record) (h : Writes o m w r)
-    (e : record_next out place w ≡ ok next) where
-  pub written-valid : ValidRecord o (told m) r
+module _ (o : Order) (out : List ℕ) (place next : ℕ) (w : Draft) (r : Record) (h : Writes o w r) (e : record_next out place w ≡ ok next) where
+  pub written-valid : ValidRecord o alone r
+  unfolding is_allowed
   written-valid =
       let g = record_granted out place next w e in
       let size : length w.bytes ≡ 8 + length r.body = ap length h.bytes_are ∙ record_size_lem o r in
       record {
         kind_allowed = h.kind-known;
-        place_allowed = told_allowed m r.word;
+        place_allowed = refl;
         kind_fits = h.kind_fits;
         length-fits = omega (arith, g.limit, g.room);
         body_bytes = h.body_bytes;
@@ -111,16 +105,14 @@ module _ (o : Order) (m : Bool) (out : List ℕ) (place next : ℕ) (w : Draft) 
   written_from =
       laid_from out _ place next w.bytes (record_laid out place next w e) ∙ ap (λ (x : List ℕ). x ++ drop next out) h.bytes_are
 
-  pub record_found_lem : record_found o m (record_output out place w) place ≡ ok r
+  pub record_found_lem : record_found o (record_output out place w) place ≡ ok r
   unfolding record_found
   record_found_lem =
       let g = record_granted out place next w e in
       let l = record_laid out place next w e in
       let limit : length (record_output out place w) ≤ file_limit = omega (arith, l.size, g.limit) in
       rw (le-leb (length (record_output out place w)) file_limit limit)
-      (ap (read_record o (told m) place) written_from
-      ∙ subst (λ (n : Bool). read_record o (told n) place (record_bytes o r ++ drop next out) ≡ ok r) (told_so m)
-      (reads_record o (told m) r place (drop next out) written-valid))
+      (ap (read_record o alone place) written_from ∙ reads_record o alone r place (drop next out) written-valid)
 
   -- Its body stands eight bytes further on.
   pub body-from : drop (place + 8) (record_output out place w) ≡ r.body ++ drop next out
@@ -130,13 +122,12 @@ module _ (o : Order) (m : Bool) (out : List ℕ) (place next : ℕ) (w : Draft) 
       ∙ ap (drop 8) (written_from ∙ structure_apart o (λ (b : List ℕ). b) r rest)
       ∙ drop-two o r.word (length r.body) (r.body ++ rest)
 
--- ---- the eleven kinds
+-- ---- the eight kinds
 
--- A kind that its word names, of monitoring events or not, around a body.
-writes : (o : Order) (m : Bool) (k : Kind) (body : List ℕ) (fault : ℕ) → kind_in (in_monitoring (told m)) k.word ≡ k
-    → is_kind (told m) k.word ≡ true → Fits 4 k.word → Bytes body → (fault ≡ 0 → k.rule o body ≡ 0)
-    → Writes o m (record { fault = fault; bytes = wrapped o k body }) (of_kind k body)
-writes o m k body fault named known fits bytes follows = record {
+-- A kind that its word names, around a body.
+writes : (o : Order) (k : Kind) (body : List ℕ) (fault : ℕ) → kind_of k.word ≡ k → is_kind alone k.word ≡ true → Fits 4 k.word
+    → Bytes body → (fault ≡ 0 → k.rule o body ≡ 0) → Writes o (record { fault = fault; bytes = wrapped o k body }) (of_kind k body)
+writes o k body fault named known fits bytes follows = record {
   bytes_are = refl;
   kind-known = known;
   kind_fits = fits;
@@ -151,43 +142,25 @@ section_bytes_lem o s h =
     (Bytes-append s.times _ h.0
     (Bytes-append (words o (s.width ∷ [])) _ (Bytes-puts o 4 (s.width ∷ [])) h.1))
 
-pub piece_writes : (o : Order) (p : Piece) → PieceFits p → Writes o (of_monitoring p) (draft_of o p) (record_of o p)
-unfolding draft_of record_of PieceFits kind_of monitoring_kind_of is_kind
-    thresholds_draft trigger_rates_draft veto_rates_draft thresholds_bytes trigger_rates_bytes veto_rates_bytes
+pub piece_writes : (o : Order) (p : Piece) → PieceFits p → Writes o (draft_of o p) (record_of o p)
+unfolding draft_of record_of PieceFits kind_of is_kind
     phonon_draft charge_draft administrative_draft trace_draft history_draft gps_draft trigger_draft tlb_draft
     phonon_bytes charge_bytes administrative_bytes trace_bytes history_bytes gps_bytes trigger_bytes tlb_bytes
-piece_writes o (phonon f) h =
-    writes o false phonon_kind (phonon_bytes o f) _ refl refl (omega arith) (Bytes-puts o 4 _) (λ e. (phonon_read_back o f h e).0)
-piece_writes o (charge f) h =
-    writes o false charge_kind (charge_bytes o f) _ refl refl (omega arith) (Bytes-puts o 4 _) (λ e. (charge_read_back o f h e).0)
+piece_writes o (phonon f) h = writes o phonon_kind (phonon_bytes o f) _ refl refl (omega arith) (Bytes-puts o 4 _) (λ e. (phonon_read_back o f h e).0)
+piece_writes o (charge f) h = writes o charge_kind (charge_bytes o f) _ refl refl (omega arith) (Bytes-puts o 4 _) (λ e. (charge_read_back o f h e).0)
 piece_writes o (administrative f) h =
-    writes o false administrative_kind (administrative_bytes o f) _ refl refl (omega arith) (Bytes-puts o 4 _)
+    writes o administrative_kind (administrative_bytes o f) _ refl refl (omega arith) (Bytes-puts o 4 _)
     (λ e. (administrative_read_back o f h e).0)
 piece_writes o (trace f) h =
-    writes o false trace_kind (trace_bytes o f) _ refl refl (omega arith)
+    writes o trace_kind (trace_bytes o f) _ refl refl (omega arith)
     (Bytes-append (words o (trace_words f)) f.samples (Bytes-puts o 4 _) h.1) (λ e. (trace_read_back o f h.0 e).0)
 piece_writes o (history f) h =
-    writes o false history_kind (history_bytes o f) _ refl refl (omega arith)
+    writes o history_kind (history_bytes o f) _ refl refl (omega arith)
     (Bytes-append (section_bytes o f.veto) _ (section_bytes_lem o f.veto h.0) (section_bytes_lem o f.trigger h.1))
     (λ e. (history_read_back o f e).0)
-piece_writes o (gps f) h = writes o false gps_kind (gps_bytes o f) _ refl refl (omega arith) (Bytes-puts o 4 _) (λ e. (gps_read_back o f e).0)
-piece_writes o (trigger f) h =
-    writes o false trigger_kind (trigger_bytes o f) _ refl refl (omega arith) (Bytes-puts o 4 _) (λ e. (trigger_read_back o f h).0)
-piece_writes o (tlb f) h = writes o false tlb_kind (tlb_bytes o f) _ refl refl (omega arith) (Bytes-puts o 4 _) (λ e. (tlb_read_back o f h e).0)
-piece_writes o (thresholds f) h =
-    writes o true thresholds_kind (thresholds_bytes o f) _ refl refl (omega arith)
-    (Bytes-append (words o (thresholds_head f)) _ (Bytes-puts o 4 _)
-    (Bytes-append f.codes _ h.1.0 (Bytes-append f.operations f.values h.1.1.0 h.1.1.1)))
-    (λ e. (thresholds_read_back o f h.0 e).0)
-piece_writes o (trigger_rates f) h =
-    writes o true trigger_rates_kind (trigger_rates_bytes o f) _ refl refl (omega arith)
-    (Bytes-append (words o (trigger_rates_head f)) _ (Bytes-puts o 4 _)
-    (Bytes-append f.codes _ h.1.0 (Bytes-append f.lines f.counters h.1.1.0 h.1.1.1)))
-    (λ e. (trigger_rates_read_back o f h.0 e).0)
-piece_writes o (veto_rates f) h =
-    writes o true veto_rates_kind (veto_rates_bytes o f) _ refl refl (omega arith)
-    (Bytes-append (words o (veto_rates_head f)) _ (Bytes-puts o 4 _) (Bytes-append f.codes f.counters h.1.0 h.1.1))
-    (λ e. (veto_rates_read_back o f h.0 e).0)
+piece_writes o (gps f) h = writes o gps_kind (gps_bytes o f) _ refl refl (omega arith) (Bytes-puts o 4 _) (λ e. (gps_read_back o f e).0)
+piece_writes o (trigger f) h = writes o trigger_kind (trigger_bytes o f) _ refl refl (omega arith) (Bytes-puts o 4 _) (λ e. (trigger_read_back o f h).0)
+piece_writes o (tlb f) h = writes o tlb_kind (tlb_bytes o f) _ refl refl (omega arith) (Bytes-puts o 4 _) (λ e. (tlb_read_back o f h e).0)
 
 -- ---- their fields
 
@@ -233,9 +206,8 @@ module _ (o : Order) (place : ℕ) (f : History) (e : history_fault f ≡ 0) whe
       (section_answer_lem o (place + 8) (trigger_at o b) b f.trigger trigger-is ∙ ap (λ (n : ℕ). section_answer n f.trigger) trigger-place)
 
 -- The fields of the body of fields are the fields.
-fields_are : (o : Order) (place : ℕ) (p : Piece) → PieceFits p → (draft_of o p).fault ≡ 0
-    → record_given o (of_monitoring p) place (ok (record_of o p)) ≡ answer_of place p
-unfolding draft_of record_of PieceFits answer_of kind_of monitoring_kind_of thresholds_draft trigger_rates_draft veto_rates_draft
+fields_are : (o : Order) (place : ℕ) (p : Piece) → PieceFits p → (draft_of o p).fault ≡ 0 → record_given o place (ok (record_of o p)) ≡ answer_of place p
+unfolding draft_of record_of PieceFits answer_of kind_of
     phonon_draft charge_draft administrative_draft trace_draft history_draft gps_draft trigger_draft tlb_draft
 fields_are o place (phonon f) h e = ap (λ (g : Phonon). answer_of place (phonon g)) (phonon_read_back o f h e).1
 fields_are o place (charge f) h e = ap (λ (g : Charge). answer_of place (charge g)) (charge_read_back o f h e).1
@@ -245,17 +217,14 @@ fields_are o place (history f) h e = ap (λ (vs : List Value). accepted (count 8
 fields_are o place (gps f) h e = ap (λ (g : Gps). answer_of place (gps g)) (gps_read_back o f e).1
 fields_are o place (trigger f) h e = ap (λ (g : Trigger). answer_of place (trigger g)) (trigger_read_back o f h).1
 fields_are o place (tlb f) h e = ap (λ (g : Tlb). answer_of place (tlb g)) (tlb_read_back o f h e).1
-fields_are o place (thresholds f) h e = ap (λ (g : Thresholds). answer_of place (thresholds g)) (thresholds_read_back o f h.0 e).1
-fields_are o place (trigger_rates f) h e = ap (λ (g : TriggerRates). answer_of place (trigger_rates g)) (trigger_rates_read_back o f h.0 e).1
-fields_are o place (veto_rates f) h e = ap (λ (g : VetoRates). answer_of place (veto_rates g)) (veto_rates_read_back o f h.0 e).1
 
 module _ (o : Order) (out : List ℕ) (place next : ℕ) where
   -- For every kind: what the writer wrote, Record reads back the same, at that place.
   pub piece-reads : (p : Piece) → PieceFits p → record_next out place (draft_of o p) ≡ ok next
-      → record_at o (of_monitoring p) (record_output out place (draft_of o p)) place ≡ answer_of place p
+      → record_at o (record_output out place (draft_of o p)) place ≡ answer_of place p
   unfolding record_at
   piece-reads p h e =
-      ap (record_given o (of_monitoring p) place) (record_found_lem o (of_monitoring p) out place next (draft_of o p) (record_of o p) (piece_writes o p h) e)
+      ap (record_given o place) (record_found_lem o out place next (draft_of o p) (record_of o p) (piece_writes o p h) e)
       ∙ fields_are o place p h (record_granted out place next (draft_of o p) e).fine
 
   -- A trace's samples, which Samples finds.
@@ -268,7 +237,7 @@ module _ (o : Order) (out : List ℕ) (place next : ℕ) where
       let body : List ℕ = trace_bytes o f in
       let rest : List ℕ = drop next out in
       let r : Record = of_kind trace_kind body in
-      let made : Writes o false w r = piece_writes o (trace f) h in
+      let made : Writes o w r = piece_writes o (trace f) h in
       let (rule, fields) = trace_read_back o f h.0 (record_granted out place next w e).fine in
       let same : drop 48 body ≡ f.samples = ap (λ (g : Trace). g.samples) fields in
       let long : 48 ≤ length body = omega (arith, (trace-length o body rule).0) in
@@ -277,10 +246,10 @@ module _ (o : Order) (out : List ℕ) (place next : ℕ) where
       let from : drop (place + 56) new ≡ f.samples ++ rest =
       ap (λ (n : ℕ). drop n new) (sym at)
       ∙ sym (drop-drop 48 (place + 8) new)
-      ∙ ap (drop 48) (body-from o false out place next w r made e)
+      ∙ ap (drop 48) (body-from o out place next w r made e)
       ∙ drop-append-le 48 body rest long
       ∙ ap (λ (x : List ℕ). x ++ rest) same in
-      ap (λ (x : Res Record). take (part_given place x).1 (drop (part_given place x).0 new)) (record_found_lem o false out place next w r made e)
+      ap (λ (x : Res Record). take (part_given place x).1 (drop (part_given place x).0 new)) (record_found_lem o out place next w r made e)
       ∙ ap (take (length body - 48)) from
       ∙ take_at f.samples rest (length body - 48) size
 
@@ -327,59 +296,9 @@ lists_stand o out place next f h e =
     let rest : List ℕ = drop next out in
     let new : List ℕ = record_output out place w in
     let fine : history_fault f ≡ 0 = (record_granted out place next w e).fine in
-    let from : drop (place + 8) new ≡ b ++ rest = body-from o false out place next w (of_kind history_kind b) (piece_writes o (history f) h) e in (
+    let from : drop (place + 8) new ≡ b ++ rest = body-from o out place next w (of_kind history_kind b) (piece_writes o (history f) h) e in (
       subst (λ (n : ℕ). SectionStands new n f.veto) (veto-place o place f fine)
           (section_stands o new b rest (place + 8) 0 f.veto from (veto-is o place f fine)),
       subst (λ (n : ℕ). SectionStands new n f.trigger) (trigger-place o place f fine)
           (section_stands o new b rest (place + 8) (trigger_at o b) f.trigger from (trigger-is o place f fine)),
     )
-
--- So do the lists of a monitoring event's records: a list that is a part of the body stands eight bytes further on than in it.
-module _ (o : Order) (out : List ℕ) (place next : ℕ) where
-  list_stands : (p : Piece) → PieceFits p → record_next out place (draft_of o p) ≡ ok next → (q n at : ℕ) (x : List ℕ) → place + 8 + q ≡ at
-      → take n (drop q (record_of o p).body) ≡ x → ListStands (record_output out place (draft_of o p)) at x
-  list_stands p h e q n at x here is =
-      let new : List ℕ = record_output out place (draft_of o p) in
-      let from : drop (place + 8) new ≡ (record_of o p).body ++ drop next out =
-      body-from o (of_monitoring p) out place next (draft_of o p) (record_of o p) (piece_writes o p h) e in
-      ap (λ (m : ℕ). take (length x) (drop m new)) (sym here)
-      ∙ ap (take (length x)) (sym (drop-drop q (place + 8) new) ∙ ap (drop q) from)
-      ∙ part-within (record_of o p).body (drop next out) x q n is
-
-  pub thresholds_stand : (f : Thresholds) → PieceFits (thresholds f) → record_next out place (thresholds_draft o f) ≡ ok next
-      → (let new = record_output out place (thresholds_draft o f) in
-      ListStands new (place + 24) f.codes × ListStands new (place + 48) f.operations × ListStands new (place + 84) f.values)
-  unfolding draft_of record_of PieceFits thresholds_draft thresholds_of
-  thresholds_stand f h e =
-      let is = (thresholds_read_back o f h.0 (record_granted out place next (thresholds_draft o f) e).fine).1 in
-      let stands = list_stands (thresholds f) h e in (
-        stands 16 24 (place + 24) f.codes (omega arith) (ap (λ (g : Thresholds). g.codes) is),
-        stands 40 36 (place + 48) f.operations (omega arith) (ap (λ (g : Thresholds). g.operations) is),
-        stands 76 216 (place + 84) f.values (omega arith) (ap (λ (g : Thresholds). g.values) is),
-      )
-
-  pub trigger_rates_stand : (f : TriggerRates) → PieceFits (trigger_rates f) → record_next out place (trigger_rates_draft o f) ≡ ok next
-      → (let new = record_output out place (trigger_rates_draft o f) in
-      ListStands new (place + 16) f.codes × ListStands new (place + 40) f.lines × ListStands new (place + 60) f.counters)
-  unfolding draft_of record_of PieceFits trigger_rates_draft trigger_rates_of
-  trigger_rates_stand f h e =
-      let is = (trigger_rates_read_back o f h.0 (record_granted out place next (trigger_rates_draft o f) e).fine).1 in
-      let stands = list_stands (trigger_rates f) h e in (
-        stands 8 24 (place + 16) f.codes (omega arith) (ap (λ (g : TriggerRates). g.codes) is),
-        stands 32 20 (place + 40) f.lines (omega arith) (ap (λ (g : TriggerRates). g.lines) is),
-        stands 52 120 (place + 60) f.counters (omega arith) (ap (λ (g : TriggerRates). g.counters) is),
-      )
-
-  pub veto_rates_stand : (f : VetoRates) → PieceFits (veto_rates f) → record_next out place (veto_rates_draft o f) ≡ ok next
-      → (let new = record_output out place (veto_rates_draft o f) in
-      ListStands new (place + 16) f.codes × ListStands new (place + 16 + 4 * f.entries) f.counters)
-  unfolding draft_of record_of PieceFits veto_rates_draft veto_rates_of
-  veto_rates_stand f h e =
-      let is = (veto_rates_read_back o f h.0 (record_granted out place next (veto_rates_draft o f) e).fine).1 in
-      let b : List ℕ = veto_rates_bytes o f in
-      let counted : word o 4 b ≡ f.entries = ap (λ (g : VetoRates). g.entries) is in
-      let stands = list_stands (veto_rates f) h e in (
-        stands 8 (4 * word o 4 b) (place + 16) f.codes (omega arith) (ap (λ (g : VetoRates). g.codes) is),
-        stands (8 + 4 * word o 4 b) (4 * word o 4 b) (place + 16 + 4 * f.entries) f.counters (omega (arith, counted))
-            (ap (λ (g : VetoRates). g.counters) is),
-      )

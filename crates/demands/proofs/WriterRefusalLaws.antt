@@ -14,8 +14,8 @@ use Rattle.theory.specs.declared.Order.{Order}
 use Rattle.theory.specs.Tests.{Res, ok, bad, need, unless, first}
 use Rattle.theory.proofs.TestLaws.{ok-bad, ok_inj, need-ok, most_passed, most_passes}
 use Rattle.note.specs.Limits.{file_limit}
-use Rattle.note.specs.Records.{Record, Context, entry, read_records}
-use Rattle.note.specs.Events.{event_fault, event_word, event_context, event_late}
+use Rattle.note.specs.Records.{Record, Context, entry, event, unseen, read_records}
+use Rattle.note.specs.Events.{event_fault, event_word, event_late}
 use Rattle.note.specs.Writers.{Draft, writer_next, record_next, header_next, contents_of, end_given, within, configuration_closed, event_closed}
 use Rattle.note.specs.Asked.{asks, fine}
 use Rattle.note.specs.Readings.{EventAsked}
@@ -192,15 +192,13 @@ some_tells place end = let t = le_tells 1 (end - (place + 8)) in (λ e. let l = 
 -- An event's closing asks for class, category and type, then for contents.
 pub event_refused_exact : (o : Order) (out : List ℕ) (place end class category type n p : ℕ)
     → (event_closed o out place end class category type ≡ bad n p)
-    ↔ ClosingRefused o (event_context (event_word class category type))
-    (EventAsked class category type (asks (place + 9 ≤ end) 9 fine)) out place end n p
+    ↔ ClosingRefused o (event unseen) (EventAsked class category type (asks (place + 9 ≤ end) 9 fine)) out place end n p
 unfolding event_closed inner behind_tests
 event_refused_exact o out place end class category type n p =
     let late : ℕ = event_late (event_word class category type) (end - (place + 8)) in
     let tests : List ℕ = event_fault class category type ∷ late ∷ [] in
-    let context : Context = event_context (event_word class category type) in
-    let rest : Res ℕ = end_given end (read_records o context (place + 8) (contents_of out place end)) in
+    let rest : Res ℕ = end_given end (read_records o (event unseen) (place + 8) (contents_of out place end)) in
     let chain : need (event_fault class category type) place (need late place rest) ≡ need (first tests) place rest =
     gate _ place _ rest (last_gate _ place rest) in
     rw chain (
-    closing-refused o context _ tests (event_gives class category type (asked (some_tells place end) no_more)) out place end n p)
+    closing-refused o (event unseen) _ tests (event_gives class category type (asked (some_tells place end) no_more)) out place end n p)

@@ -4,8 +4,8 @@
 use Rattle.std.specs.Prelude.{ℕ, ◌+◌, ◌≤◌, ◌<◌, ◌≡◌, true, List, [], ◌∷◌, map, length, take, drop}
 use Rattle.theory.specs.declared.Order.{Order}
 use Rattle.theory.specs.Tests.{Res, ok, bind}
-use Rattle.note.specs.Records.{Context, entry, is_kind, is_allowed, behind, record_rule}
-use Rattle.note.specs.Events.{Container, event_word, event_fault, event_context}
+use Rattle.note.specs.Records.{Context, entry, event, unseen, is_kind, is_allowed, behind}
+use Rattle.note.specs.Events.{Container, event_word, event_fault}
 use Rattle.note.specs.Files.{File, version_word, configuration_word, read_file}
 use Rattle.note.specs.Writers.{record_next, record_output, header_next, header_output}
 use Rattle.note.specs.Writers.{configuration_closed, configuration_output, event_closed, event_output}
@@ -60,18 +60,15 @@ pub record FileFaultless (o : Order) (f : FilePieces) : Type 0 where
   pub entries : AllFaultless o f.entries
   pub events : EventsFaultless o f.events
 
--- FORMAT 9.4: what the closings ask beyond the fields: each kind is one of this container's and stands where it may, and its body follows the rule
--- of that kind there; no event is empty. The rule says no more than the fields where a piece is of the container's own sort (`own-sort-follows`);
--- of a history in a monitoring event it says that its bytes are thresholds.
+-- FORMAT 9.4: what the closings ask beyond the fields: each kind is one of this container's and stands where it may, and no event is empty.
 abbrev pub AllPlaced : Order → Context → List Piece → Type 0
 AllPlaced o c [] = Unit {0}
 AllPlaced o c (p ∷ ps) =
-    (is_kind c (record_of o p).word ≡ true) × (is_allowed c (record_of o p).word ≡ true)
-    × (record_rule o c (record_of o p).word (record_of o p).body ≡ 0) × AllPlaced o (behind c (record_of o p).word) ps
+    (is_kind c (record_of o p).word ≡ true) × (is_allowed c (record_of o p).word ≡ true) × AllPlaced o (behind c (record_of o p).word) ps
 
 pub record EventPlaced (o : Order) (e : EventPieces) : Type 0 where
   pub some : 1 ≤ length e.records
-  pub records : AllPlaced o (event_context (event_word e.class e.category e.type)) e.records
+  pub records : AllPlaced o (event unseen) e.records
 
 abbrev pub EventsPlaced : Order → List EventPieces → Type 0
 EventsPlaced o [] = Unit {0}

@@ -58,8 +58,8 @@ pub record SampleEdited (o : Order) (bs : List ℕ) (start whole i x : ℕ) : Ty
 
 -- ---- what stays
 
--- FORMAT 5.3: a section of a history, as Record's answer gives it outside a monitoring event: n times from byte t on, then n masks of w words each
--- from byte m on. The bytes of both lists are the same in bs and in bs'.
+-- FORMAT 5.3: a section of a history, as Record's answer gives it: n times from byte t on, then n masks of w words each from byte m on. The bytes
+-- of both lists are the same in bs and in bs'.
 abbrev pub SameSection : List ℕ → List ℕ → ℕ → ℕ → ℕ → ℕ → Type 0
 SameSection bs bs' n t w m =
     (take (4 * n) (drop t bs') ≡ take (4 * n) (drop t bs)) × (take (4 * (n * w)) (drop m bs') ≡ take (4 * (n * w)) (drop m bs))
@@ -67,7 +67,7 @@ SameSection bs bs' n t w m =
 -- Where Record finds a history at `start`: veto and trigger section.
 abbrev pub SameLists : Order → List ℕ → List ℕ → ℕ → Type 0
 SameLists o bs bs' start = (n t w m n' t' w' m' : ℕ)
-    → record_at o false bs start ≡ accepted (counts (8 ∷ n ∷ t ∷ w ∷ m ∷ n' ∷ t' ∷ w' ∷ m' ∷ []))
+    → record_at o bs start ≡ accepted (counts (8 ∷ n ∷ t ∷ w ∷ m ∷ n' ∷ t' ∷ w' ∷ m' ∷ []))
     → SameSection bs bs' n t w m × SameSection bs bs' n' t' w' m'
 
 -- In the accepted file f of the bytes bs, row j is a trace, and byte i, inside its samples, becomes x. Calls by place are given the order o.
@@ -81,7 +81,7 @@ pub record Edited (o : Order) (bs : List ℕ) (f : File) (j i x : ℕ) : Type 0 
   pub other_parts_stay : (k : ℕ) → k < length (rows_of f) → k ≢ j
       → (samples_part o (set bs i x) (start_of f k) ≡ samples_part o bs (start_of f k))
       × (samples_at o (set bs i x) (start_of f k) ≡ samples_at o bs (start_of f k))
-  pub fields_stay : (k : ℕ) (m : Bool) → k < length (rows_of f) → record_at o m (set bs i x) (start_of f k) ≡ record_at o m bs (start_of f k)
+  pub fields_stay : (k : ℕ) → k < length (rows_of f) → record_at o (set bs i x) (start_of f k) ≡ record_at o bs (start_of f k)
   pub lists_stay : (k : ℕ) → k < length (rows_of f) → SameLists o bs (set bs i x) (start_of f k)
   pub settings_stay : (k : ℕ) → k < length (rows_of f) → setting_at o (set bs i x) (start_of f k) ≡ setting_at o bs (start_of f k)
   pub other_rows_stay : (k n : ℕ) → k < length (rows_of f) → k ≢ j → n < own is_box (row (rows_of f) k)

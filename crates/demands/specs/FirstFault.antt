@@ -6,8 +6,8 @@ use Rattle.theory.specs.Words.{put, Fits}
 use Rattle.theory.specs.Tests.{Res, bad}
 use Rattle.theory.specs.Structures.{read_structure}
 use Rattle.note.specs.Faults.{too_short}
-use Rattle.note.specs.Records.{Record, Context, entry, behind, records_bytes, read_record}
-use Rattle.note.specs.Events.{event_word_rule, event_context, event_late}
+use Rattle.note.specs.Records.{Record, Context, entry, event, unseen, behind, records_bytes, read_record}
+use Rattle.note.specs.Events.{event_word_rule, event_late}
 use Rattle.note.specs.Files.{File, order_in, order_of, configuration_word, configuration_rule, configuration_late}
 use Rattle.note.specs.Files.{header_bytes, version_rule, read_header, file_bytes}
 use Rattle.demands.specs.Valid.{ValidRecords, Valid}
@@ -53,8 +53,8 @@ pub data FirstFault (bs : List ℕ) (c p : ℕ) : Type 0 where
   at-event : (f : File) (part : List ℕ) → Valid f → 1 ≤ length part
       → Cut bs (file_bytes f) part [] p → Itself (order_in f) event_word_rule event_late part c p → FirstFault bs c p
   at_record : (f : File) (w : ℕ) (rs : List Record) (part beyond : List ℕ)
-      → Valid f → event_word_rule w ≡ 0 → ValidRecords (order_in f) (event_context w) rs → 1 ≤ length part
+      → Valid f → event_word_rule w ≡ 0 → ValidRecords (order_in f) (event unseen) rs → 1 ≤ length part
       → Cut bs (
       file_bytes f ++ (front (order_in f) w (length (records_bytes (order_in f) rs ++ part)) ++ records_bytes (order_in f) rs)
       ) part beyond p
-      → read_record (order_in f) (past (event_context w) rs) p part ≡ bad c p → FirstFault bs c p
+      → read_record (order_in f) (past (event unseen) rs) p part ≡ bad c p → FirstFault bs c p

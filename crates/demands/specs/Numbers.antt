@@ -1,14 +1,14 @@
 -- Which numbers each call can refuse with, and at which place. The lists are as short as they can be: no number stands in one that its call never
 -- gives (proofs/NumberExamples.antt). 1 stands in none: it is given for a buffer over the limit (Refusals) and nowhere else.
-use Rattle.std.specs.Prelude.{ℕ, ◌+◌, ◌*◌, ◌≤◌, ◌<◌, ◌≡◌, Bool, true, List, [], ◌∷◌, length}
+use Rattle.std.specs.Prelude.{ℕ, ◌+◌, ◌*◌, ◌≤◌, ◌<◌, ◌≡◌, true, List, [], ◌∷◌, length}
 use Rattle.theory.specs.Tests.{ok, among}
 use Rattle.note.specs.Limits.{file_limit, row_width}
-use Rattle.note.specs.Records.{Context, entry, event, monitoring, alone, told}
+use Rattle.note.specs.Records.{Context, entry, event, alone}
 use Rattle.note.specs.Files.{File, read_file}
 use Rattle.note.specs.Rows.{rows_of}
 use Rattle.note.specs.declared.TableAnswer.{TableAnswer}
 use Rattle.demands.specs.Refusals.{Refusal}
-use Rattle.demands.specs.Pieces.{Piece, phonon, charge, administrative, trace, history, gps, trigger, tlb, thresholds, trigger_rates, veto_rates}
+use Rattle.demands.specs.Pieces.{Piece, phonon, charge, administrative, trace, history, gps, trigger, tlb}
 
 -- A refusal c at the place p: one of these numbers, at this place; or from this place on.
 abbrev pub At : ℕ → List ℕ → ℕ → ℕ → Type 0
@@ -19,12 +19,11 @@ From place ns c p = (among c ns ≡ true) × (place ≤ p)
 
 -- ---- reading
 
--- FORMAT 2.1, 6.1: one record or entry, by where it is read: a configuration's entries and a monitoring event's records have no rule that gives 11,
--- only an event of another type asks for an order (9), and only a monitoring event has kinds without a layout (8).
+-- FORMAT 2.1, 6.1: one record or entry, by where it is read: a configuration's entries have no rule that gives 11, and only an event asks for an
+-- order (9).
 abbrev pub record_numbers : Context → List ℕ
 record_numbers entry = 2 ∷ 5 ∷ 6 ∷ 10 ∷ []
 record_numbers (event seen) = 2 ∷ 5 ∷ 6 ∷ 9 ∷ 10 ∷ 11 ∷ []
-record_numbers monitoring = 2 ∷ 5 ∷ 6 ∷ 8 ∷ 10 ∷ []
 record_numbers alone = 2 ∷ 5 ∷ 6 ∷ 10 ∷ 11 ∷ []
 
 -- FORMAT 2.2: a container at the place: itself, or its contents behind its eight bytes.
@@ -51,9 +50,9 @@ pub data FileNumbers (c p : ℕ) : Type 0 where
 abbrev pub FileRefusal : List ℕ → ℕ → ℕ → Type 0
 FileRefusal bs c p = Refusal (length bs) FileNumbers c p
 
--- FORMAT 8.5, 8.6, 8.7: Record's, as it was told, and, read as outside a monitoring event, Setting's and a sample's, at the place asked.
-abbrev pub RecordRefusal : Bool → List ℕ → ℕ → ℕ → ℕ → Type 0
-RecordRefusal m bs place c p = Refusal (length bs) (At place (record_numbers (told m))) c p
+-- FORMAT 8.5, 8.6, 8.7: Record's, Setting's and a sample's, at the place asked.
+abbrev pub RecordRefusal : List ℕ → ℕ → ℕ → ℕ → Type 0
+RecordRefusal bs place c p = Refusal (length bs) (At place (record_numbers alone)) c p
 
 -- FORMAT 8.2: Table's: the file's, with count 0; or 12 over an accepted file, the count being the rows needed and the place the file's length.
 pub data TableRefusal (bs : List ℕ) (capacity : ℕ) (a : TableAnswer) : Type 0 where
@@ -73,9 +72,6 @@ writer_numbers (history f) = 6 ∷ 10 ∷ 13 ∷ []
 writer_numbers (gps f) = 10 ∷ 13 ∷ []
 writer_numbers (trigger f) = 13 ∷ []
 writer_numbers (tlb f) = 10 ∷ 13 ∷ []
-writer_numbers (thresholds f) = 6 ∷ 10 ∷ 13 ∷ []
-writer_numbers (trigger_rates f) = 6 ∷ 10 ∷ 13 ∷ []
-writer_numbers (veto_rates f) = 6 ∷ 10 ∷ 13 ∷ []
 
 abbrev pub WriterRefusal : List ℕ → ℕ → List ℕ → ℕ → ℕ → Type 0
 WriterRefusal out place ns c p = Refusal (length out) (At place ns) c p
@@ -85,7 +81,7 @@ abbrev pub configuration_closing_numbers : List ℕ
 configuration_closing_numbers = 13 ∷ []
 
 abbrev pub event_closing_numbers : List ℕ
-event_closing_numbers = 7 ∷ 9 ∷ 13 ∷ []
+event_closing_numbers = 7 ∷ 8 ∷ 9 ∷ 13 ∷ []
 
 abbrev pub ClosingRefusal : List ℕ → ℕ → List ℕ → Context → ℕ → ℕ → Type 0
 ClosingRefusal out place own context c p = Refusal (length out) (ContainerNumbers place own (record_numbers context)) c p

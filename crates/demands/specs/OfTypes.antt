@@ -3,7 +3,7 @@
 use Rattle.std.specs.Prelude.{[], ◌∷◌}
 use Rattle.note.specs.Sizes.{Each, Byte, Word, SignedWord}
 use Rattle.note.specs.History.{Section}
-use Rattle.demands.specs.Pieces.{Piece, phonon, charge, administrative, trace, history, gps, trigger, tlb, thresholds, trigger_rates, veto_rates}
+use Rattle.demands.specs.Pieces.{Piece, phonon, charge, administrative, trace, history, gps, trigger, tlb}
 use Rattle.demands.specs.Assembly.{EventPieces, FilePieces}
 
 -- A section's two parts are bytes; its counts are asked by the writer itself, as are a GPS record's numbers.
@@ -24,11 +24,6 @@ OfTypes (history f) = SectionOfTypes f.veto × SectionOfTypes f.trigger
 OfTypes (gps f) = Unit {0}
 OfTypes (trigger f) = Each Word (f.mask1 ∷ f.mask2 ∷ f.mask3 ∷ f.mask4 ∷ f.mask5 ∷ f.mask6 ∷ [])
 OfTypes (tlb f) = Each Word (f.tower1 ∷ f.tower2 ∷ f.tower3 ∷ f.tower4 ∷ f.tower5 ∷ f.tower6 ∷ [])
-OfTypes (thresholds f) =
-    Each Word (f.minimum ∷ f.maximum ∷ f.range ∷ f.tower ∷ []) × (Each Byte f.codes × (Each Byte f.operations × Each Byte f.values))
-OfTypes (trigger_rates f) =
-    Each Word (f.interval ∷ f.tower ∷ []) × (Each Byte f.codes × (Each Byte f.lines × Each Byte f.counters))
-OfTypes (veto_rates f) = Each Word (f.interval ∷ f.entries ∷ []) × (Each Byte f.codes × Each Byte f.counters)
 
 -- FORMAT 9.3: the pieces of a file: two DAQ bytes, entries, events.
 pub record FileOfTypes (f : FilePieces) : Type 0 where

@@ -25,10 +25,6 @@ pub record SectionStands (bs : List ℕ) (from : ℕ) (s : Section) : Type 0 whe
   pub times : take (length s.times) (drop (times_from from s) bs) ≡ s.times
   pub masks : take (length s.masks) (drop (masks_from from s) bs) ≡ s.masks
 
--- FORMAT 8.5: a list stands in the bytes from a place on.
-abbrev pub ListStands : List ℕ → ℕ → List ℕ → Type 0
-ListStands bs at x = take (length x) (drop at bs) ≡ x
-
 -- FORMAT 9.4: a container from the place to the end, its two words included, lies in an output of n bytes, within the limit.
 abbrev pub HasRoom : ℕ → ℕ → ℕ → Type 0
 HasRoom n place end = (place + 8 ≤ end) × (end ≤ n) × (n ≤ file_limit)

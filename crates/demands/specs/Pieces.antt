@@ -1,6 +1,6 @@
--- What is handed to a record's writer, for any of the eleven kinds, as one type: so that a theorem about writers is said once. Then the record that
+-- What is handed to a record's writer, for any of the eight kinds, as one type: so that a theorem about writers is said once. Then the record that
 -- the writer makes of it, and what Record answers for that record.
-use Rattle.std.specs.Prelude.{ℕ, ◌+◌, ◌*◌, ◌≡◌, Bool, true, false, List, [], ◌∷◌, ◌++◌}
+use Rattle.std.specs.Prelude.{ℕ, ◌+◌, ◌*◌, ◌≡◌, true, List, [], ◌∷◌, ◌++◌}
 use Rattle.theory.specs.declared.Order.{Order}
 use Rattle.theory.specs.Words.{Bytes, Fits, AllFit}
 use Rattle.note.specs.Words.{AllSigned}
@@ -13,13 +13,10 @@ use Rattle.note.specs.History.{Section, History, history_kind, history_bytes}
 use Rattle.note.specs.Gps.{Gps, gps_kind, gps_numbers, gps_bytes}
 use Rattle.note.specs.Trigger.{Trigger, trigger_kind, trigger_masks, trigger_bytes}
 use Rattle.note.specs.Tlb.{Tlb, tlb_kind, tlb_words, tlb_bytes}
-use Rattle.note.specs.Thresholds.{Thresholds, thresholds_kind, thresholds_head, thresholds_bytes, thresholds_numbers}
-use Rattle.note.specs.TriggerRates.{TriggerRates, trigger_rates_kind, trigger_rates_head, trigger_rates_bytes, trigger_rates_numbers}
-use Rattle.note.specs.VetoRates.{VetoRates, veto_rates_kind, veto_rates_head, veto_rates_bytes, veto_rates_numbers}
 use Rattle.note.specs.Kinds.{Kind}
-use Rattle.note.specs.Records.{Record, told, is_kind, record_rule, record_bytes}
+use Rattle.note.specs.Records.{Record, alone, is_kind, record_rule, record_bytes}
 use Rattle.note.specs.Writers.{Draft, phonon_draft, charge_draft, administrative_draft, trace_draft}
-use Rattle.note.specs.Writers.{history_draft, gps_draft, trigger_draft, tlb_draft, thresholds_draft, trigger_rates_draft, veto_rates_draft}
+use Rattle.note.specs.Writers.{history_draft, gps_draft, trigger_draft, tlb_draft}
 
 -- FORMAT 9.2: the fields of one record or entry, as its writer takes them.
 pub data Piece : Type 0 where
@@ -31,23 +28,6 @@ pub data Piece : Type 0 where
   gps : Gps → Piece
   trigger : Trigger → Piece
   tlb : Tlb → Piece
-  thresholds : Thresholds → Piece
-  trigger_rates : TriggerRates → Piece
-  veto_rates : VetoRates → Piece
-
--- FORMAT 6.1: whether it is a record of monitoring events.
-abbrev pub of_monitoring : Piece → Bool
-of_monitoring (phonon f) = false
-of_monitoring (charge f) = false
-of_monitoring (administrative f) = false
-of_monitoring (trace f) = false
-of_monitoring (history f) = false
-of_monitoring (gps f) = false
-of_monitoring (trigger f) = false
-of_monitoring (tlb f) = false
-of_monitoring (thresholds f) = true
-of_monitoring (trigger_rates f) = true
-of_monitoring (veto_rates f) = true
 
 -- What its writer makes of them: the first fault, and the bytes.
 unfoldable pub draft_of : Order → Piece → Draft
@@ -59,9 +39,6 @@ draft_of o (history f) = history_draft o f
 draft_of o (gps f) = gps_draft o f
 draft_of o (trigger f) = trigger_draft o f
 draft_of o (tlb f) = tlb_draft o f
-draft_of o (thresholds f) = thresholds_draft o f
-draft_of o (trigger_rates f) = trigger_rates_draft o f
-draft_of o (veto_rates f) = veto_rates_draft o f
 
 -- The record or entry that these fields are: the kind's word around the body of the fields.
 abbrev pub of_kind : Kind → List ℕ → Record
@@ -76,18 +53,15 @@ record_of o (history f) = of_kind history_kind (history_bytes o f)
 record_of o (gps f) = of_kind gps_kind (gps_bytes o f)
 record_of o (trigger f) = of_kind trigger_kind (trigger_bytes o f)
 record_of o (tlb f) = of_kind tlb_kind (tlb_bytes o f)
-record_of o (thresholds f) = of_kind thresholds_kind (thresholds_bytes o f)
-record_of o (trigger_rates f) = of_kind trigger_rates_kind (trigger_rates_bytes o f)
-record_of o (veto_rates f) = of_kind veto_rates_kind (veto_rates_bytes o f)
 
--- FORMAT 9.2, a second time: a writer's way to write the record r, of monitoring events or not: its bytes, and, where the fields have no fault, a
--- body that follows the kind's rule.
-pub record Writes (o : Order) (m : Bool) (w : Draft) (r : Record) : Type 0 where
+-- FORMAT 9.2, a second time: a writer's way to write the record r: its bytes, and, where the fields have no fault, a body that follows the kind's
+-- rule.
+pub record Writes (o : Order) (w : Draft) (r : Record) : Type 0 where
   pub bytes_are : w.bytes ≡ record_bytes o r
-  pub kind-known : is_kind (told m) r.word ≡ true
+  pub kind-known : is_kind alone r.word ≡ true
   pub kind_fits : Fits 4 r.word
   pub body_bytes : Bytes r.body
-  pub body-rule : w.fault ≡ 0 → record_rule o (told m) r.word r.body ≡ 0
+  pub body-rule : w.fault ≡ 0 → record_rule o r.word r.body ≡ 0
 
 -- FORMAT 1.2, 9.2: numbers are words, lists and samples are bytes. A caller's types say no less; of a GPS record's numbers nothing is asked, since
 -- the writer's own tests bound them.
@@ -103,9 +77,6 @@ PieceFits (history f) = SectionFits f.veto × SectionFits f.trigger
 PieceFits (gps f) = Unit {0}
 PieceFits (trigger f) = AllFit 4 (trigger_masks f)
 PieceFits (tlb f) = AllFit 4 (tlb_words f)
-PieceFits (thresholds f) = AllFit 4 (thresholds_head f) × (Bytes f.codes × (Bytes f.operations × Bytes f.values))
-PieceFits (trigger_rates f) = AllFit 4 (trigger_rates_head f) × (Bytes f.codes × (Bytes f.lines × Bytes f.counters))
-PieceFits (veto_rates f) = AllFit 4 (veto_rates_head f) × (Bytes f.codes × Bytes f.counters)
 
 -- ---- what Record answers for them
 
@@ -142,6 +113,3 @@ answer_of place (history f) =
 answer_of place (gps f) = accepted (count 9 ∷ counts (gps_numbers f))
 answer_of place (trigger f) = accepted (count 10 ∷ counts (trigger_masks f))
 answer_of place (tlb f) = accepted (count 11 ∷ counts (tlb_words f))
-answer_of place (thresholds f) = accepted (count 12 ∷ counts (thresholds_numbers place f))
-answer_of place (trigger_rates f) = accepted (count 13 ∷ counts (trigger_rates_numbers place f))
-answer_of place (veto_rates f) = accepted (count 14 ∷ counts (veto_rates_numbers place f))

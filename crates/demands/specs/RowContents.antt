@@ -9,8 +9,7 @@ use Rattle.note.specs.Gps.{gps_bytes}
 use Rattle.note.specs.Records.{record_size}
 use Rattle.note.specs.Rows.{child_of}
 use Rattle.note.specs.Calls.{record_found, record_at}
-use Rattle.demands.specs.Pieces.{Piece, phonon, charge, administrative, trace, history, gps, trigger, tlb, thresholds, trigger_rates, veto_rates}
-use Rattle.demands.specs.Pieces.{of_monitoring, record_of, answer_of}
+use Rattle.demands.specs.Pieces.{Piece, phonon, charge, administrative, trace, history, gps, trigger, tlb, record_of, answer_of}
 
 -- FORMAT 6.4, 7.2: the header's row: the file's first eight bytes, the version word.
 pub record HeaderRow (o : Order) (bs : List ℕ) (r : Row) : Type 0 where
@@ -48,9 +47,6 @@ row_kind (history f) = 8
 row_kind (gps f) = 9
 row_kind (trigger f) = 10
 row_kind (tlb f) = 11
-row_kind (thresholds f) = 12
-row_kind (trigger_rates f) = 13
-row_kind (veto_rates f) = 14
 
 unfoldable pub row_values : Order → Piece → ℕ × ℕ
 row_values o (phonon f) = (unsigned f.code, unsigned f.tower)
@@ -61,23 +57,20 @@ row_values o (history f) = (f.veto.count, f.trigger.count)
 row_values o (gps f) = (word o 0 (gps_bytes o f), word o 4 (gps_bytes o f))
 row_values o (trigger f) = (f.mask1, f.mask2)
 row_values o (tlb f) = (f.tower1, f.tower2)
-row_values o (thresholds f) = (f.tower, 0)
-row_values o (trigger_rates f) = (f.tower, 0)
-row_values o (veto_rates f) = (f.entries, 0)
 
--- FORMAT 7.2, 8.5: the row of a record or an entry: the fields that Record, told whether they are of a monitoring event, answers at its start, of the
--- record that it finds there; that record's kind and size, which is its length word's; two of those fields. It is the row that the definition of rows
--- makes of that record, in words of its body.
+-- FORMAT 7.2, 8.5: the row of a record or an entry: the fields that Record answers at its start, of the record that it finds there; that record's
+-- kind and size, which is its length word's; two of those fields. It is the row that the definition of rows makes of that record, in words of its
+-- body.
 pub record PieceRow (o : Order) (bs : List ℕ) (r : Row) : Type 0 where
   pub fields : Piece
-  pub found : record_found o (of_monitoring fields) bs r.start ≡ ok (record_of o fields)
-  pub answer : record_at o (of_monitoring fields) bs r.start ≡ answer_of r.start fields
+  pub found : record_found o bs r.start ≡ ok (record_of o fields)
+  pub answer : record_at o bs r.start ≡ answer_of r.start fields
   pub kind : r.kind ≡ row_kind fields
   pub whole : r.whole ≡ 8 + word o (r.start + 4) bs
   pub size : r.whole ≡ record_size (record_of o fields)
   pub one : r.one ≡ (row_values o fields).0
   pub two : r.two ≡ (row_values o fields).1
-  pub by-words : r ≡ child_row r.parent r.start (child_of o (of_monitoring fields) (record_of o fields))
+  pub by-words : r ≡ child_row r.parent r.start (child_of o (record_of o fields))
 
 -- FORMAT 7.3: row j of the rows all, from 0: the first is the header's, the second the configuration's; behind them a row of kind 5 is an event's,
 -- any other that of an entry or a record.

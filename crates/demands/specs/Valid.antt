@@ -5,32 +5,31 @@ use Rattle.theory.specs.declared.Order.{Order}
 use Rattle.theory.specs.declared.Order.TheVariants.{Little}
 use Rattle.theory.specs.Words.{Bytes, Fits}
 use Rattle.note.specs.Limits.{file_limit}
-use Rattle.note.specs.Records.{Record, Context, entry, is_kind, is_allowed, behind, record_rule, records_bytes}
-use Rattle.note.specs.Events.{Container, event_word_rule, event_context}
+use Rattle.note.specs.Records.{Record, Context, entry, event, unseen, is_kind, is_allowed, behind, record_rule, records_bytes}
+use Rattle.note.specs.Events.{Container, event_word_rule}
 use Rattle.note.specs.Files.{File, order_in, version_of, configuration_of, events_of, configuration_word, version_rule, file_bytes}
 
--- FORMAT 6.1: a record: of a kind that is allowed here, placed as an event asks, its body bytes that the rule of its kind
--- there admits, its two words words.
+-- FORMAT 6.1: a record: of a kind that is allowed here, placed as an event asks, its body bytes that its kind's rule admits, its two words words.
 pub record ValidRecord (o : Order) (c : Context) (r : Record) : Type 0 where
   pub kind_allowed : is_kind c r.word ≡ true
   pub place_allowed : is_allowed c r.word ≡ true
   pub kind_fits : Fits 4 r.word
   pub length-fits : Fits 4 (length r.body)
   pub body_bytes : Bytes r.body
-  pub body-rule : record_rule o c r.word r.body ≡ 0
+  pub body-rule : record_rule o r.word r.body ≡ 0
 
 -- FORMAT 6.2: records one after the other, each with those before it in mind.
 abbrev pub ValidRecords : Order → Context → List Record → Type 0
 ValidRecords o c [] = Unit {0}
 ValidRecords o c (r ∷ rs) = ValidRecord o c r × ValidRecords o (behind c r.word) rs
 
--- FORMAT 6.2: an event: its first word as admitted, not empty, its records valid as that word has them read.
+-- FORMAT 6.2: an event: its first word as admitted, not empty, its records valid.
 pub record ValidEvent (o : Order) (e : Container) : Type 0 where
   pub word-rule : event_word_rule e.word ≡ 0
   pub word_fits : Fits 4 e.word
   pub not_empty : 1 ≤ length (records_bytes o e.body)
   pub length-fits : Fits 4 (length (records_bytes o e.body))
-  pub records-valid : ValidRecords o (event_context e.word) e.body
+  pub records-valid : ValidRecords o (event unseen) e.body
 
 abbrev pub ValidEvents : Order → List Container → Type 0
 ValidEvents o [] = Unit {0}

@@ -6,8 +6,8 @@ pub use fields::zip;
 pub use find::find;
 pub use little::{
     close_configuration, close_event, record, sample, samples, setting, write_administrative,
-    write_charge, write_gps, write_header, write_history, write_phonon, write_thresholds,
-    write_tlb, write_trace, write_trigger, write_trigger_rates, write_veto_rates,
+    write_charge, write_gps, write_header, write_history, write_phonon, write_tlb, write_trace,
+    write_trigger,
 };
 pub use rewriting::rewrite;
 pub use table::table;

@@ -23,7 +23,6 @@ use Rattle.walk.specs.declared.Spot.{Spot}
 use Rattle.walk.specs.Steps.{stands, body_in, stayed, ended, header_step, record_step, container_step, usable, step_in, step_of}
 use Rattle.walk.specs.Steps.{start_given, start_of, opened_of, steps_from}
 use Rattle.walk.proofs.WalkLaws.{walk_yields, steps_more}
-use Rattle.exports.specs.Lent.{bit, is_set}
 use Rattle.exports.specs.Walkers.{numbers_of, narrow, spot_of, walker_after}
 
 -- A spot whose 32-bit numbers are such.
@@ -38,13 +37,9 @@ last_unasked bs at = refl
 narrow-is : (n : ℕ) → n < 4294967296 → narrow n ≡ n
 narrow-is n h = omega arith
 
-set-bit : (b : Bool) → is_set (bit b) ≡ b
-set-bit true = refl
-set-bit false = refl
-
 carried : (at : Spot) → Narrow at → spot_of (numbers_of at) ≡ ended at
 unfolding spot_of numbers_of stayed
-carried at h = rw (narrow-is at.number h.0, narrow-is at.parent h.1, narrow-is at.rows h.2, set-bit at.monitoring)
+carried at h = rw (narrow-is at.number h.0, narrow-is at.parent h.1, narrow-is at.rows h.2)
 
 -- What holds of both ways of a test, where it was taken and where not.
 both : (P : Spot → Type 0) (b : Bool) (x y : Spot) → (b ≡ true → P x) → P y → P (cond b x y)
@@ -67,7 +62,7 @@ module _ (o : Order) (at : Spot) (h : Narrow at) (r : at.rows ≤ file_limit) wh
   unfolding record_step stayed
   record_narrow bs =
       both Narrow (stands o bs) _ _
-      (λ s. both Narrow (has_values o at.monitoring (word o 0 bs) (body_in o bs)) _ _ (λ v. (h.0, h.1, omega (arith, r))) h) h
+      (λ s. both Narrow (has_values o (word o 0 bs) (body_in o bs)) _ _ (λ v. (h.0, h.1, omega (arith, r))) h) h
 
   container_narrow : (bs : List ℕ) → Narrow (container_step o bs at)
   unfolding container_step stayed

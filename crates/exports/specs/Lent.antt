@@ -1,6 +1,6 @@
 -- What a C caller finds in the numbers that it lent: an accepted call's values, a refused call's place, and otherwise what stood there. The answer
 -- by number and values (FORMAT 8.1) determines each lent number, for refused inputs too.
-use Rattle.std.specs.Prelude.{ℕ, Bool, true, false, not, cond, ◌≡◌, List, [], ◌∷◌, ◌++◌, eqb, ℤ, pos, Float, take, replicate}
+use Rattle.std.specs.Prelude.{ℕ, Bool, true, false, cond, ◌≡◌, List, [], ◌∷◌, ◌++◌, eqb, ℤ, pos, Float, take, replicate}
 use Rattle.std.specs.Float.{binary64}
 use Rattle.std.specs.Float.Ieee.{of_bits}
 use Rattle.note.specs.declared.ChannelAnswer.{ChannelAnswer}
@@ -52,10 +52,7 @@ channel_numbers answer = answer.detector_type ∷ answer.detector ∷ answer.ana
 abbrev pub channel_after : List ℕ → ChannelAnswer → List ℕ → List ℕ
 channel_after old answer value = cond (eqb answer.number 0) value old
 
--- A number that a caller hands over for true is any but 0; 1 is what it gets.
-abbrev pub is_set : ℕ → Bool
-is_set n = not (eqb n 0)
-
+-- 1 for true.
 abbrev pub bit : Bool → ℕ
 bit true = 1
 bit false = 0

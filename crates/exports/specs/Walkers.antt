@@ -1,15 +1,14 @@
 -- A walker for C: its numbers in a lent buffer, any of which are taken, and its yield in lent numbers. C has no private fields, so a step is
--- defined for every seven numbers, and what opening made is the case that the promises speak of.
+-- defined for every six numbers, and what opening made is the case that the promises speak of.
 use Rattle.std.specs.Prelude.{ℕ, zero, suc, ◌%◌, List, [], ◌∷◌, get_or}
 use Rattle.note.specs.declared.WalkerYield.{WalkerYield}
 use Rattle.note.specs.declared.WalkerYield.TheVariants.{Row, End, Refused}
 use Rattle.walk.specs.declared.Spot.{Spot}
-use Rattle.exports.specs.Lent.{bit, is_set}
 use Rattle.walk.specs.Steps.{step_of, opened_of}
 
--- The numbers of a spot, and the spot of numbers: those that are 32 bits wide count modulo 2^32, and the last one is set or isn't.
+-- The numbers of a spot, and the spot of numbers: those that are 32 bits wide count modulo 2^32.
 unfoldable pub numbers_of : Spot → List ℕ
-numbers_of at = at.number ∷ at.fault ∷ at.place ∷ at.end ∷ at.parent ∷ at.rows ∷ bit at.monitoring ∷ []
+numbers_of at = at.number ∷ at.fault ∷ at.place ∷ at.end ∷ at.parent ∷ at.rows ∷ []
 
 abbrev pub narrow : ℕ → ℕ
 narrow n = n % 4294967296
@@ -22,7 +21,6 @@ spot_of ns = record {
   end = get_or ns 3 0;
   parent = narrow (get_or ns 4 0);
   rows = narrow (get_or ns 5 0);
-  monitoring = is_set (get_or ns 6 0);
   last = End;
 }
 

@@ -8,7 +8,7 @@ ghost use Rattle.note.specs.Channels.{channel_answer, code_answer};
 ghost use Rattle.note.specs.Rows.{table_answer, table_buffer};
 ghost use Rattle.note.specs.Tlb.{zip_set};
 ghost use Rattle.walk.specs.Steps.{opened_of, step_of};
-ghost use Rattle.exports.specs.Lent.{number_of, place_after, wholes_after, floats_after, NumberAfter, channel_numbers, channel_after, bit, is_set};
+ghost use Rattle.exports.specs.Lent.{number_of, place_after, wholes_after, floats_after, NumberAfter, channel_numbers, channel_after, bit};
 ghost use Rattle.exports.specs.Walkers.{spot_of, numbers_of, row_after};
 
 use note::{CodeAnswer, FindAnswer, RecordAnswer, SampleAnswer, SettingAnswer, WalkerYield};
@@ -32,12 +32,6 @@ const TRIGGER: i64 = 10;
 
 const TLB: i64 = 11;
 
-const THRESHOLDS: i64 = 12;
-
-const TRIGGER_RATES: i64 = 13;
-
-const VETO_RATES: i64 = 14;
-
 /// Table: the number; the rows, their count and the place lent.
 #[unsafe(no_mangle)]
 pub extern "C" fn dwj_table(file: &[u8], rows: &mut [u32], count: &mut u64, place: &mut u64) -> u32
@@ -52,23 +46,19 @@ pub extern "C" fn dwj_table(file: &[u8], rows: &mut [u32], count: &mut u64, plac
     answer.number
 }
 
-/// Record, told by a number other than 0 that it is in a monitoring event: the row kind, then the fields in the order of their words, then zeros;
-/// on a refusal the place alone.
+/// Record: the row kind, then the fields in the order of their words, then zeros; on a refusal the place alone.
 #[unsafe(no_mangle)]
 pub extern "C" fn dwj_record(
     file: &[u8],
     place: usize,
-    monitoring: u32,
     values: &mut [i64; 12],
     refusal: &mut u64,
 ) -> u32
-    ensures number { result ≡ number_of (record_at Little (is_set monitoring) file.now place) }
-    ensures values { values.new ≡ wholes_after 12 values.old
-        (record_at Little (is_set monitoring) file.now place) }
-    ensures refusal { refusal.new ≡ place_after refusal.old
-        (record_at Little (is_set monitoring) file.now place) }
+    ensures number { result ≡ number_of (record_at Little file.now place) }
+    ensures values { values.new ≡ wholes_after 12 values.old (record_at Little file.now place) }
+    ensures refusal { refusal.new ≡ place_after refusal.old (record_at Little file.now place) }
 {
-    match dwejrasq::record(file, place, monitoring != 0) {
+    match dwejrasq::record(file, place) {
         RecordAnswer::Phonon {
             code,
             tower,
@@ -271,76 +261,6 @@ pub extern "C" fn dwj_record(
             ];
             0
         }
-        RecordAnswer::Thresholds {
-            minimum,
-            maximum,
-            range,
-            tower,
-            codes_at,
-            operations_at,
-            values_at,
-        } => {
-            *values = [
-                THRESHOLDS,
-                minimum as i64,
-                maximum as i64,
-                range as i64,
-                tower as i64,
-                codes_at as i64,
-                operations_at as i64,
-                values_at as i64,
-                0,
-                0,
-                0,
-                0,
-            ];
-            0
-        }
-        RecordAnswer::TriggerRates {
-            interval,
-            tower,
-            codes_at,
-            lines_at,
-            counters_at,
-        } => {
-            *values = [
-                TRIGGER_RATES,
-                interval as i64,
-                tower as i64,
-                codes_at as i64,
-                lines_at as i64,
-                counters_at as i64,
-                0,
-                0,
-                0,
-                0,
-                0,
-                0,
-            ];
-            0
-        }
-        RecordAnswer::VetoRates {
-            interval,
-            entries,
-            codes_at,
-            counters_at,
-        } => {
-            *values = [
-                VETO_RATES,
-                interval as i64,
-                entries as i64,
-                codes_at as i64,
-                counters_at as i64,
-                0,
-                0,
-                0,
-                0,
-                0,
-                0,
-                0,
-            ];
-            0
-        }
         RecordAnswer::Refused { number, place: at } => {
             *refusal = at as u64;
             number
@@ -494,13 +414,6 @@ pub extern "C" fn dwj_find(
     }
 }
 
-// 1 for true.
-fn bit(b: bool) -> u64
-    ensures { result ≡ bit b }
-{
-    if b { 1 } else { 0 }
-}
-
 // What a walk yields, for C: the number; a row, zeros at the end, or a refusal's place lent.
 fn tell(last: WalkerYield, row: &mut [u32; 6], refusal: &mut u64) -> u32
     ensures number { result ≡ number_of (given_yield last) }
@@ -534,7 +447,7 @@ fn tell(last: WalkerYield, row: &mut [u32; 6], refusal: &mut u64) -> u32
 #[unsafe(no_mangle)]
 pub extern "C" fn dwj_open(
     file: &[u8],
-    walker: &mut [u64; 7],
+    walker: &mut [u64; 6],
     row: &mut [u32; 6],
     refusal: &mut u64,
 ) -> u32
@@ -551,7 +464,6 @@ pub extern "C" fn dwj_open(
         at.end as u64,
         at.parent as u64,
         at.rows as u64,
-        bit(at.monitoring),
     ];
     tell(walk::last(at), row, refusal)
 }
@@ -560,7 +472,7 @@ pub extern "C" fn dwj_open(
 #[unsafe(no_mangle)]
 pub extern "C" fn dwj_next(
     file: &[u8],
-    walker: &mut [u64; 7],
+    walker: &mut [u64; 6],
     row: &mut [u32; 6],
     refusal: &mut u64,
 ) -> u32
@@ -577,7 +489,6 @@ pub extern "C" fn dwj_next(
         end: walker[3] as usize,
         parent: (walker[4] % 4294967296) as u32,
         rows: (walker[5] % 4294967296) as u32,
-        monitoring: walker[6] != 0,
         last: WalkerYield::End,
     };
     let at = walk::step(file, from);
@@ -588,7 +499,6 @@ pub extern "C" fn dwj_next(
         at.end as u64,
         at.parent as u64,
         at.rows as u64,
-        bit(at.monitoring),
     ];
     tell(walk::last(at), row, refusal)
 }

@@ -13,7 +13,7 @@ ghost use Rattle.note.specs.Gps.{are_digits, decimal, days_of_year, gps_fault};
 ghost use Rattle.note.specs.Tlb.{is_tower, tlb_fault, zip_set};
 ghost use Rattle.fields.specs.Digits.{gps_digits_fault};
 
-use note::{NOT_ADMITTED, WRONG_COUNT, WRONG_FIELD, WRONG_KIND};
+use note::{MONITORING, NOT_ADMITTED, WRONG_COUNT, WRONG_FIELD, WRONG_KIND};
 
 // ---- faults, asked one after the other
 
@@ -83,7 +83,7 @@ pub const EVENT_MARK: u32 = 0xA980;
 /// The greatest number that a signed word can say.
 pub const GREATEST_SIGNED: u32 = 0x7FFF_FFFF;
 
-// The classes, categories and types that events admit.
+// The classes, categories and types that events admit; type 7, within those, is monitoring.
 const RAW: u32 = 0;
 
 const MONTE_CARLO: u32 = 2;
@@ -95,6 +95,8 @@ const OCCASIONAL: u32 = 1;
 const SELECTIVE_READOUT: u32 = 6;
 
 const LAST_TYPE: u32 = 0xA;
+
+const MONITORING_TYPE: u32 = 7;
 
 /// The class in an event's first word, a nibble (FORMAT 6.2).
 pub fn class_of(w: u32) -> u32
@@ -137,13 +139,14 @@ fn is_category(category: u32) -> bool
     }
 }
 
-/// 7 where an event's class, category or type isn't admitted. Any numbers are taken, and none is masked first.
+/// 7 where an event's class, category or type isn't admitted, 8 for monitoring. Any numbers are taken, and none is masked first.
 pub fn event_fault(class: u32, category: u32, event_type: u32) -> u32
     ensures { result ≡ event_fault class category event_type }
 {
     let fault = unless(is_class(class), NOT_ADMITTED);
     let fault = or_unless(fault, is_category(category), NOT_ADMITTED);
-    or_unless(fault, event_type <= LAST_TYPE, NOT_ADMITTED)
+    let fault = or_unless(fault, event_type <= LAST_TYPE, NOT_ADMITTED);
+    or_unless(fault, event_type != MONITORING_TYPE, MONITORING)
 }
 
 /// 5 where the upper half of an event's first word isn't the mark, then the fault of its class, category and type.

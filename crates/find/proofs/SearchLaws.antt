@@ -2,14 +2,14 @@
 -- The idea: the whole is known to be read, so what stands next is read too; the first match of what is still to be searched is the
 -- first match of all, and a trace that doesn't match is left out without loss.
 use mathlib.Core.Path.{◌≡◌, refl, sym, ap, ap₂, ◌∙◌, subst}
-use mathlib.Core.Bool.{Bool, true, false, cond, true≢false, false≢true}
+use mathlib.Core.Bool.{Bool, true, false}
 use mathlib.Core.List.{List, [], ◌∷◌, ◌++◌}
 use Prim.Native.Nat.{ℕ, ◌+◌, ◌-◌, ◌≤◌, ◌<◌}
 use native.Mathlib.Decide.{ℕ_discrete}
 use native.Mathlib.Omega.{arith}
 use lib.Dec.{eqb}
 use lib.ListN.{length, take, drop}
-use borrow.Author.Tests.{eq-eqb, ne_eqb, eqb-true}
+use borrow.Author.Tests.{eq-eqb, ne_eqb}
 use Rattle.theory.specs.declared.Order.{Order}
 use Rattle.theory.specs.Words.{Bytes}
 use Rattle.theory.specs.Tests.{Res, ok}
@@ -19,18 +19,17 @@ use Rattle.note.specs.Limits.{file_limit}
 use Rattle.note.specs.Words.{word}
 use Rattle.note.specs.Administrative.{administrative_kind, administrative_of}
 use Rattle.note.specs.Trace.{trace_kind, trace_of}
-use Rattle.note.specs.Records.{Record, Context, in_monitoring, behind, event, unseen, record_size, records_bytes, kind_in, kind_of, read_records}
-use Rattle.note.specs.Events.{Container, container_size, is_monitoring, event_context, read_events}
-use Rattle.note.specs.Calls.{TraceAt, is_trace, kept_if, traces_in, traces_from, event_traces, event_number, first_match}
+use Rattle.note.specs.Records.{Record, Context, behind, event, unseen, record_size, records_bytes, record_rule, kind_of, read_records}
+use Rattle.note.specs.Events.{Container, container_size, read_events}
+use Rattle.note.specs.Calls.{TraceAt, is_trace, kept_if, traces_in, traces_from, event_number, first_match}
 use Rattle.demands.specs.Valid.{ValidRecord, ValidEvent}
 use Rattle.demands.proofs.Bundles.{record_item, event_item, same_record, same-records, same-events, record_valid, event-valid}
-use Rattle.demands.proofs.EventLaws as Events
 use Rattle.demands.proofs.EventLaws.{first-administrative}
 use Rattle.rules.proofs.LengthLaws.{long_enough}
 use Rattle.record.proofs.StepLaws.{Read, read-shows, cut_body, cut-length, cut-bytes}
 use Rattle.containers.proofs.RecordLoop.{record_at, behind_of, left, length-behind, Bytes-behind}
 use Rattle.containers.proofs.EventLoop.{Shown, event-shows}
-use Rattle.find.specs.Search.{Searchable, Numbered, carries, traces_read}
+use Rattle.find.specs.Search.{Searchable, traces_read}
 
 -- An event of another number has no match.
 other_number : (o : Order) (number code n : ℕ) → (n ≡ number → ⊥) → (at : ℕ) (rs : List Record) (ts : List TraceAt)
@@ -55,7 +54,6 @@ other_number o number code n d at (r ∷ rs) ts = go (is_trace r) (other_number 
 -- Records fill the part, and the first match among their traces and the later ones is the answer.
 pub record Looking (o : Order) (number code : ℕ) (answer : List ℕ) (next : ℕ) (later : List TraceAt) (place : ℕ) (bs : List ℕ) : Type 0 where
   pub state : Context
-  pub sort : in_monitoring state ≡ false
   pub rs : List Record
   pub reads : read_records o state place bs ≡ ok rs
   pub still : first_match number code (traces_in o number place rs ++ later) ≡ answer
@@ -103,8 +101,7 @@ module _ {o : Order} {number code : ℕ} {answer : List ℕ} {next : ℕ} {later
       unfolding kind_of
       room =
           let b : List ℕ = take (word o 4 bs) (drop 8 bs) in
-          let rule : (kind_of (word o 0 bs)).rule o b ≡ 0 = subst (λ (m : Bool). (kind_in m (word o 0 bs)).rule o b ≡ 0) i.sort shown.0.follows in
-          omega (arith, long_enough o trace_kind.word b (subst (λ (w : ℕ). (kind_of w).rule o b ≡ 0) k rule), shown.0.size)
+          omega (arith, long_enough o trace_kind.word b (subst (λ (w : ℕ). record_rule o w b ≡ 0) k shown.0.follows), shown.0.size)
 
       pub trace-fits : 56 ≤ length bs
       trace-fits = omega (arith, room, record_fits)
@@ -140,7 +137,6 @@ module _ {o : Order} {number code : ℕ} {answer : List ℕ} {next : ℕ} {later
         subst (λ (x : ℕ). Looking o number code answer next later (place + (8 + x)) (behind_of (8 + x) bs)) (sym em)
         (record {
           state = s;
-          sort = Events.still i.state front.item.word ∙ i.sort;
           rs = front.others;
           reads = ap (read_records o s (place + n)) (sym (left n bs)) ∙ behind-it;
           still = missed d;
@@ -200,52 +196,43 @@ module _ {o : Order} {number code : ℕ} {answer : List ℕ} {at : ℕ} {bs : Li
     inner-bytes : Bytes inner
     inner-bytes = cut-bytes (word o 4 bs) bs i.bytes
 
-    -- its first record, which is administrative where it isn't a monitoring event
-    module _ (outside : is_monitoring (word o 0 bs) ≡ false) where
-      contents : read_records o (event unseen) (at + 8) inner ≡ ok front-event.item.body
-      unfolding event_context
-      contents = rw outside at shown_event.contents
+    -- its first record, which is administrative
+    inner-front : Ahead (record_item o) (event unseen) (at + 8) inner front-event.item.body
+    inner-front =
+        let e : Container = front-event.item in
+        let v : ValidEvent o e = event-valid o e ((event_item o).sound tt at bs e i.bytes front-event.reads_item).1 in
+        ahead (record_item o) (event unseen) (at + 8) inner e.body inner-bytes (omega (arith, v.not_empty, shown_event.size, inner-length))
+        (sym (same-records o (event unseen) (at + 8) inner) ∙ shown_event.contents)
 
-      inner-front : Ahead (record_item o) (event unseen) (at + 8) inner front-event.item.body
-      inner-front =
-          let e : Container = front-event.item in
-          let v : ValidEvent o e = event-valid o e ((event_item o).sound tt at bs e i.bytes front-event.reads_item).1 in
-          ahead (record_item o) (event unseen) (at + 8) inner e.body inner-bytes (omega (arith, v.not_empty, shown_event.size, inner-length))
-          (sym (same-records o (event unseen) (at + 8) inner) ∙ contents)
+    first_shown : Read o (event unseen) (at + 8) inner (word o 0 inner) (word o 4 inner)
+        × (inner-front.item ≡ record_at (word o 0 inner) (word o 4 inner) inner)
+    first_shown =
+        read-shows o (event unseen) (at + 8) inner inner-front.item (same_record o (event unseen) (at + 8) inner ∙ inner-front.reads_item)
 
-      first_shown : Read o (event unseen) (at + 8) inner (word o 0 inner) (word o 4 inner)
-          × (inner-front.item ≡ record_at (word o 0 inner) (word o 4 inner) inner)
-      first_shown =
-          read-shows o (event unseen) (at + 8) inner inner-front.item (same_record o (event unseen) (at + 8) inner ∙ inner-front.reads_item)
+    first-room : 24 ≤ length inner-front.item.body
+    unfolding kind_of
+    first-room =
+        let r : Record = inner-front.item in
+        let good = ((record_item o).sound (event unseen) (at + 8) inner r inner-bytes inner-front.reads_item).1 in
+        let v : ValidRecord o (event unseen) r = record_valid o (event unseen) r good in
+        long_enough o administrative_kind.word r.body
+        (subst (λ (w : ℕ). record_rule o w r.body ≡ 0) (first-administrative o r v) v.body-rule)
 
-      first-room : 24 ≤ length inner-front.item.body
-      unfolding kind_of
-      first-room =
-          let r : Record = inner-front.item in
-          let good = ((record_item o).sound (event unseen) (at + 8) inner r inner-bytes inner-front.reads_item).1 in
-          let v : ValidRecord o (event unseen) r = record_valid o (event unseen) r good in
-          long_enough o administrative_kind.word r.body
-          (subst (λ (w : ℕ). (kind_of w).rule o r.body ≡ 0) (first-administrative o r v) v.body-rule)
+    -- there is room for it; its number is the event's word 24
+    first_long : 32 ≤ length inner
+    first_long = omega (arith, first-room, ap (λ (r : Record). length r.body) first_shown.1, first_shown.0.size, first_shown.0.fits)
 
-      -- there is room for it; its number is the event's word 24
-      first_long : 32 ≤ length inner
-      first_long = omega (arith, first-room, ap (λ (r : Record). length r.body) first_shown.1, first_shown.0.size, first_shown.0.fits)
+    pub first_fits : 40 ≤ length bs
+    first_fits = omega (arith, first_long, inner-length, event-fits)
 
-      first_fits : 40 ≤ length bs
-      first_fits = omega (arith, first_long, inner-length, event-fits)
-
-      number_is : event_number o front-event.item.body ≡ word o 24 bs
-      unfolding administrative_of
-      number_is =
-          let body_is : inner-front.item.body ≡ take (word o 4 inner) (drop 8 inner) = ap (λ (r : Record). r.body) first_shown.1 in
-          ap (event_number o) inner-front.splits
-          ∙ ap (word o 8) body_is
-          ∙ word_of_part o 4 8 8 (word o 4 inner) inner (omega (arith, first-room, ap length body_is))
-          ∙ word_of_part o 4 16 8 (8 + word o 4 bs - 8) bs (omega (arith, first_long))
-
-    -- so the words that code asks for stand there
-    pub numbered : Numbered o bs
-    numbered = record { first = omega (arith, event-fits); number = λ e. omega (arith, first_fits e) }
+    number_is : event_number o front-event.item.body ≡ word o 24 bs
+    unfolding administrative_of
+    number_is =
+        let body_is : inner-front.item.body ≡ take (word o 4 inner) (drop 8 inner) = ap (λ (r : Record). r.body) first_shown.1 in
+        ap (event_number o) inner-front.splits
+        ∙ ap (word o 8) body_is
+        ∙ word_of_part o 4 8 8 (word o 4 inner) inner (omega (arith, first-room, ap length body_is))
+        ∙ word_of_part o 4 16 8 (8 + word o 4 bs - 8) bs (omega (arith, first_long))
 
     -- behind the event
     behind-event : read_events o (at + (8 + word o 4 bs)) (behind_of (8 + word o 4 bs) bs) ≡ ok front-event.others
@@ -256,54 +243,34 @@ module _ {o : Order} {number code : ℕ} {answer : List ℕ} {at : ℕ} {bs : Li
         ∙ subst (λ (x : ℕ). read_events o (at + x) (drop x bs) ≡ ok front-event.others) size
         (same-events o tt (at + container_size o front-event.item) (drop (container_size o front-event.item) bs) ∙ front-event.reads-others)
 
-    abbrev later : List TraceAt
-    later = later_traces o (8 + word o 4 bs) at bs
-
-    split-event : first_match number code (event_traces o at front-event.item ++ later) ≡ answer
+    split-event : first_match number code (traces_in o (word o 24 bs) (at + 8) front-event.item.body ++ later_traces o (8 + word o 4 bs) at bs)
+        ≡ answer
     unfolding traces_from traces_read
     split-event =
         let n : ℕ = 8 + word o 4 bs in
-        let e : Container = front-event.item in
-        let size : container_size o e ≡ n = ap (λ (x : ℕ). 8 + x) shown_event.size in
-        ap (λ (r : Res (List Container)). first_match number code (event_traces o at e ++ traces_read o (at + n) r)) behind-event
-        ∙ ap (λ (x : ℕ). first_match number code (event_traces o at e ++ traces_from o (at + x) front-event.others)) (sym size)
+        let rs : List Record = front-event.item.body in
+        let size : container_size o front-event.item ≡ n = ap (λ (x : ℕ). 8 + x) shown_event.size in
+        ap₂ (λ (w : ℕ) (r : Res (List Container)). first_match number code (traces_in o w (at + 8) rs ++ traces_read o (at + n) r))
+        (sym number_is) behind-event
+        ∙ ap (λ (x : ℕ). first_match number code (traces_in o (event_number o rs) (at + 8) rs ++ traces_from o (at + x) front-event.others)) (sym size)
         ∙ ap (λ (es : List Container). first_match number code (traces_from o at es)) (sym front-event.splits)
         ∙ i.still
 
-    sort-is : {b : Bool} → is_monitoring (word o 0 bs) ≡ b → is_monitoring front-event.item.word ≡ b
-    sort-is e = ap is_monitoring shown_event.kind-is ∙ e
-
-    -- a monitoring event has no trace; another's are those of its records, under its number
-    split_outside : is_monitoring (word o 0 bs) ≡ false
-        → first_match number code (traces_in o (word o 24 bs) (at + 8) front-event.item.body ++ later) ≡ answer
-    split_outside outside =
-        let rs : List Record = front-event.item.body in
-        ap (λ (w : ℕ). first_match number code (traces_in o w (at + 8) rs ++ later)) (sym (number_is outside))
-        ∙ (rw (sort-is outside) at split-event)
-
     -- into an event of the number
-    pub into : (m : ℕ) → m ≡ word o 4 bs → carries o number bs ≡ true
+    pub into : (m : ℕ) → m ≡ word o 4 bs → word o 24 bs ≡ number
         → Looking o number code answer (at + (8 + m)) (later_traces o (8 + m) at bs) (at + 8) (cut_body m bs)
-    unfolding carries
-    into m em same = go (is_monitoring (word o 0 bs)) refl same
-      where
-        go : (b : Bool) → is_monitoring (word o 0 bs) ≡ b → cond b false (eqb (word o 24 bs) number) ≡ true
-            → Looking o number code answer (at + (8 + m)) (later_traces o (8 + m) at bs) (at + 8) (cut_body m bs)
-        go true e q = absurd (false≢true q)
-        go false e q =
-            let rs : List Record = front-event.item.body in
-            subst (λ (x : ℕ). Looking o number code answer (at + (8 + x)) (later_traces o (8 + x) at bs) (at + 8) (cut_body x bs)) (sym em)
-            (record {
-              state = event unseen;
-              sort = refl;
-              rs = rs;
-              reads = contents e;
-              still =
-                  subst (λ (w : ℕ). first_match number code (traces_in o w (at + 8) rs ++ later) ≡ answer) (eqb-true (word o 24 bs) number q)
-                  (split_outside e);
-              ends = omega (arith, inner-length);
-              bytes = inner-bytes;
-            })
+    into m em same =
+        let rs : List Record = front-event.item.body in
+        let later : List TraceAt = later_traces o (8 + word o 4 bs) at bs in
+        subst (λ (x : ℕ). Looking o number code answer (at + (8 + x)) (later_traces o (8 + x) at bs) (at + 8) (cut_body x bs)) (sym em)
+        (record {
+          state = event unseen;
+          rs = rs;
+          reads = shown_event.contents;
+          still = subst (λ (w : ℕ). first_match number code (traces_in o w (at + 8) rs ++ later) ≡ answer) same split-event;
+          ends = omega (arith, inner-length);
+          bytes = inner-bytes;
+        })
 
     -- past an event in which nothing matches
     pub past-event : (m : ℕ) → m ≡ word o 4 bs → first_match number code (later_traces o (8 + m) at bs) ≡ answer
@@ -320,15 +287,8 @@ module _ {o : Order} {number code : ℕ} {answer : List ℕ} {at : ℕ} {bs : Li
           bytes = Bytes-behind (8 + m) bs i.bytes;
         }
 
-    pub past_other : (m : ℕ) → m ≡ word o 4 bs → carries o number bs ≡ false
+    pub past_other : (m : ℕ) → m ≡ word o 4 bs → (word o 24 bs ≡ number → ⊥)
         → first_match number code (later_traces o (8 + m) at bs) ≡ answer
-    unfolding carries
     past_other m em d =
-        subst (λ (x : ℕ). first_match number code (later_traces o (8 + x) at bs) ≡ answer) (sym em) (go (is_monitoring (word o 0 bs)) refl d)
-      where
-        go : (b : Bool) → is_monitoring (word o 0 bs) ≡ b → cond b false (eqb (word o 24 bs) number) ≡ false → first_match number code later ≡ answer
-        go true e q = rw (sort-is e) at split-event
-        go false e q =
-            sym (other_number o number code (word o 24 bs) (λ s. absurd (true≢false (sym (eq-eqb (word o 24 bs) number s) ∙ q)))
-            (at + 8) front-event.item.body later)
-            ∙ split_outside e
+        subst (λ (x : ℕ). first_match number code (later_traces o (8 + x) at bs) ≡ answer) (sym em)
+        (sym (other_number o number code (word o 24 bs) d (at + 8) front-event.item.body (later_traces o (8 + word o 4 bs) at bs)) ∙ split-event)

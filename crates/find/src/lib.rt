@@ -5,11 +5,11 @@ ghost use Rattle.theory.specs.Words.{order_from};
 ghost use Rattle.note.specs.Answers.{accepted, counts, given_find};
 ghost use Rattle.note.specs.Events.{read_events};
 ghost use Rattle.note.specs.Calls.{first_match, find_at};
-ghost use Rattle.find.specs.Search.{Searchable, Numbered, carries, traces_read};
+ghost use Rattle.find.specs.Search.{Searchable, traces_read};
 
 use containers::{Count, ENTRIES, ENTRIES_LENGTH, check};
 use note::FindAnswer;
-use record::{FRONT, is_monitoring};
+use record::FRONT;
 use rules::TRACE;
 use words::{is_big, word_at};
 
@@ -19,21 +19,9 @@ const EVENT_NUMBER: usize = 24;
 // Where a trace's code stands, from its first byte on.
 const TRACE_CODE: usize = 24;
 
-// Whether the event at the front of a part carries the number. The part was checked, so its first record is the administrative one, unless it is
-// a monitoring event, which has no number.
-fn carries(part: &[u8], number: u32, big: bool) -> bool
-    requires { Numbered (order_from big) part.now }
-    ensures { result ≡ carries (order_from big) number part.now }
-{
-    if is_monitoring(word_at(part, 0, big)) {
-        return false;
-    }
-    word_at(part, EVENT_NUMBER, big) == number
-}
-
-// The first trace among the events that fill a part whose first byte stands at `from`. The part was checked, so a record's kind and length words
-// say what stands there. One loop over events and, in it, one over records, which a match leaves both by a
-// label.
+// The first trace among the events that fill a part whose first byte stands at `from`. The part was checked, so an event's first
+// record is its administrative one, and a record's kind and length words say what stands there. One loop over events and, in it, one over
+// records, which a match leaves both by a label.
 fn search(part: &[u8], from: usize, number: u32, code: u32, big: bool) -> FindAnswer
     requires { Searchable (order_from big) from part.now }
     ensures { given_find result
@@ -44,7 +32,7 @@ fn search(part: &[u8], from: usize, number: u32, code: u32, big: bool) -> FindAn
     let mut at = from;
     'events: while 0 < rest.len() {
         let size = FRONT + word_at(rest, 4, big) as usize;
-        if carries(rest, number, big) {
+        if word_at(rest, EVENT_NUMBER, big) == number {
             let mut records = &rest[FRONT..size];
             let mut place = at + FRONT;
             while 0 < records.len() {

@@ -6,7 +6,6 @@ ghost use Rattle.note.specs.Answers.{given_record, given_setting, given_sample, 
 ghost use Rattle.note.specs.Calls.{record_at, setting_at, samples_part, samples_at, sample_at};
 ghost use Rattle.note.specs.Writers.{administrative_draft, charge_draft, configuration_closed, configuration_output, event_closed, event_output, gps_draft};
 ghost use Rattle.note.specs.Writers.{header_output, header_next, history_draft, phonon_draft, tlb_draft, trace_draft, trigger_draft, writer_given};
-ghost use Rattle.note.specs.Writers.{thresholds_draft, trigger_rates_draft, veto_rates_draft};
 ghost use Rattle.stores.specs.Writes.{WriterDid};
 
 use note::{RecordAnswer, SampleAnswer, SettingAnswer, WriterAnswer};
@@ -15,11 +14,11 @@ use note::{RecordAnswer, SampleAnswer, SettingAnswer, WriterAnswer};
 const LITTLE: bool = false;
 
 /// Record: the record or entry at a place with its fields, the whole file its parent and no event's rules; or a refusal.
-/// Whether it is in a monitoring event the caller says, since that decides what its kind word means. A case for each kind (FORMAT 8.5).
-pub fn record(file: &[u8], place: usize, monitoring: bool) -> RecordAnswer
-    ensures { given_record result ≡ record_at Little monitoring file.now place }
+/// A case for each kind (FORMAT 8.5).
+pub fn record(file: &[u8], place: usize) -> RecordAnswer
+    ensures { given_record result ≡ record_at Little file.now place }
 {
-    answers::record(file, place, monitoring, LITTLE)
+    answers::record(file, place, LITTLE)
 }
 
 /// Setting: the entry at a place in working units; Record's refusals, then 5 there for another kind.
@@ -300,75 +299,6 @@ pub fn write_tlb(
     writers::write_tlb(
         out, place, tower1, tower2, tower3, tower4, tower5, tower6, LITTLE,
     )
-}
-
-/// Writes thresholds: minimum, maximum, range and tower, and the parts of bytes that hold six detector codes, nine operations, and a value for each
-/// code and operation (FORMAT 5.8).
-pub fn write_thresholds(
-    out: &mut [u8],
-    place: usize,
-    minimum: u32,
-    maximum: u32,
-    range: u32,
-    tower: u32,
-    codes: &[u8],
-    operations: &[u8],
-    values: &[u8],
-) -> WriterAnswer
-    ensures { WriterDid out.old place (thresholds_draft Little (record {
-      minimum = minimum;
-      maximum = maximum;
-      range = range;
-      tower = tower;
-      codes = codes.now;
-      operations = operations.now;
-      values = values.now;
-    })) result out.new }
-{
-    monitors::write_thresholds(
-        out, place, minimum, maximum, range, tower, codes, operations, values, LITTLE,
-    )
-}
-
-/// Writes trigger rates: interval and tower, and the parts of bytes that hold six detector codes, five lines, and a counter for each code and line
-/// (FORMAT 5.9).
-pub fn write_trigger_rates(
-    out: &mut [u8],
-    place: usize,
-    interval: u32,
-    tower: u32,
-    codes: &[u8],
-    lines: &[u8],
-    counters: &[u8],
-) -> WriterAnswer
-    ensures { WriterDid out.old place (trigger_rates_draft Little (record {
-      interval = interval;
-      tower = tower;
-      codes = codes.now;
-      lines = lines.now;
-      counters = counters.now;
-    })) result out.new }
-{
-    monitors::write_trigger_rates(out, place, interval, tower, codes, lines, counters, LITTLE)
-}
-
-/// Writes veto rates: interval, the count of entries, and the parts of bytes that hold a detector code and a counter for each (FORMAT 5.10).
-pub fn write_veto_rates(
-    out: &mut [u8],
-    place: usize,
-    interval: u32,
-    entries: u32,
-    codes: &[u8],
-    counters: &[u8],
-) -> WriterAnswer
-    ensures { WriterDid out.old place (veto_rates_draft Little (record {
-      interval = interval;
-      entries = entries;
-      codes = codes.now;
-      counters = counters.now;
-    })) result out.new }
-{
-    monitors::write_veto_rates(out, place, interval, entries, codes, counters, LITTLE)
 }
 
 /// Writes the file header with these two DAQ bytes, from byte 0 on.

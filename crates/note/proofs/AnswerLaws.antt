@@ -63,10 +63,7 @@ back_record (accepted vs) =
     (cond (eqb (n vs 0) 8) (Record.History (n vs 1) (n vs 2) (n vs 3) (n vs 4) (n vs 5) (n vs 6) (n vs 7) (n vs 8))
     (cond (eqb (n vs 0) 9) (Record.Gps (n vs 1) (n vs 2) (n vs 3) (n vs 4) (n vs 5) (n vs 6) (n vs 7))
     (cond (eqb (n vs 0) 10) (Record.Trigger (n vs 1) (n vs 2) (n vs 3) (n vs 4) (n vs 5) (n vs 6))
-    (cond (eqb (n vs 0) 11) (Record.Tlb (n vs 1) (n vs 2) (n vs 3) (n vs 4) (n vs 5) (n vs 6))
-    (cond (eqb (n vs 0) 12) (Record.Thresholds (n vs 1) (n vs 2) (n vs 3) (n vs 4) (n vs 5) (n vs 6) (n vs 7))
-    (cond (eqb (n vs 0) 13) (Record.TriggerRates (n vs 1) (n vs 2) (n vs 3) (n vs 4) (n vs 5))
-    (Record.VetoRates (n vs 1) (n vs 2) (n vs 3) (n vs 4)))))))))))
+    (Record.Tlb (n vs 1) (n vs 2) (n vs 3) (n vs 4) (n vs 5) (n vs 6))))))))
 back_record (refused number place) = Record.Refused number place
 
 record_undone : (a : RecordAnswer) → back_record (given_record a) ≡ a
@@ -79,9 +76,6 @@ record_undone (Record.History a b c d e f g h) = refl
 record_undone (Record.Gps a b c d e f g) = refl
 record_undone (Record.Trigger a b c d e f) = refl
 record_undone (Record.Tlb a b c d e f) = refl
-record_undone (Record.Thresholds a b c d e f g) = refl
-record_undone (Record.TriggerRates a b c d e) = refl
-record_undone (Record.VetoRates a b c d) = refl
 record_undone (Record.Refused a b) = refl
 
 abbrev back_setting : Given → SettingAnswer

@@ -17,7 +17,7 @@ use Rattle.note.specs.Limits.{file_limit}
 use Rattle.note.specs.Words.{word}
 use Rattle.note.specs.Answers.{Value, accepted, refused, counts}
 use Rattle.note.specs.Trace.{trace_of}
-use Rattle.note.specs.Records.{Record, told, read_record}
+use Rattle.note.specs.Records.{Record, alone, read_record}
 use Rattle.note.specs.Files.{File, read_file}
 use Rattle.note.specs.Rows.{rows_of, fits, table_given, table_answer}
 use Rattle.note.specs.Calls.{record_found, record_given, record_at, setting_given, setting_at, sample_given, sample_at, samples_part, samples_at}
@@ -54,13 +54,13 @@ bad-same e = (cc, cc)
 not-refused : {vs : List Value} {c p : ℕ} → accepted vs ≡ refused c p → ⊥
 not-refused e = let z : ◌≡◌ {A = ℕ} 0 1 = cc in omega arith
 
-module _ (o : Order) (m : Bool) (bs : List ℕ) (place c p : ℕ) where
-  pub found_refused_exact : (record_found o m bs place ≡ bad c p) ↔ RecordRefused o m bs place c p
+module _ (o : Order) (bs : List ℕ) (place c p : ℕ) where
+  pub found_refused_exact : (record_found o bs place ≡ bad c p) ↔ RecordRefused o bs place c p
   unfolding record_found
   found_refused_exact = go (leb (length bs) file_limit) refl
     where
       go : (t : Bool) → leb (length bs) file_limit ≡ t
-          → (need (unless t 1) 0 (read_record o (told m) place (drop place bs)) ≡ bad c p) ↔ RecordRefused o m bs place c p
+          → (need (unless t 1) 0 (read_record o alone place (drop place bs)) ≡ bad c p) ↔ RecordRefused o bs place c p
       go true q =
           let l = leb-true (length bs) file_limit q in
           (λ e. not-read l e, λ h. elim h [ file-over m n s ↦ absurd (omega arith) | not-read m e ↦ e ])
@@ -70,28 +70,27 @@ module _ (o : Order) (m : Bool) (bs : List ℕ) (place c p : ℕ) where
             λ h. elim h [ file-over m n s ↦ ap₂ (λ (x y : ℕ). bad x y) (sym n) (sym s) | not-read m e ↦ absurd (omega arith) ],
           )
 
-  pub record_refused_exact : (record_at o m bs place ≡ refused c p) ↔ RecordRefused o m bs place c p
+  pub record_refused_exact : (record_at o bs place ≡ refused c p) ↔ RecordRefused o bs place c p
   unfolding record_at
-  record_refused_exact = (λ e. found_refused_exact.0 (go (record_found o m bs place) e), λ h. rw (found_refused_exact.1 h))
+  record_refused_exact = (λ e. found_refused_exact.0 (go (record_found o bs place) e), λ h. rw (found_refused_exact.1 h))
     where
-      go : (r : Res Record) → record_given o m place r ≡ refused c p → r ≡ bad c p
+      go : (r : Res Record) → record_given o place r ≡ refused c p → r ≡ bad c p
       go (bad d q) e = let same = refused-same e in ap₂ (λ (x y : ℕ). bad x y) same.0 same.1
       go (ok r) e = absurd (not-refused e)
 
--- ---- Setting
+  -- ---- Setting
 
-module _ (o : Order) (bs : List ℕ) (place c p : ℕ) where
   pub setting_refused_exact : (setting_at o bs place ≡ refused c p) ↔ SettingRefused o bs place c p
   unfolding setting_at
   setting_refused_exact = (
-    go (record_found o false bs place) refl,
+    go (record_found o bs place) refl,
     λ h. elim h [
       | no_record e ↦ rw e
       | no_entry r e d f n q ↦ rw (e, ne_eqb r.word 0x00010001 d, ne_eqb r.word 0x00010002 f, n, q)
     ],
   )
     where
-      tests : (r : Record) → record_found o false bs place ≡ ok r → (t u : Bool) → eqb r.word 0x00010001 ≡ t → eqb r.word 0x00010002 ≡ u
+      tests : (r : Record) → record_found o bs place ≡ ok r → (t u : Bool) → eqb r.word 0x00010001 ≡ t → eqb r.word 0x00010002 ≡ u
           → (x y : List Value)
           → cond t (accepted x) (cond u (accepted y) (refused 5 place)) ≡ refused c p → SettingRefused o bs place c p
       tests r f true u a b x y e = absurd (not-refused e)
@@ -100,7 +99,7 @@ module _ (o : Order) (bs : List ℕ) (place c p : ℕ) where
           let same = refused-same e in
           no_entry r f (eqb-false r.word 0x00010001 a) (eqb-false r.word 0x00010002 b) (sym same.0) (sym same.1)
 
-      go : (r : Res Record) → record_found o false bs place ≡ r → setting_given o place r ≡ refused c p → SettingRefused o bs place c p
+      go : (r : Res Record) → record_found o bs place ≡ r → setting_given o place r ≡ refused c p → SettingRefused o bs place c p
       go (bad d q) f e = let same = refused-same e in no_record (f ∙ ap₂ (λ (x y : ℕ). bad x y) same.0 same.1)
       go (ok r) f e = tests r f (eqb r.word 0x00010001) (eqb r.word 0x00010002) refl refl _ _ e
 
@@ -127,7 +126,7 @@ module _ (o : Order) (bs : List ℕ) (place k c p : ℕ) where
   pub sample_refused_exact : (sample_at o bs place k ≡ refused c p) ↔ SampleRefused o bs place k c p
   unfolding sample_at trace_of
   sample_refused_exact = (
-    go (record_found o false bs place) refl,
+    go (record_found o bs place) refl,
     λ h. elim h [
       | nothing-found e ↦ rw e
       | no_trace r e d n q ↦ rw (e, ne_eqb r.word 0x11 d, n, q)
@@ -135,7 +134,7 @@ module _ (o : Order) (bs : List ℕ) (place k c p : ℕ) where
     ],
   )
     where
-      tests : (r : Record) → record_found o false bs place ≡ ok r → (t u : Bool) → eqb r.word 0x11 ≡ t → leb 1 k && leb k (word o 44 r.body) ≡ u
+      tests : (r : Record) → record_found o bs place ≡ ok r → (t u : Bool) → eqb r.word 0x11 ≡ t → leb 1 k && leb k (word o 44 r.body) ≡ u
           → (x : List Value)
           → cond t (cond u (accepted x) (refused 11 place)) (refused 5 place) ≡ refused c p → SampleRefused o bs place k c p
       tests r f true true a b x e = absurd (not-refused e)
@@ -146,7 +145,7 @@ module _ (o : Order) (bs : List ℕ) (place k c p : ℕ) where
       tests r f false u a b x e =
           let same = refused-same e in no_trace r f (eqb-false r.word 0x11 a) (sym same.0) (sym same.1)
 
-      go : (r : Res Record) → record_found o false bs place ≡ r → sample_given o place k r ≡ refused c p → SampleRefused o bs place k c p
+      go : (r : Res Record) → record_found o bs place ≡ r → sample_given o place k r ≡ refused c p → SampleRefused o bs place k c p
       go (bad d q) f e = let same = refused-same e in nothing-found (f ∙ ap₂ (λ (x y : ℕ). bad x y) same.0 same.1)
       go (ok r) f e = tests r f (eqb r.word 0x11) (leb 1 k && leb k (word o 44 r.body)) refl refl _ e
 
@@ -154,16 +153,16 @@ module _ (o : Order) (bs : List ℕ) (place k c p : ℕ) where
 
 -- A trace's samples are its body behind the first 48 bytes, which stands 8 bytes behind the place; all else has none.
 module _ (o : Order) (bs : List ℕ) (place : ℕ) where
-  pub samples_of_trace : (r : Record) → record_found o false bs place ≡ ok r → r.word ≡ 0x11
+  pub samples_of_trace : (r : Record) → record_found o bs place ≡ ok r → r.word ≡ 0x11
       → samples_part o bs place ≡ (place + 56, length r.body - 48)
   unfolding samples_part
   samples_of_trace r f k = rw (f, eq-eqb r.word 0x11 k)
 
-  pub other_has_no_samples : (r : Record) → record_found o false bs place ≡ ok r → r.word ≢ 0x11 → samples_part o bs place ≡ (0, 0)
+  pub other_has_no_samples : (r : Record) → record_found o bs place ≡ ok r → r.word ≢ 0x11 → samples_part o bs place ≡ (0, 0)
   unfolding samples_part
   other_has_no_samples r f k = rw (f, ne_eqb r.word 0x11 k)
 
-  pub refused_has_no_samples : (c p : ℕ) → record_found o false bs place ≡ bad c p → samples_part o bs place ≡ (0, 0)
+  pub refused_has_no_samples : (c p : ℕ) → record_found o bs place ≡ bad c p → samples_part o bs place ≡ (0, 0)
   unfolding samples_part
   refused_has_no_samples c p f = rw f
 
@@ -174,28 +173,27 @@ module _ (o : Order) (bs : List ℕ) (place : ℕ) where
 
 -- ---- Record and Setting answer what is found
 
--- A record is found where it is read as the call was told, up to the end of bytes within the limit.
-pub found_exact : (o : Order) (m : Bool) (bs : List ℕ) (place : ℕ) (r : Record)
-    → (record_found o m bs place ≡ ok r) ↔ ((length bs ≤ 16777216) × (read_record o (told m) place (drop place bs) ≡ ok r))
+-- A record is found where it is read alone, up to the end of bytes within the limit.
+pub found_exact : (o : Order) (bs : List ℕ) (place : ℕ) (r : Record)
+    → (record_found o bs place ≡ ok r) ↔ ((length bs ≤ 16777216) × (read_record o alone place (drop place bs) ≡ ok r))
 unfolding record_found
-found_exact o m bs place r = go (leb (length bs) file_limit) refl
+found_exact o bs place r = go (leb (length bs) file_limit) refl
   where
     read : Res Record
-    read = read_record o (told m) place (drop place bs)
+    read = read_record o alone place (drop place bs)
 
     go : (t : Bool) → leb (length bs) file_limit ≡ t → (need (unless t 1) 0 read ≡ ok r) ↔ ((length bs ≤ 16777216) × (read ≡ ok r))
     go true q = (λ e. (leb-true (length bs) file_limit q, e), λ h. h.1)
     go false q = (λ e. absurd (bad-ok e), λ h. absurd (omega (arith, leb-false (length bs) file_limit q, h.0)))
 
-pub record_as_found : (o : Order) (m : Bool) (bs : List ℕ) (place : ℕ) (r : Record) → record_found o m bs place ≡ ok r
-    → record_at o m bs place ≡ record_given o m place (ok r)
-unfolding record_at
-record_as_found o m bs place r found = rw found
+module _ (o : Order) (bs : List ℕ) (place : ℕ) (r : Record) (found : record_found o bs place ≡ ok r) where
+  pub record_as_found : record_at o bs place ≡ record_given o place (ok r)
+  unfolding record_at
+  record_as_found = rw found
 
-pub setting_as_found : (o : Order) (bs : List ℕ) (place : ℕ) (r : Record) → record_found o false bs place ≡ ok r
-    → setting_at o bs place ≡ setting_given o place (ok r)
-unfolding setting_at
-setting_as_found o bs place r found = rw found
+  pub setting_as_found : setting_at o bs place ≡ setting_given o place (ok r)
+  unfolding setting_at
+  setting_as_found = rw found
 
 -- ---- a writer's answer
 

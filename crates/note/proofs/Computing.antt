@@ -14,19 +14,15 @@ use Rattle.note.specs.History.{is_width, section_rule, history_rule, section_fau
 use Rattle.note.specs.Gps.{are_digits, decimal, bcd, gps_of, gps_bytes, gps_fault, gps_rule}
 use Rattle.note.specs.Trigger.{trigger_of, trigger_bytes, trigger_rule}
 use Rattle.note.specs.Tlb.{tlb_of, tlb_bytes, is_tower, tlb_fault, tlb_rule, zip_set}
-use Rattle.note.specs.MonitorCodes.{is_monitored, is_veto, is_operation, is_line, each_of}
-use Rattle.note.specs.Thresholds.{thresholds_of, thresholds_bytes, thresholds_fault, thresholds_rule}
-use Rattle.note.specs.TriggerRates.{trigger_rates_of, trigger_rates_bytes, trigger_rates_fault, trigger_rates_rule}
-use Rattle.note.specs.VetoRates.{veto_rates_of, veto_rates_bytes, veto_rates_fault, veto_rates_rule}
-use Rattle.note.specs.Records.{kind_of, monitoring_kind_of, is_kind, is_placed, is_allowed, noted, behind, read_record, read_records}
-use Rattle.note.specs.Events.{event_fault, event_word_rule, event_context, read_event, read_events}
+use Rattle.note.specs.Records.{kind_of, is_kind, is_placed, is_allowed, noted, behind, read_record, read_records}
+use Rattle.note.specs.Events.{event_fault, event_word_rule, read_event, read_events}
 use Rattle.note.specs.Files.{read_header, read_configuration, read_parts, order_of, read_file}
 use Rattle.note.specs.Rows.{child_of, nodes_of, rows_of, flat, table_answer, table_buffer, yield_at}
 use Rattle.note.specs.Calls.{record_found, record_at, hundredth, phonon_setting, charge_setting, setting_at}
 use Rattle.note.specs.Calls.{samples_part, samples_at, sample_at, traces_in, traces_from, traces_of, first_match, find_at}
 use Rattle.note.specs.Listing.{row_lines, listing, digits_of, decimal_text, line_text, lines_text, listing_text}
 use Rattle.note.specs.Writers.{writer_next, writer_given, output_after, phonon_draft, charge_draft, administrative_draft}
-use Rattle.note.specs.Writers.{trace_draft, history_draft, gps_draft, trigger_draft, tlb_draft, thresholds_draft, trigger_rates_draft, veto_rates_draft}
+use Rattle.note.specs.Writers.{trace_draft, history_draft, gps_draft, trigger_draft, tlb_draft}
 use Rattle.note.specs.Writers.{record_next, record_output, header_next, header_output}
 use Rattle.note.specs.Writers.{configuration_closed, event_closed, configuration_output, event_output}
 use Rattle.note.specs.Writers.{record_again, file_rewritten, rewrite_next, rewrite_output}
@@ -42,15 +38,12 @@ unfolding
     width_at width_of end_at section_of history_of section_bytes history_bytes is_width section_rule history_rule section_fault history_fault section_values
     are_digits decimal bcd gps_of gps_bytes gps_fault gps_rule trigger_of trigger_bytes trigger_rule
     tlb_of tlb_bytes is_tower tlb_fault tlb_rule zip_set
-    is_monitored is_veto is_operation is_line each_of thresholds_of thresholds_bytes thresholds_fault thresholds_rule
-    trigger_rates_of trigger_rates_bytes trigger_rates_fault trigger_rates_rule veto_rates_of veto_rates_bytes veto_rates_fault veto_rates_rule
-    kind_of monitoring_kind_of is_kind is_placed is_allowed noted behind read_record read_records
-    event_fault event_word_rule event_context read_event read_events read_header read_configuration read_parts order_of read_file
+    kind_of is_kind is_placed is_allowed noted behind read_record read_records
+    event_fault event_word_rule read_event read_events read_header read_configuration read_parts order_of read_file
     child_of nodes_of rows_of flat table_answer table_buffer yield_at
     record_found record_at hundredth phonon_setting charge_setting setting_at samples_part samples_at sample_at traces_in traces_from traces_of first_match find_at
     row_lines listing digits_of decimal_text line_text lines_text listing_text
     writer_next writer_given output_after phonon_draft charge_draft administrative_draft trace_draft history_draft gps_draft trigger_draft tlb_draft
-    thresholds_draft trigger_rates_draft veto_rates_draft
     record_next record_output header_next header_output configuration_closed event_closed configuration_output event_output
     record_again file_rewritten rewrite_next rewrite_output
 computing = 0

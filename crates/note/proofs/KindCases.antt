@@ -1,4 +1,4 @@
--- What holds of each of the eight kinds, and of no kind at all, holds of the kind of any kind word; and so of the three of monitoring events.
+-- What holds of each of the eight kinds, and of no kind at all, holds of the kind of any kind word.
 -- The idea: the choice of a kind is eight tests of the kind word, and each test is taken apart once, here.
 use Prim.Native.Nat.{ℕ}
 use mathlib.Core.Path.{◌≡◌, refl, sym, ◌∙◌, subst}
@@ -14,10 +14,7 @@ use Rattle.note.specs.History.{history_kind}
 use Rattle.note.specs.Gps.{gps_kind}
 use Rattle.note.specs.Trigger.{trigger_kind}
 use Rattle.note.specs.Tlb.{tlb_kind}
-use Rattle.note.specs.Thresholds.{thresholds_kind}
-use Rattle.note.specs.TriggerRates.{trigger_rates_kind}
-use Rattle.note.specs.VetoRates.{veto_rates_kind}
-use Rattle.note.specs.Records.{unknown_kind, kind_of, monitoring_kind_of}
+use Rattle.note.specs.Records.{unknown_kind, kind_of}
 
 -- one test of the kind word
 test_case : (P : ℕ → Kind → Type 0) (k w : ℕ) (x y : Kind) → P w x → P k y → P k (cond (eqb k w) x y)
@@ -43,16 +40,6 @@ kind_cases P k phonon charge administrative trace history gps trigger tlb unknow
     (test_case P k tlb_kind.word tlb_kind unknown_kind tlb
     unknown)))))))
 
-pub monitoring_cases : (P : ℕ → Kind → Type 0) (k : ℕ)
-    → P thresholds_kind.word thresholds_kind → P trigger_rates_kind.word trigger_rates_kind → P veto_rates_kind.word veto_rates_kind
-    → P k unknown_kind → P k (monitoring_kind_of k)
-unfolding monitoring_kind_of
-monitoring_cases P k thresholds trigger_rates veto_rates unknown =
-    test_case P k thresholds_kind.word thresholds_kind _ thresholds
-    (test_case P k trigger_rates_kind.word trigger_rates_kind _ trigger_rates
-    (test_case P k veto_rates_kind.word veto_rates_kind unknown_kind veto_rates
-    unknown))
-
 -- A word that is none of the eight kind words names no kind.
 skip : (k w : ℕ) (x y : Kind) → (k ≡ w → ⊥) → cond (eqb k w) x y ≡ y
 skip k w x y h = go (eqb k w) refl
@@ -74,11 +61,3 @@ no_kind k phonon charge administrative trace history gps trigger tlb =
     ∙ skip k gps_kind.word gps_kind _ gps
     ∙ skip k trigger_kind.word trigger_kind _ trigger
     ∙ skip k tlb_kind.word tlb_kind unknown_kind tlb
-
-pub no_monitoring_kind : (k : ℕ) → (k ≡ thresholds_kind.word → ⊥) → (k ≡ trigger_rates_kind.word → ⊥) → (k ≡ veto_rates_kind.word → ⊥)
-    → monitoring_kind_of k ≡ unknown_kind
-unfolding monitoring_kind_of
-no_monitoring_kind k thresholds trigger_rates veto_rates =
-    skip k thresholds_kind.word thresholds_kind _ thresholds
-    ∙ skip k trigger_rates_kind.word trigger_rates_kind _ trigger_rates
-    ∙ skip k veto_rates_kind.word veto_rates_kind unknown_kind veto_rates

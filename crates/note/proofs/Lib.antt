@@ -16,8 +16,6 @@ pub mod UnitLaws
 pub mod FlatLaws
 pub mod KindCases
 pub mod RuleNumbers
-pub mod MonitorLaws
-pub mod MonitorRuleLaws
 pub mod KindLaws
 pub mod ContainerFieldLaws
 pub mod AskedLaws

@@ -2,31 +2,26 @@
 -- given at its first byte where something isn't so; else it is read on.
 -- The idea: a reader's chain of tests is one list, and each test tells its statement.
 use Prim.Native.Nat.{ℕ, zero, suc, ◌+◌}
-use mathlib.Core.Path.{◌≡◌, refl, sym, ap, ap₂, ◌∙◌, subst}
-use mathlib.Core.Logic.Iff
+use mathlib.Core.Path.{◌≡◌, refl, sym, subst}
 use mathlib.Core.Logic.{◌↔◌, ◌⊎◌, inl, inr, ⊎_elim}
-use mathlib.Core.Bool.{Bool, true, false, not, cond, false≢true}
 use mathlib.Core.List.{List, [], ◌∷◌}
 use lib.Dec.{leb}
 use lib.ListN.{length}
 use Rattle.theory.specs.declared.Order.{Order}
-use Rattle.theory.specs.Tests.{ok, need, bind, unless, first, among}
+use Rattle.theory.specs.Tests.{ok, need, bind, unless, first}
 use Rattle.note.specs.Asked.{Answers}
-use Rattle.note.specs.EventKinds.{IsEntryKind, IsRecordKind, IsMonitoringKind, MayFollow}
+use Rattle.note.specs.EventKinds.{IsEntryKind, IsRecordKind, MayFollow}
 use Rattle.note.specs.Words.{word}
-use Rattle.note.specs.Records.{Record, Seen, Context, entry, event, monitoring, alone, in_monitoring, kind_in, kind_of, monitoring_kind_of}
-use Rattle.note.specs.Records.{monitoring_kinds, kinds_without_layout, is_kind, other_kind, is_allowed, record_rule, read_record}
-use Rattle.note.specs.Events.{event_context, read_event}
+use Rattle.note.specs.Records.{Record, Seen, Context, entry, event, alone, unseen, is_kind, is_allowed, kind_of, record_rule, read_record}
+use Rattle.note.specs.Events.{read_event}
 use Rattle.note.specs.Files.{version_rule, read_header, read_configuration}
 use Rattle.note.specs.Rules.{PhononAsked, ChargeAsked, AdministrativeAsked, TraceAsked, HistoryAsked, GpsAsked, TriggerAsked, TlbAsked, RuleAsked}
-use Rattle.note.specs.Rules.{ThresholdsAsked, TriggerRatesAsked, VetoRatesAsked, MonitoringRuleAsked}
-use Rattle.note.specs.Readings.{seen_after, body_of, RecordAsked, MonitoringAsked, record_read, VersionParts, HeaderAsked, contents_read, ConfigurationAsked, EventParts, EventOwnAsked}
-use Rattle.note.proofs.BoolLaws.{Tells, le_tells, eq_tells, among_tells}
-use Rattle.note.proofs.AskedLaws.{Gives, no_more, asked, asked_where, asked_of_part, gives_alone, not_tells, gate, last_gate, answers}
+use Rattle.note.specs.Readings.{seen_after, body_of, RecordAsked, record_read, VersionParts, HeaderAsked, contents_read, ConfigurationAsked, EventParts, EventOwnAsked}
+use Rattle.note.proofs.BoolLaws.{Tells, le_tells, eq_tells}
+use Rattle.note.proofs.AskedLaws.{Gives, no_more, asked, asked_where, gives_alone, gate, last_gate, answers}
 use Rattle.note.proofs.RuleLaws.{phonon_rule_exact, charge_rule_exact, administrative_rule_exact, trace_rule_exact}
 use Rattle.note.proofs.RuleLaws.{history_rule_exact, trigger_rule_exact, tlb_rule_exact}
 use Rattle.note.proofs.GpsRuleLaws.{gps_rule_exact}
-use Rattle.note.proofs.MonitorRuleLaws.{thresholds_rule_exact, trigger_rates_rule_exact, veto_rates_rule_exact}
 use Rattle.note.proofs.WordRuleLaws.{word_gives, version_gives}
 use Rattle.note.proofs.PlaceLaws.{entry_kinds_exact, record_kinds_exact, all_kinds_exact, place_exact}
 
@@ -34,43 +29,43 @@ use Rattle.note.proofs.PlaceLaws.{entry_kinds_exact, record_kinds_exact, all_kin
 
 module _ (o : Order) (k : ℕ) (b : List ℕ) (c : ℕ) where
   -- A kind word stands for its number, and its rule gives what is asked.
-  at-kind : {Asked : ℕ → Type 0} (x : ℕ) → ((c : ℕ) → ((kind_of x).rule o b ≡ c) ↔ Asked c) → k ≡ x → ((kind_of k).rule o b ≡ c) ↔ Asked c
-  at-kind {Asked} x exact e = subst (λ (n : ℕ). ((kind_of n).rule o b ≡ c) ↔ Asked c) (sym e) (exact c)
+  at-kind : {Asked : ℕ → Type 0} (x : ℕ) → ((c : ℕ) → (record_rule o x b ≡ c) ↔ Asked c) → k ≡ x → (record_rule o k b ≡ c) ↔ Asked c
+  at-kind {Asked} x exact e = subst (λ (n : ℕ). (record_rule o n b ≡ c) ↔ Asked c) (sym e) (exact c)
 
-  phonon : k ≡ 0x00010001 → ((kind_of k).rule o b ≡ c) ↔ PhononAsked o b c
+  phonon : k ≡ 0x00010001 → (record_rule o k b ≡ c) ↔ PhononAsked o b c
   unfolding kind_of
   phonon = at-kind 0x00010001 (phonon_rule_exact o b)
 
-  charge : k ≡ 0x00010002 → ((kind_of k).rule o b ≡ c) ↔ ChargeAsked o b c
+  charge : k ≡ 0x00010002 → (record_rule o k b ≡ c) ↔ ChargeAsked o b c
   unfolding kind_of
   charge = at-kind 0x00010002 (charge_rule_exact o b)
 
-  administrative : k ≡ 0x02 → ((kind_of k).rule o b ≡ c) ↔ AdministrativeAsked o b c
+  administrative : k ≡ 0x02 → (record_rule o k b ≡ c) ↔ AdministrativeAsked o b c
   unfolding kind_of
   administrative = at-kind 0x02 (administrative_rule_exact o b)
 
-  trace : k ≡ 0x11 → ((kind_of k).rule o b ≡ c) ↔ TraceAsked o b c
+  trace : k ≡ 0x11 → (record_rule o k b ≡ c) ↔ TraceAsked o b c
   unfolding kind_of
   trace = at-kind 0x11 (trace_rule_exact o b)
 
-  history : k ≡ 0x21 → ((kind_of k).rule o b ≡ c) ↔ HistoryAsked o b c
+  history : k ≡ 0x21 → (record_rule o k b ≡ c) ↔ HistoryAsked o b c
   unfolding kind_of
   history = at-kind 0x21 (history_rule_exact o b)
 
-  gps : k ≡ 0x60 → ((kind_of k).rule o b ≡ c) ↔ GpsAsked o b c
+  gps : k ≡ 0x60 → (record_rule o k b ≡ c) ↔ GpsAsked o b c
   unfolding kind_of
   gps = at-kind 0x60 (gps_rule_exact o b)
 
-  trigger : k ≡ 0x80 → ((kind_of k).rule o b ≡ c) ↔ TriggerAsked o b c
+  trigger : k ≡ 0x80 → (record_rule o k b ≡ c) ↔ TriggerAsked o b c
   unfolding kind_of
   trigger = at-kind 0x80 (trigger_rule_exact o b)
 
-  tlb : k ≡ 0x81 → ((kind_of k).rule o b ≡ c) ↔ TlbAsked o b c
+  tlb : k ≡ 0x81 → (record_rule o k b ≡ c) ↔ TlbAsked o b c
   unfolding kind_of
   tlb = at-kind 0x81 (tlb_rule_exact o b)
 
   -- The rule of a listed kind gives what is asked of that kind's body.
-  pub rule_exact : IsEntryKind k ⊎ IsRecordKind k → ((kind_of k).rule o b ≡ c) ↔ RuleAsked o k b c
+  pub rule_exact : IsEntryKind k ⊎ IsRecordKind k → (record_rule o k b ≡ c) ↔ RuleAsked o k b c
   rule_exact listed = (
     λ h. ⊎_elim
         (⊎_elim (λ e. inl (e, (phonon e).0 h)) (λ e. inr (inl (e, (charge e).0 h))))
@@ -90,27 +85,18 @@ module _ (o : Order) (k : ℕ) (b : List ℕ) (c : ℕ) where
         λ g. (tlb g.0).1 g.1))))))),
   )
 
--- A body's fault is the record's.
-body-need : (n at k : ℕ) (b : List ℕ)
-    → bind {B = Record} (need n at (ok b)) (λ x. ok (record { word = k; body = x }))
-    ≡ need (first (n ∷ [])) at (ok (record { word = k; body = b }))
-unfolding first
-body-need zero at k b = refl
-body-need (suc n) at k b = refl
-
--- In any context outside monitoring events whose two tests tell these.
+-- In any context whose two tests tell these.
 module _ (o : Order) (c : Context) (Allowed Placed : ℕ → Type 0) (kinds : (k : ℕ) → Tells (is_kind c k) (Allowed k))
-    (places : (k : ℕ) → Allowed k → Tells (is_allowed c k) (Placed k)) (listed : (k : ℕ) → Allowed k → IsEntryKind k ⊎ IsRecordKind k)
-    (outside : in_monitoring c ≡ false) (five : (k : ℕ) → other_kind c k ≡ 5) where
-  tests : ℕ → ℕ → List ℕ → List ℕ
-  tests other rule bs =
+    (places : (k : ℕ) → Allowed k → Tells (is_allowed c k) (Placed k)) (listed : (k : ℕ) → Allowed k → IsEntryKind k ⊎ IsRecordKind k) where
+  tests : List ℕ → List ℕ
+  tests bs =
       unless (leb 8 (length bs)) 2 ∷
-      unless (is_kind c (word o 0 bs)) other ∷
+      unless (is_kind c (word o 0 bs)) 5 ∷
       unless (leb (8 + word o 4 bs) (length bs)) 2 ∷
       unless (is_allowed c (word o 0 bs)) 9 ∷
-      rule ∷ []
+      record_rule o (word o 0 bs) (body_of o bs) ∷ []
 
-  tests_give : (bs : List ℕ) → Gives (tests 5 ((kind_of (word o 0 bs)).rule o (body_of o bs)) bs) (RecordAsked o Allowed Placed bs)
+  tests_give : (bs : List ℕ) → Gives (tests bs) (RecordAsked o Allowed Placed bs)
   unfolding tests
   tests_give bs =
       asked (le_tells 8 (length bs)) (
@@ -119,98 +105,39 @@ module _ (o : Order) (c : Context) (Allowed Placed : ℕ → Type 0) (kinds : (k
       asked (places (word o 0 bs) a) (
       gives_alone (λ n. rule_exact o (word o 0 bs) (body_of o bs) n (listed (word o 0 bs) a))))))
 
+  -- A body's fault is the record's.
+  body-need : (n at k : ℕ) (b : List ℕ)
+      → bind {B = Record} (need n at (ok b)) (λ x. ok (record { word = k; body = x }))
+      ≡ need (first (n ∷ [])) at (ok (record { word = k; body = b }))
+  unfolding first
+  body-need zero at k b = refl
+  body-need (suc n) at k b = refl
+
   record_answers : (at : ℕ) (bs : List ℕ) → Answers (read_record o c at bs) at (RecordAsked o Allowed Placed bs) (record_read o bs)
   unfolding read_record tests
   record_answers at bs =
-      let k : ℕ = word o 0 bs in
-      let b : List ℕ = body_of o bs in
-      let same : tests (other_kind c k) (record_rule o c k b) bs ≡ tests 5 ((kind_of k).rule o b) bs =
-      ap₂ (λ (n r : ℕ). tests n r bs) (five k) (ap (λ (m : Bool). (kind_in m k).rule o b) outside) in
-      answers (tests 5 ((kind_of k).rule o b) bs) (tests_give bs) (
-      gate _ at _ _ (gate _ at _ _ (gate _ at _ _ (gate _ at _ _ (body-need (record_rule o c k b) at k b))))
-      ∙ ap (λ (ts : List ℕ). need (first ts) at (record_read o bs)) same)
+      answers (tests bs) (tests_give bs) (
+      gate _ at _ _ (gate _ at _ _ (gate _ at _ _ (gate _ at _ _
+      (body-need (record_rule o (word o 0 bs) (body_of o bs)) at (word o 0 bs) (body_of o bs))))))
 
 -- As an entry of a configuration, in an event after records of these kinds, and alone, as Record reads it: up to the end of the bytes, and
 -- nothing asked of what came before.
 pub entry_answers : (o : Order) (at : ℕ) (bs : List ℕ)
     → Answers (read_record o entry at bs) at (RecordAsked o IsEntryKind (λ k. Unit {0}) bs) (record_read o bs)
 unfolding is_allowed
-entry_answers o = record_answers o entry IsEntryKind (λ k. Unit {0}) entry_kinds_exact (λ k a. (λ e. tt, λ u. refl)) (λ k a. inl a) refl (λ k. refl)
+entry_answers o = record_answers o entry IsEntryKind (λ k. Unit {0}) entry_kinds_exact (λ k a. (λ e. tt, λ u. refl)) (λ k a. inl a)
 
 pub record_in_event_answers : (o : Order) (before : List ℕ) (at : ℕ) (bs : List ℕ)
     → Answers (read_record o (event (seen_after before)) at bs) at (RecordAsked o IsRecordKind (MayFollow before) bs) (record_read o bs)
 record_in_event_answers o before =
     let seen : Seen = seen_after before in
-    record_answers o (event seen) IsRecordKind (MayFollow before) (record_kinds_exact seen) (place_exact before) (λ k a. inr a) refl
-    (λ k. refl)
+    record_answers o (event seen) IsRecordKind (MayFollow before) (record_kinds_exact seen) (place_exact before) (λ k a. inr a)
 
 pub record_alone_answers : (o : Order) (at : ℕ) (bs : List ℕ)
     → Answers (read_record o alone at bs) at (RecordAsked o (λ k. IsEntryKind k ⊎ IsRecordKind k) (λ k. Unit {0}) bs) (record_read o bs)
 unfolding is_allowed
 record_alone_answers o =
-    record_answers o alone (λ k. IsEntryKind k ⊎ IsRecordKind k) (λ k. Unit {0}) all_kinds_exact (λ k a. (λ e. tt, λ u. refl)) (λ k a. a) refl
-    (λ k. refl)
-
--- ---- a record in a monitoring event
-
-module _ (o : Order) (k : ℕ) (b : List ℕ) (c : ℕ) where
-  at-monitoring : {Asked : ℕ → Type 0} (x : ℕ) → ((c : ℕ) → ((monitoring_kind_of x).rule o b ≡ c) ↔ Asked c) → k ≡ x
-      → ((monitoring_kind_of k).rule o b ≡ c) ↔ Asked c
-  at-monitoring {Asked} x exact e = subst (λ (n : ℕ). ((monitoring_kind_of n).rule o b ≡ c) ↔ Asked c) (sym e) (exact c)
-
-  thresholds : k ≡ 0x21 → ((monitoring_kind_of k).rule o b ≡ c) ↔ ThresholdsAsked o b c
-  unfolding monitoring_kind_of
-  thresholds = at-monitoring 0x21 (thresholds_rule_exact o b)
-
-  trigger_rates : k ≡ 0x22 → ((monitoring_kind_of k).rule o b ≡ c) ↔ TriggerRatesAsked o b c
-  unfolding monitoring_kind_of
-  trigger_rates = at-monitoring 0x22 (trigger_rates_rule_exact o b)
-
-  veto_rates : k ≡ 0x31 → ((monitoring_kind_of k).rule o b ≡ c) ↔ VetoRatesAsked o b c
-  unfolding monitoring_kind_of
-  veto_rates = at-monitoring 0x31 (veto_rates_rule_exact o b)
-
-  pub monitoring_rule_exact : IsMonitoringKind k → ((monitoring_kind_of k).rule o b ≡ c) ↔ MonitoringRuleAsked o k b c
-  monitoring_rule_exact listed = (
-    λ h. ⊎_elim (λ e. inl (e, (thresholds e).0 h)) (λ r. inr (
-        ⊎_elim (λ e. inl (e, (trigger_rates e).0 h)) (λ e. inr (e, (veto_rates e).0 h)) r)) listed,
-    ⊎_elim (λ g. (thresholds g.0).1 g.1) (⊎_elim (λ g. (trigger_rates g.0).1 g.1) (λ g. (veto_rates g.0).1 g.1)),
-  )
-
--- One test with two numbers is two tests: first whether the kind has no layout, then whether it is one of the three.
-two_tests : (a b : Bool) → (a ≡ true → b ≡ false) → unless a (cond b 8 5) ≡ first (unless (not b) 8 ∷ unless a 5 ∷ [])
-unfolding first
-two_tests true true h = absurd (false≢true (sym (h refl)))
-two_tests true false h = refl
-two_tests false true h = refl
-two_tests false false h = refl
-
-two-asked : {a b : Bool} {cs : List ℕ} {rest : ℕ → Type 0} → (a ≡ true → b ≡ false) → Gives (unless (not b) 8 ∷ unless a 5 ∷ cs) rest
-    → Gives (unless a (cond b 8 5) ∷ cs) rest
-two-asked {a} {b} {cs} {rest} h given = subst (λ (n : ℕ). Gives (n ∷ cs) rest) (sym (two_tests a b h)) (asked_of_part (_ ∷ _ ∷ []) given)
-
--- None of the three is without a layout.
-laid_out : (k : ℕ) → among k monitoring_kinds ≡ true → among k kinds_without_layout ≡ false
-laid_out k e = ⊎_elim (λ q. rw q) (⊎_elim (λ q. rw q) (⊎_elim (λ q. rw q) (λ h. absurd h))) ((among_tells monitoring_kinds k).0 e)
-
-pub monitoring_answers : (o : Order) (at : ℕ) (bs : List ℕ)
-    → Answers (read_record o monitoring at bs) at (MonitoringAsked o bs) (record_read o bs)
-unfolding read_record is_kind is_allowed
-monitoring_answers o at bs =
-    let k : ℕ = word o 0 bs in
-    let kinds : Tells (among k monitoring_kinds) (IsMonitoringKind k) =
-    Iff.trans (among_tells monitoring_kinds k) (
-      ⊎_elim inl (λ r. inr (⊎_elim inl (λ s. inr (⊎_elim (λ e. e) (λ h. absurd h) s)) r)),
-      ⊎_elim inl (λ r. inr (⊎_elim inl (λ s. inr (inl s)) r)),
-    ) in
-    answers (_ ∷ _ ∷ _ ∷ _ ∷ []) (
-    asked (le_tells 8 (length bs)) (
-    two-asked (laid_out k) (
-    asked (not_tells (among_tells kinds_without_layout k)) (
-    asked_where kinds (λ a.
-    asked (le_tells (8 + word o 4 bs) (length bs)) (
-    gives_alone (λ n. monitoring_rule_exact o k (body_of o bs) n a))))))) (
-    gate _ at _ _ (gate _ at _ _ (gate _ at _ _ (body-need ((monitoring_kind_of k).rule o (body_of o bs)) at k (body_of o bs)))))
+    record_answers o alone (λ k. IsEntryKind k ⊎ IsRecordKind k) (λ k. Unit {0}) all_kinds_exact (λ k a. (λ e. tt, λ u. refl)) (λ k a. a)
 
 -- ---- the header and the containers
 
@@ -231,7 +158,7 @@ configuration_answers o at bs =
     gate _ at _ _ (gate _ at _ _ (last_gate _ at (contents_read o entry at bs))))
 
 pub event_answers : (o : Order) (at : ℕ) (bs : List ℕ) (mark class category type : ℕ) → EventParts (word o 0 bs) mark class category type
-    → Answers (read_event o at bs) at (EventOwnAsked o mark class category type bs) (contents_read o (event_context (word o 0 bs)) at bs)
+    → Answers (read_event o at bs) at (EventOwnAsked o mark class category type bs) (contents_read o (event unseen) at bs)
 unfolding read_event
 event_answers o at bs mark class category type p =
     answers (_ ∷ _ ∷ _ ∷ _ ∷ []) (
@@ -239,4 +166,4 @@ event_answers o at bs mark class category type p =
     word_gives (word o 0 bs) mark class category type p (
     asked (le_tells (8 + word o 4 bs) (length bs)) (
     asked (le_tells 1 (word o 4 bs)) no_more)))) (
-    gate _ at _ _ (gate _ at _ _ (gate _ at _ _ (last_gate _ at (contents_read o (event_context (word o 0 bs)) at bs)))))
+    gate _ at _ _ (gate _ at _ _ (gate _ at _ _ (last_gate _ at (contents_read o (event unseen) at bs)))))

@@ -15,12 +15,9 @@ use Rattle.note.specs.History.{Section, History, section_rule, history_rule, sec
 use Rattle.note.specs.Gps.{Gps, gps_fault, gps_rule}
 use Rattle.note.specs.Trigger.{trigger_rule}
 use Rattle.note.specs.Tlb.{Tlb, tlb_fault, tlb_rule}
-use Rattle.note.specs.Thresholds.{Thresholds, thresholds_fault, thresholds_rule}
-use Rattle.note.specs.TriggerRates.{TriggerRates, trigger_rates_fault, trigger_rates_rule}
-use Rattle.note.specs.VetoRates.{VetoRates, veto_rates_fault, veto_rates_rule}
 use Rattle.note.specs.Events.{event_fault, event_word_rule}
-use Rattle.note.specs.Records.{entry_kinds, kind_of, monitoring_kind_of}
-use Rattle.note.proofs.KindCases.{kind_cases, monitoring_cases}
+use Rattle.note.specs.Records.{entry_kinds, record_rule}
+use Rattle.note.proofs.KindCases.{kind_cases}
 
 -- ---- the fields of each kind, as a writer asks them
 
@@ -96,32 +93,8 @@ tlb_rule_numbers : (o : Order) (b : List ℕ) → Numbered (6 ∷ 10 ∷ []) (tl
 unfolding tlb_rule tlb_fault
 tlb_rule_numbers o b = search (first-numbered, unless-numbered) depth 20 fits 4000
 
-pub thresholds_fault_numbers : (o : Order) (f : Thresholds) → Numbered (6 ∷ 10 ∷ []) (thresholds_fault o f)
-unfolding thresholds_fault
-thresholds_fault_numbers o f = search (first-numbered, unless-numbered) depth 20 fits 4000
-
-pub trigger_rates_fault_numbers : (o : Order) (f : TriggerRates) → Numbered (6 ∷ 10 ∷ []) (trigger_rates_fault o f)
-unfolding trigger_rates_fault
-trigger_rates_fault_numbers o f = search (first-numbered, unless-numbered) depth 20 fits 4000
-
-pub veto_rates_fault_numbers : (o : Order) (f : VetoRates) → Numbered (6 ∷ 10 ∷ []) (veto_rates_fault o f)
-unfolding veto_rates_fault
-veto_rates_fault_numbers o f = search (first-numbered, unless-numbered) depth 20 fits 4000
-
-thresholds_rule_numbers : (o : Order) (b : List ℕ) → Numbered (6 ∷ 10 ∷ []) (thresholds_rule o b)
-unfolding thresholds_rule thresholds_fault
-thresholds_rule_numbers o b = search (first-numbered, unless-numbered) depth 20 fits 4000
-
-trigger_rates_rule_numbers : (o : Order) (b : List ℕ) → Numbered (6 ∷ 10 ∷ []) (trigger_rates_rule o b)
-unfolding trigger_rates_rule trigger_rates_fault
-trigger_rates_rule_numbers o b = search (first-numbered, unless-numbered) depth 20 fits 4000
-
-veto_rates_rule_numbers : (o : Order) (b : List ℕ) → Numbered (6 ∷ 10 ∷ []) (veto_rates_rule o b)
-unfolding veto_rates_rule veto_rates_fault
-veto_rates_rule_numbers o b = search (first-numbered, unless-numbered) depth 20 fits 4000
-
--- Of any kind word; of an entry's and of a monitoring event's, where no count of samples is asked, so no 11. What no kind word names says 5.
-pub rule_numbers : (o : Order) (k : ℕ) (b : List ℕ) → Numbered (5 ∷ 6 ∷ 10 ∷ 11 ∷ []) ((kind_of k).rule o b)
+-- Of any kind word; of an entry's, where no count of samples is asked, so no 11. What no kind word names says 5.
+pub rule_numbers : (o : Order) (k : ℕ) (b : List ℕ) → Numbered (5 ∷ 6 ∷ 10 ∷ 11 ∷ []) (record_rule o k b)
 rule_numbers o k =
     let wide : (rule : List ℕ → ℕ) → ((b : List ℕ) → Numbered (6 ∷ 10 ∷ []) (rule b)) → (b : List ℕ) → Numbered (5 ∷ 6 ∷ 10 ∷ 11 ∷ []) (rule b) =
     λ rule h b. numbered_wider (6 ∷ 10 ∷ []) (5 ∷ 6 ∷ 10 ∷ 11 ∷ []) (rule b) refl (h b) in
@@ -131,7 +104,7 @@ rule_numbers o k =
     (wide (gps_rule o) (gps_rule_numbers o)) (wide (trigger_rule o) (trigger_rule_numbers o))
     (wide (tlb_rule o) (tlb_rule_numbers o)) (λ b. one-numbered _ 5 refl)
 
-pub entry_rule_numbers : (o : Order) (k : ℕ) (b : List ℕ) → among k entry_kinds ≡ true → Numbered (5 ∷ 6 ∷ 10 ∷ []) ((kind_of k).rule o b)
+pub entry_rule_numbers : (o : Order) (k : ℕ) (b : List ℕ) → among k entry_kinds ≡ true → Numbered (5 ∷ 6 ∷ 10 ∷ []) (record_rule o k b)
 entry_rule_numbers o k b =
     let wide : (c : ℕ) → Numbered (6 ∷ 10 ∷ []) c → Numbered (5 ∷ 6 ∷ 10 ∷ []) c = λ c. numbered_wider (6 ∷ 10 ∷ []) _ c refl in
     kind_cases (λ w x. among w entry_kinds ≡ true → Numbered (5 ∷ 6 ∷ 10 ∷ []) (x.rule o b)) k
@@ -139,18 +112,12 @@ entry_rule_numbers o k b =
     (λ e. absurd (false≢true e)) (λ e. absurd (false≢true e)) (λ e. absurd (false≢true e)) (λ e. absurd (false≢true e))
     (λ e. absurd (false≢true e)) (λ e. absurd (false≢true e)) (λ e. one-numbered _ 5 refl)
 
-pub monitoring_rule_numbers : (o : Order) (k : ℕ) (b : List ℕ) → Numbered (5 ∷ 6 ∷ 10 ∷ []) ((monitoring_kind_of k).rule o b)
-monitoring_rule_numbers o k b =
-    let wide : (c : ℕ) → Numbered (6 ∷ 10 ∷ []) c → Numbered (5 ∷ 6 ∷ 10 ∷ []) c = λ c. numbered_wider (6 ∷ 10 ∷ []) _ c refl in
-    monitoring_cases (λ w x. Numbered (5 ∷ 6 ∷ 10 ∷ []) (x.rule o b)) k
-    (wide _ (thresholds_rule_numbers o b)) (wide _ (trigger_rates_rule_numbers o b)) (wide _ (veto_rates_rule_numbers o b)) (one-numbered _ 5 refl)
-
 -- ---- an event's first word, as a writer and as a reader asks it
 
-pub event_fault_numbers : (class category type : ℕ) → Numbered (7 ∷ []) (event_fault class category type)
+pub event_fault_numbers : (class category type : ℕ) → Numbered (7 ∷ 8 ∷ []) (event_fault class category type)
 unfolding event_fault
 event_fault_numbers class category type = search (first-numbered, unless-numbered) depth 9
 
-pub event_word_numbers : (w : ℕ) → Numbered (5 ∷ 7 ∷ []) (event_word_rule w)
+pub event_word_numbers : (w : ℕ) → Numbered (5 ∷ 7 ∷ 8 ∷ []) (event_word_rule w)
 unfolding event_word_rule event_fault
 event_word_numbers w = search (first-numbered, unless-numbered) depth 12

@@ -35,11 +35,12 @@ pub event_gives : (class category type : ℕ) {ds : List ℕ} {rest : ℕ → Ty
     → Gives (event_fault class category type ∷ ds) (EventAsked class category type rest)
 unfolding event_fault
 event_gives class category type given =
-    asked_of_part (_ ∷ _ ∷ _ ∷ []) (
+    asked_of_part (_ ∷ _ ∷ _ ∷ _ ∷ []) (
     asked (among_tells (0 ∷ 2 ∷ []) class) (
     asked (among_tells (0 ∷ 1 ∷ 6 ∷ []) category) (
-    asked (le_tells type 10)
-    given)))
+    asked (le_tells type 10) (
+    asked (not_tells (eq_tells type 7))
+    given))))
 
 pub event_fault_exact : (class category type c : ℕ) → (event_fault class category type ≡ c) ↔ EventAsked class category type fine c
 event_fault_exact class category type = alone_gives (event_gives class category type no_more)

@@ -55,12 +55,6 @@ given_record (Record.Gps year day status hour minute second tenths) =
     accepted (count 9 ∷ counts (year ∷ day ∷ status ∷ hour ∷ minute ∷ second ∷ tenths ∷ []))
 given_record (Record.Trigger m1 m2 m3 m4 m5 m6) = accepted (count 10 ∷ counts (m1 ∷ m2 ∷ m3 ∷ m4 ∷ m5 ∷ m6 ∷ []))
 given_record (Record.Tlb t1 t2 t3 t4 t5 t6) = accepted (count 11 ∷ counts (t1 ∷ t2 ∷ t3 ∷ t4 ∷ t5 ∷ t6 ∷ []))
-given_record (Record.Thresholds minimum maximum range tower codes_at operations_at values_at) =
-    accepted (count 12 ∷ counts (minimum ∷ maximum ∷ range ∷ tower ∷ codes_at ∷ operations_at ∷ values_at ∷ []))
-given_record (Record.TriggerRates interval tower codes_at lines_at counters_at) =
-    accepted (count 13 ∷ counts (interval ∷ tower ∷ codes_at ∷ lines_at ∷ counters_at ∷ []))
-given_record (Record.VetoRates interval entries codes_at counters_at) =
-    accepted (count 14 ∷ counts (interval ∷ entries ∷ codes_at ∷ counters_at ∷ []))
 given_record (Record.Refused number place) = refused number place
 
 -- FORMAT 8.6: Setting's answer: the row kind, then the words in order, those stored times 100 as floats.

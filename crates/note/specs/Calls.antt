@@ -1,6 +1,6 @@
 -- The calls that ask for one thing. Record, Setting, Samples and a sample by number start from what is read at the place asked as if nothing stood
 -- around it, Find from the whole file. Each definition takes what was read, and says what is given for it.
-use Rattle.std.specs.Prelude.{ℕ, ◌+◌, ◌-◌, Bool, false, cond, ◌&&◌, List, [], ◌∷◌, ◌++◌, leb, eqb, Float, ℤ, pos, length, take, drop}
+use Rattle.std.specs.Prelude.{ℕ, ◌+◌, ◌-◌, Bool, cond, ◌&&◌, List, [], ◌∷◌, ◌++◌, leb, eqb, Float, ℤ, pos, length, take, drop}
 use Rattle.std.specs.Float.{binary64}
 use Rattle.std.specs.Float.Ieee.{div, of_int}
 use Rattle.theory.specs.declared.Order.{Order}
@@ -13,22 +13,22 @@ use Rattle.note.specs.Phonon.{Phonon, phonon_kind, phonon_of}
 use Rattle.note.specs.Charge.{Charge, charge_kind, charge_of}
 use Rattle.note.specs.Administrative.{administrative_of}
 use Rattle.note.specs.Trace.{trace_kind, trace_of, sample_in}
-use Rattle.note.specs.Records.{Record, record_size, told, read_record, kind_in}
-use Rattle.note.specs.Events.{Container, container_size, is_monitoring}
+use Rattle.note.specs.Records.{Record, record_size, alone, read_record, kind_of}
+use Rattle.note.specs.Events.{Container, container_size}
 use Rattle.note.specs.Files.{File, order_in, configuration_of, events_of, read_file}
 
--- FORMAT 8.5: what is read at a place, told whether that is in a monitoring event: its parent is all that is lent, and nothing else is asked that
--- only an event asks. Over the limit 1 at 0; past the end there are no bytes, so 2 at that very place.
-unfoldable pub record_found : Order → Bool → List ℕ → ℕ → Res Record
-record_found o m bs place = need (unless (leb (length bs) file_limit) too_large) 0 (read_record o (told m) place (drop place bs))
+-- FORMAT 8.5: what is read at a place: its parent is all that is lent, and nothing is asked that only an event asks. Over the limit 1 at 0; past
+-- the end there are no bytes, so 2 at that very place.
+unfoldable pub record_found : Order → List ℕ → ℕ → Res Record
+record_found o bs place = need (unless (leb (length bs) file_limit) too_large) 0 (read_record o alone place (drop place bs))
 
 -- FORMAT 8.5: Record's answer: the row kind and the kind's values; or the refusal.
-abbrev pub record_given : Order → Bool → ℕ → Res Record → Given
-record_given o m place (bad c p) = refused c p
-record_given o m place (ok r) = accepted (count (kind_in m r.word).row ∷ (kind_in m r.word).values o place r.body)
+abbrev pub record_given : Order → ℕ → Res Record → Given
+record_given o place (bad c p) = refused c p
+record_given o place (ok r) = accepted (count (kind_of r.word).row ∷ (kind_of r.word).values o place r.body)
 
-unfoldable pub record_at : Order → Bool → List ℕ → ℕ → Given
-record_at o m bs place = record_given o m place (record_found o m bs place)
+unfoldable pub record_at : Order → List ℕ → ℕ → Given
+record_at o bs place = record_given o place (record_found o bs place)
 
 -- FORMAT 8.6: a word stored times 100 in working units: the quotient by 100 as a 64-bit float, with a single rounding.
 unfoldable pub hundredth : ℤ → Float
@@ -48,7 +48,7 @@ charge_setting f =
     float (hundredth f.gain) ∷
     wholes (f.bias ∷ f.rtf_offset ∷ f.delta_t ∷ f.t0 ∷ f.trace_length ∷ [])
 
--- FORMAT 8.6: Setting's answer, read as outside a monitoring event: after Record's refusals 5, at the place, for a record of an event.
+-- FORMAT 8.6: Setting's answer: after Record's refusals 5, at the place, for a record of an event.
 abbrev pub setting_given : Order → ℕ → Res Record → Given
 setting_given o place (bad c p) = refused c p
 setting_given o place (ok r) =
@@ -57,20 +57,20 @@ setting_given o place (ok r) =
     (refused wrong_kind place))
 
 unfoldable pub setting_at : Order → List ℕ → ℕ → Given
-setting_at o bs place = setting_given o place (record_found o false bs place)
+setting_at o bs place = setting_given o place (record_found o bs place)
 
 -- FORMAT 8.7: a trace, among records.
 abbrev pub is_trace : Record → Bool
 is_trace r = eqb r.word trace_kind.word
 
 -- FORMAT 8.7: where the samples of a trace found at the place start in the lent bytes, and how many bytes they are; none where no trace is found.
--- Then those bytes. No trace stands in a monitoring event.
+-- Then those bytes.
 abbrev pub part_given : ℕ → Res Record → ℕ × ℕ
 part_given place (bad c p) = (0, 0)
 part_given place (ok r) = cond (is_trace r) (place + 56, length r.body - 48) (0, 0)
 
 unfoldable pub samples_part : Order → List ℕ → ℕ → ℕ × ℕ
-samples_part o bs place = part_given place (record_found o false bs place)
+samples_part o bs place = part_given place (record_found o bs place)
 
 unfoldable pub samples_at : Order → List ℕ → ℕ → List ℕ
 samples_at o bs place = take (samples_part o bs place).1 (drop (samples_part o bs place).0 bs)
@@ -86,7 +86,7 @@ sample_given o place k (ok r) =
     (refused wrong_kind place)
 
 unfoldable pub sample_at : Order → List ℕ → ℕ → ℕ → Given
-sample_at o bs place k = sample_given o place k (record_found o false bs place)
+sample_at o bs place k = sample_given o place k (record_found o bs place)
 
 -- FORMAT 8.8: a trace of a file: the number that its event carries, its code, its place.
 pub record TraceAt : Type 0 where
@@ -98,8 +98,8 @@ pub record TraceAt : Type 0 where
 abbrev pub kept_if : Bool → TraceAt → List TraceAt → List TraceAt
 kept_if keep t ts = cond keep (t ∷ ts) ts
 
--- FORMAT 8.8: the traces among an event's records from the place `at` on; of an event; among events; of a file. An event carries the number of its
--- administrative record, which is its first; a monitoring event carries none and has no trace.
+-- FORMAT 8.8: the traces among an event's records from the place `at` on; among events; of a file. An event carries the number of its
+-- administrative record, which is its first.
 unfoldable pub traces_in : Order → ℕ → ℕ → List Record → List TraceAt
 traces_in o number at [] = []
 traces_in o number at (r ∷ rs) =
@@ -109,12 +109,9 @@ abbrev pub event_number : Order → List Record → ℕ
 event_number o [] = 0
 event_number o (r ∷ rs) = (administrative_of o r.body).number
 
-abbrev pub event_traces : Order → ℕ → Container → List TraceAt
-event_traces o at e = cond (is_monitoring e.word) [] (traces_in o (event_number o e.body) (at + 8) e.body)
-
 unfoldable pub traces_from : Order → ℕ → List Container → List TraceAt
 traces_from o at [] = []
-traces_from o at (e ∷ es) = event_traces o at e ++ traces_from o (at + container_size o e) es
+traces_from o at (e ∷ es) = traces_in o (event_number o e.body) (at + 8) e.body ++ traces_from o (at + container_size o e) es
 
 unfoldable pub traces_of : File → List TraceAt
 traces_of f = traces_from (order_in f) (8 + container_size (order_in f) (configuration_of f)) (events_of f)

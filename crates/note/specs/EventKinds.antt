@@ -1,7 +1,6 @@
 -- Which kinds stand in an event and in a configuration, and in which order, by counting kind words. A reader keeps in mind what came before
 -- (Records); here the same is said of the whole list at once, and proofs/PlaceLaws.antt shows that both are one.
 use Rattle.std.specs.Prelude.{ℕ, ◌+◌, ◌≤◌, ◌≡◌, ◌⊎◌, ◌≢◌, cond, List, [], ◌∷◌, eqb}
-use Rattle.note.specs.Asked.{OneOf}
 
 -- FORMAT 6.1: the kind words: phonon and charge entries; administrative, trace, history, GPS, trigger and TLB records.
 abbrev pub IsEntryKind : ℕ → Type 0
@@ -9,13 +8,6 @@ IsEntryKind k = (k ≡ 0x00010001) ⊎ (k ≡ 0x00010002)
 
 abbrev pub IsRecordKind : ℕ → Type 0
 IsRecordKind k = (k ≡ 0x02) ⊎ ((k ≡ 0x11) ⊎ ((k ≡ 0x21) ⊎ ((k ≡ 0x60) ⊎ ((k ≡ 0x80) ⊎ (k ≡ 0x81)))))
-
--- FORMAT 6.1: the kind words of a monitoring event's records: thresholds, trigger rates, veto rates; and those without a layout.
-abbrev pub IsMonitoringKind : ℕ → Type 0
-IsMonitoringKind k = (k ≡ 0x21) ⊎ ((k ≡ 0x22) ⊎ (k ≡ 0x31))
-
-abbrev pub HasNoLayout : ℕ → Type 0
-HasNoLayout k = OneOf (0x00 ∷ 0x10 ∷ 0x20 ∷ 0x30 ∷ 0x32 ∷ 0x40 ∷ 0x50 ∷ 0xF0 ∷ []) k
 
 -- FORMAT 6.2: how often k occurs.
 abbrev pub occurs : ℕ → List ℕ → ℕ

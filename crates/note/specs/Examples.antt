@@ -95,7 +95,7 @@ examples =
     ∷ gps 0x20050320 0x00111526 0x10000000 10
     ∷ two_samples (0x02 ∷ 0x01 ∷ 0x04 ∷ 0x03 ∷ []) 0x0102 0x0304  -- P11
     ∷ listed [] ((2 ∷ 0 ∷ 0 ∷ []) ∷ [])  -- P12
-    ∷ listed (file_with (0xA9800007 ∷ 0 ∷ [])) ((9 ∷ 0 ∷ 16 ∷ []) ∷ [])  -- P13, as a monitoring event may not be empty
+    ∷ listed (file_with (0xA9800007 ∷ 0 ∷ [])) ((8 ∷ 0 ∷ 16 ∷ []) ∷ [])  -- P13
     ∷ listed (file_with (0xA9801007 ∷ 0 ∷ [])) ((7 ∷ 0 ∷ 16 ∷ []) ∷ [])
     ∷ listed p14 ( -- P14
     (0 ∷ 5 ∷ 88 ∷ []) ∷

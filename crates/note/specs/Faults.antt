@@ -29,9 +29,9 @@ wrong_length = 6
 abbrev pub not_admitted : ℕ
 not_admitted = 7
 
--- FORMAT 2.1: a kind of monitoring events whose layout isn't known.
-abbrev pub no_layout : ℕ
-no_layout = 8
+-- FORMAT 2.1: an event of type 7, a monitoring event.
+abbrev pub monitoring : ℕ
+monitoring = 8
 
 -- FORMAT 2.1: an event is empty, its first record isn't administrative, or a kind comes a second time.
 abbrev pub misplaced : ℕ

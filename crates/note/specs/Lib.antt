@@ -12,10 +12,6 @@ pub mod History
 pub mod Gps
 pub mod Trigger
 pub mod Tlb
-pub mod MonitorCodes
-pub mod Thresholds
-pub mod TriggerRates
-pub mod VetoRates
 pub mod Records
 pub mod Events
 pub mod Files

@@ -36,10 +36,6 @@ plain_value o b p = whole (signed (word o p b))
 abbrev pub child_from : Order → List ℕ → ℕ → ℕ → ℕ → Child
 child_from o b kind p q = record { kind = kind; size = 8 + length b; one = word o p b; two = word o q b }
 
--- FORMAT 7.2, a second time: the same of a record whose second value is 0.
-abbrev pub child_of_one : Order → List ℕ → ℕ → ℕ → Child
-child_of_one o b kind p = record { kind = kind; size = 8 + length b; one = word o p b; two = 0 }
-
 -- ---- a history's sections
 
 -- FORMAT 5.3, a second time: a section whose count stands at the place p of the body has n times behind it, then its width w, then n x w masks.

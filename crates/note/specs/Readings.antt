@@ -7,8 +7,7 @@ use Rattle.note.specs.Asked.{asks, fine, OneOf}
 use Rattle.note.specs.Words.{word}
 use Rattle.note.specs.Records.{Record, Seen, Context, read_records}
 use Rattle.note.specs.Events.{Container}
-use Rattle.note.specs.EventKinds.{IsMonitoringKind, HasNoLayout}
-use Rattle.note.specs.Rules.{RuleAsked, MonitoringRuleAsked}
+use Rattle.note.specs.Rules.{RuleAsked}
 
 -- ---- a record or an entry
 
@@ -39,15 +38,6 @@ RecordAsked o Allowed Placed bs =
     asks (8 + word o 4 bs ≤ length bs) 2 (
     asks (Placed (word o 0 bs)) 9 (
     RuleAsked o (word o 0 bs) (body_of o bs)))))
-
--- FORMAT 6.1, a second time: a record at the front of bs in a monitoring event: 8 for a kind without a layout, 5 for any other but the three.
-abbrev pub MonitoringAsked : Order → List ℕ → ℕ → Type 0
-MonitoringAsked o bs =
-    asks (8 ≤ length bs) 2 (
-    asks (HasNoLayout (word o 0 bs) → ⊥) 8 (
-    asks (IsMonitoringKind (word o 0 bs)) 5 (
-    asks (8 + word o 4 bs ≤ length bs) 2 (
-    MonitoringRuleAsked o (word o 0 bs) (body_of o bs)))))
 
 -- FORMAT 6.1, a second time: what is read then.
 abbrev pub record_read : Order → List ℕ → Res Record
@@ -87,13 +77,14 @@ pub record EventParts (w mark class category type : ℕ) : Type 0 where
   pub category-bits : category < 16
   pub type-bits : type < 256
 
--- FORMAT 6.2, a second time: what is asked of class, category and type before the rest: 7 for each that isn't admitted.
+-- FORMAT 6.2, a second time: what is asked of class, category and type before the rest: 7 for each that isn't admitted, then 8 for type 7.
 abbrev pub EventAsked : ℕ → ℕ → ℕ → (ℕ → Type 0) → ℕ → Type 0
 EventAsked class category type rest =
     asks (OneOf (0 ∷ 2 ∷ []) class) 7 (
     asks (OneOf (0 ∷ 1 ∷ 6 ∷ []) category) 7 (
-    asks (type ≤ 10) 7
-    rest))
+    asks (type ≤ 10) 7 (
+    asks (type ≡ 7 → ⊥) 8
+    rest)))
 
 -- FORMAT 6.2, a second time: an event at the front of bs, its first word having these parts: room, 0xA980, class, category and type, its length
 -- against the rest, an empty one.

@@ -1,11 +1,11 @@
--- One record or entry where it stands, and records one behind the other. There are four contexts, and they differ in what may stand there and in
--- what a kind word means: a configuration's entry; an event's record, with what came before it in mind; a monitoring event's record; a record or
--- entry that a call reads alone, of which it knows no surroundings. One reader is handed the context, so that a record reads the same wherever it is.
+-- One record or entry where it stands, and records one behind the other. There are three contexts, and they differ in what may stand there: a
+-- configuration's entry; an event's record, with what came before it in mind; a record or entry that a call reads alone, of which it knows no
+-- surroundings. One reader is handed the context, so that a record reads the same in all three.
 use Rattle.std.specs.Prelude.{ℕ, Bool, true, false, not, cond, ◌&&◌, ◌||◌, List, [], ◌∷◌, map, eqb, length}
 use Rattle.theory.specs.declared.Order.{Order}
 use Rattle.theory.specs.Tests.{Res, ok, need, unless, among}
 use Rattle.theory.specs.Structures.{Structure, read_structure, structure_bytes, structure_size, read_sequence, sequence_bytes}
-use Rattle.note.specs.Faults.{too_short, wrong_kind, no_layout, misplaced}
+use Rattle.note.specs.Faults.{too_short, wrong_kind, misplaced}
 use Rattle.note.specs.Kinds.{Kind}
 use Rattle.note.specs.Phonon.{phonon_kind}
 use Rattle.note.specs.Charge.{charge_kind}
@@ -15,9 +15,6 @@ use Rattle.note.specs.History.{history_kind}
 use Rattle.note.specs.Gps.{gps_kind}
 use Rattle.note.specs.Trigger.{trigger_kind}
 use Rattle.note.specs.Tlb.{tlb_kind}
-use Rattle.note.specs.Thresholds.{thresholds_kind}
-use Rattle.note.specs.TriggerRates.{trigger_rates_kind}
-use Rattle.note.specs.VetoRates.{veto_rates_kind}
 
 -- FORMAT 6.1: the kind words of the two entries, 0x00010001 and 0x00010002, and of the six records, 0x02, 0x11, 0x21, 0x60, 0x80 and 0x81.
 abbrev pub entry_kinds : List ℕ
@@ -26,18 +23,11 @@ entry_kinds = map (λ (k : Kind). k.word) (phonon_kind ∷ charge_kind ∷ [])
 abbrev pub record_kinds : List ℕ
 record_kinds = map (λ (k : Kind). k.word) (administrative_kind ∷ trace_kind ∷ history_kind ∷ gps_kind ∷ trigger_kind ∷ tlb_kind ∷ [])
 
--- FORMAT 6.1: the kind words of a monitoring event's records: 0x21, 0x22 and 0x31; and those that the note names there without a layout.
-abbrev pub monitoring_kinds : List ℕ
-monitoring_kinds = map (λ (k : Kind). k.word) (thresholds_kind ∷ trigger_rates_kind ∷ veto_rates_kind ∷ [])
-
-abbrev pub kinds_without_layout : List ℕ
-kinds_without_layout = 0x00 ∷ 0x10 ∷ 0x20 ∷ 0x30 ∷ 0x32 ∷ 0x40 ∷ 0x50 ∷ 0xF0 ∷ []
-
 -- FORMAT 6.1: what no kind word names. No structure of it is ever read.
 abbrev pub unknown_kind : Kind
 unknown_kind = record { word = 0; row = 0; rule = λ o b. wrong_kind; one = λ o b. 0; two = λ o b. 0; values = λ o place b. []; again = λ o b. [] }
 
--- FORMAT 6.1: the kind of a kind word, outside monitoring events.
+-- FORMAT 6.1: the kind of a kind word.
 unfoldable pub kind_of : ℕ → Kind
 kind_of k =
     cond (eqb k phonon_kind.word) phonon_kind
@@ -49,18 +39,6 @@ kind_of k =
     (cond (eqb k trigger_kind.word) trigger_kind
     (cond (eqb k tlb_kind.word) tlb_kind
     unknown_kind)))))))
-
--- FORMAT 6.1: the kind of a kind word in a monitoring event; then in either, where the Bool says whether it is one.
-unfoldable pub monitoring_kind_of : ℕ → Kind
-monitoring_kind_of k =
-    cond (eqb k thresholds_kind.word) thresholds_kind
-    (cond (eqb k trigger_rates_kind.word) trigger_rates_kind
-    (cond (eqb k veto_rates_kind.word) veto_rates_kind
-    unknown_kind))
-
-abbrev pub kind_in : Bool → ℕ → Kind
-kind_in false k = kind_of k
-kind_in true k = monitoring_kind_of k
 
 -- FORMAT 6.1: a record or an entry: its kind word and its body's bytes.
 abbrev pub Record : Type 0
@@ -83,41 +61,21 @@ pub record Seen : Type 0 where
 abbrev pub unseen : Seen
 unseen = record { administrative = false; history = false; gps = false; trigger = false; tlb = false }
 
--- FORMAT 6.1: where a record is read: as an entry of a configuration; in an event, after what came before; in a monitoring event, of which nothing
--- need be kept in mind; alone, where all that is lent is its parent.
+-- FORMAT 6.1: where a record is read: as an entry of a configuration; in an event, after what came before; alone, where all that is lent is its
+-- parent.
 pub data Context : Type 0 where
   entry : Context
   event : Seen → Context
-  monitoring : Context
   alone : Context
 
--- FORMAT 6.1: whether a kind word means there what it means in a monitoring event.
-abbrev pub in_monitoring : Context → Bool
-in_monitoring entry = false
-in_monitoring (event seen) = false
-in_monitoring monitoring = true
-in_monitoring alone = false
-
--- FORMAT 8.5: the context of a record that a call reads by its place, told whether it is in a monitoring event.
-abbrev pub told : Bool → Context
-told false = alone
-told true = monitoring
-
--- FORMAT 6.1: the kinds that may stand there; the number given for another.
+-- FORMAT 6.1: the kinds that may stand there; another is 5.
 unfoldable pub is_kind : Context → ℕ → Bool
 is_kind entry k = among k entry_kinds
 is_kind (event seen) k = among k record_kinds
-is_kind monitoring k = among k monitoring_kinds
 is_kind alone k = among k entry_kinds || among k record_kinds
 
-abbrev pub other_kind : Context → ℕ → ℕ
-other_kind entry k = wrong_kind
-other_kind (event seen) k = wrong_kind
-other_kind monitoring k = cond (among k kinds_without_layout) no_layout wrong_kind
-other_kind alone k = wrong_kind
-
 -- FORMAT 6.2: in an event the administrative record comes first, and no kind but trace comes a second time, or 9. In the other contexts any order
--- goes, and any kind may come again.
+-- goes.
 unfoldable pub is_placed : Seen → ℕ → Bool
 is_placed seen k =
     cond (eqb k administrative_kind.word) (not seen.administrative)
@@ -131,7 +89,6 @@ is_placed seen k =
 unfoldable pub is_allowed : Context → ℕ → Bool
 is_allowed entry k = true
 is_allowed (event seen) k = is_placed seen k
-is_allowed monitoring k = true
 is_allowed alone k = true
 
 -- FORMAT 6.2: what came before, with one record more.
@@ -147,22 +104,21 @@ noted seen k = record {
 unfoldable pub behind : Context → ℕ → Context
 behind entry k = entry
 behind (event seen) k = event (noted seen k)
-behind monitoring k = monitoring
 behind alone k = alone
 
--- FORMAT 6.1: a record's own tests among those of a structure (FORMAT 2.3): behind the room its kind, or 5 or 8; behind its length within the parent
--- its turn in the event, or 9; then its kind's rule, which asks for the length first.
+-- FORMAT 6.1: a record's own tests among those of a structure (FORMAT 2.3): behind the room its kind, or 5; behind its length within the parent its
+-- turn in the event, or 9; then its kind's rule, which asks for the length first.
 abbrev pub record_head : Context → ℕ → ℕ
-record_head c k = unless (is_kind c k) (other_kind c k)
+record_head c k = unless (is_kind c k) wrong_kind
 
 abbrev pub record_late : Context → ℕ → ℕ → ℕ
 record_late c k n = unless (is_allowed c k) misplaced
 
-abbrev pub record_rule : Order → Context → ℕ → List ℕ → ℕ
-record_rule o c k b = (kind_in (in_monitoring c) k).rule o b
+abbrev pub record_rule : Order → ℕ → List ℕ → ℕ
+record_rule o k b = (kind_of k).rule o b
 
 unfoldable pub read_record : Order → Context → ℕ → List ℕ → Res Record
-read_record o c at bs = read_structure o too_short (record_head c) (record_late c) (λ k at b. need (record_rule o c k b) at (ok b)) at bs
+read_record o c at bs = read_structure o too_short (record_head c) (record_late c) (λ k at b. need (record_rule o k b) at (ok b)) at bs
 
 -- FORMAT 6.1: records one behind the other up to the end of bs.
 abbrev pub next_context : Context → Record → Context

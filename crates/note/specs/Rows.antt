@@ -1,39 +1,34 @@
 -- The rows of a file, and the calls that give all of them: Table and the walker. Rows are the file's structures laid out from row 1 and byte 0
 -- (theory/specs/Layout). Each call is said of `rows_of`, so that both give the same rows.
-use Rattle.std.specs.Prelude.{ℕ, ◌+◌, ◌*◌, ◌%◌, Bool, false, cond, ◌||◌, List, [], ◌∷◌, ◌++◌, map, leb, eqb, ltb, length, drop}
+use Rattle.std.specs.Prelude.{ℕ, ◌+◌, ◌*◌, ◌%◌, Bool, cond, ◌||◌, List, [], ◌∷◌, ◌++◌, map, leb, eqb, ltb, length, drop}
 use Rattle.theory.specs.declared.Order.{Order}
 use Rattle.theory.specs.Tests.{Res, ok, bad}
 use Rattle.theory.specs.Layout.{Row, Child, Node, single, box, rows, row}
 use Rattle.note.specs.Faults.{few_rows}
 use Rattle.note.specs.Limits.{row_width}
 use Rattle.note.specs.Answers.{Given, accepted, refused, counts}
-use Rattle.note.specs.Records.{Record, record_size, kind_in}
-use Rattle.note.specs.Events.{Container, is_monitoring}
+use Rattle.note.specs.Records.{Record, record_size, kind_of}
+use Rattle.note.specs.Events.{Container}
 use Rattle.note.specs.Files.{File, order_in, version_of, configuration_of, events_of, read_file}
 use Rattle.note.specs.declared.TableAnswer.{TableAnswer}
 
--- FORMAT 7.2: what the row of a record or an entry says before it has a place: row kind and values are its kind's, which the event's type decides:
--- the Bool says whether it is a monitoring event's.
-unfoldable pub child_of : Order → Bool → Record → Child
-child_of o m r = record {
-  kind = (kind_in m r.word).row;
-  size = record_size r;
-  one = (kind_in m r.word).one o r.body;
-  two = (kind_in m r.word).two o r.body;
-}
+-- FORMAT 7.2: what the row of a record or an entry says before it has a place: row kind and values are its kind's.
+unfoldable pub child_of : Order → Record → Child
+child_of o r =
+    record { kind = (kind_of r.word).row; size = record_size r; one = (kind_of r.word).one o r.body; two = (kind_of r.word).two o r.body }
 
-abbrev pub children_of : Order → Bool → List Record → List Child
-children_of o m rs = map (child_of o m) rs
+abbrev pub children_of : Order → List Record → List Child
+children_of o rs = map (child_of o) rs
 
 -- FORMAT 7.2: the other rows: an event's has kind 5, the low half of its first word and how many records it has; the header's kind 1, the version
 -- word and 0; the configuration's kind 2, how many entries it has, and 0.
 abbrev pub event_node : Order → Container → Node
-event_node o e = box 5 (e.word % 65536) (length e.body) (children_of o (is_monitoring e.word) e.body)
+event_node o e = box 5 (e.word % 65536) (length e.body) (children_of o e.body)
 
 unfoldable pub nodes_of : File → List Node
 nodes_of f =
     single (record { kind = 1; size = 8; one = version_of f; two = 0 })
-    ∷ box 2 (length (configuration_of f).body) 0 (children_of (order_in f) false (configuration_of f).body)
+    ∷ box 2 (length (configuration_of f).body) 0 (children_of (order_in f) (configuration_of f).body)
     ∷ map (event_node (order_in f)) (events_of f)
 
 -- FORMAT 7.3: a file's rows, from row number 1 and byte 0 on: as the file has them, and a container before what it holds.

@@ -7,9 +7,6 @@ use Rattle.note.specs.Words.{word, words}
 use Rattle.note.specs.Trace.{Trace}
 use Rattle.note.specs.History.{Section}
 use Rattle.note.specs.Gps.{Gps}
-use Rattle.note.specs.Thresholds.{Thresholds}
-use Rattle.note.specs.TriggerRates.{TriggerRates}
-use Rattle.note.specs.VetoRates.{VetoRates}
 use Rattle.note.specs.ChannelTable.{channel_lines, phonon_lines, charge_lines, CodeListed}
 use Rattle.note.specs.Series.{ClockTime, SeriesDate}
 use Rattle.note.specs.Places.{times_in, width_in, section_end}
@@ -193,84 +190,9 @@ TlbAsked o b =
 abbrev pub BitSet : ℕ → ℕ → Type 0
 BitSet p w = (q : ℕ) × (r : ℕ) × (w ≡ (2 * q + 1) * p + r) × (r < p)
 
--- ---- the records of monitoring events
-
--- FORMAT 5.7, a second time: a detector code, by its digits, or the code of all of the veto; one of the veto; an operation code, by its digits; a
--- j-code.
-abbrev pub DetectorCode : ℕ → Type 0
-DetectorCode c = (c ≡ 300) ⊎ ((x : ℕ) × (y : ℕ) × (c ≡ 100 * x + y) × (1 ≤ x) × (x ≤ 6) × (1 ≤ y) × (y ≤ 99))
-
-abbrev pub VetoCode : ℕ → Type 0
-VetoCode c = (300 ≤ c) × (c ≤ 399)
-
-abbrev pub OperationCode : ℕ → Type 0
-OperationCode c = ((j : ℕ) × (c ≡ 1000 + j) × (1 ≤ j) × (j ≤ 4)) ⊎ ((j : ℕ) × (c ≡ 2000 + j) × (1 ≤ j) × (j ≤ 5))
-
-abbrev pub LineCode : ℕ → Type 0
-LineCode j = (1 ≤ j) × (j ≤ 5)
-
--- FORMAT 5.7, a second time: each of the n words from the place p on is so.
-abbrev pub EachFrom : Order → (ℕ → Type 0) → ℕ → ℕ → List ℕ → Type 0
-EachFrom o P n p b = (i : ℕ) → i < n → P (word o (p + 4 * i) b)
-
--- FORMAT 5.8, a second time: 292 bytes, in which six detector codes and nine operation codes stand.
-abbrev pub ThresholdsAsked : Order → List ℕ → ℕ → Type 0
-ThresholdsAsked o b =
-    asks (length b ≡ 292) 6 (
-    asks (EachFrom o DetectorCode 6 16 b) 10 (
-    asks (EachFrom o OperationCode 9 40 b) 10
-    fine))
-
--- FORMAT 5.9, a second time: 172 bytes, in which six detector codes and five j-codes stand.
-abbrev pub TriggerRatesAsked : Order → List ℕ → ℕ → Type 0
-TriggerRatesAsked o b =
-    asks (length b ≡ 172) 6 (
-    asks (EachFrom o DetectorCode 6 8 b) 10 (
-    asks (EachFrom o LineCode 5 32 b) 10
-    fine))
-
--- FORMAT 5.10, a second time: two words and eight bytes for each entry, whose codes are the veto's.
-abbrev pub VetoRatesAsked : Order → List ℕ → ℕ → Type 0
-VetoRatesAsked o b =
-    asks (8 ≤ length b) 6 (
-    asks (length b ≡ 8 + 8 * word o 4 b) 6 (
-    asks (EachFrom o VetoCode (word o 4 b) 8 b) 10
-    fine))
-
--- FORMAT 5.8, 5.9, 5.10, a second time, of the fields for a writer: each list's size, and behind it its codes.
-abbrev pub ThresholdsFieldsAsked : Order → Thresholds → ℕ → Type 0
-ThresholdsFieldsAsked o f =
-    asks (length f.codes ≡ 24) 6 (
-    asks (EachFrom o DetectorCode 6 0 f.codes) 10 (
-    asks (length f.operations ≡ 36) 6 (
-    asks (EachFrom o OperationCode 9 0 f.operations) 10 (
-    asks (length f.values ≡ 216) 6
-    fine))))
-
-abbrev pub TriggerRatesFieldsAsked : Order → TriggerRates → ℕ → Type 0
-TriggerRatesFieldsAsked o f =
-    asks (length f.codes ≡ 24) 6 (
-    asks (EachFrom o DetectorCode 6 0 f.codes) 10 (
-    asks (length f.lines ≡ 20) 6 (
-    asks (EachFrom o LineCode 5 0 f.lines) 10 (
-    asks (length f.counters ≡ 120) 6
-    fine))))
-
-abbrev pub VetoRatesFieldsAsked : Order → VetoRates → ℕ → Type 0
-VetoRatesFieldsAsked o f =
-    asks (length f.codes ≡ 4 * f.entries) 6 (
-    asks (EachFrom o VetoCode f.entries 0 f.codes) 10 (
-    asks (length f.counters ≡ 4 * f.entries) 6
-    fine))
-
 -- ---- any kind
 
--- FORMAT 6.1, a second time: what is asked of a body in a monitoring event, by its kind word.
-abbrev pub MonitoringRuleAsked : Order → ℕ → List ℕ → ℕ → Type 0
-MonitoringRuleAsked o k b c =
-    ((k ≡ 0x21) × ThresholdsAsked o b c) ⊎ (((k ≡ 0x22) × TriggerRatesAsked o b c) ⊎ ((k ≡ 0x31) × VetoRatesAsked o b c))
-
--- FORMAT 6.1, a second time: what is asked of a body outside one, by its kind word.
+-- FORMAT 6.1, a second time: what is asked of a body, by its kind word.
 abbrev pub RuleAsked : Order → ℕ → List ℕ → ℕ → Type 0
 RuleAsked o k b c =
     ((k ≡ 0x00010001) × PhononAsked o b c)

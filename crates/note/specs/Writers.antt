@@ -1,6 +1,6 @@
 -- The writers of records and entries, the header's, the closings and Rewrite: of each its answer, and the output afterwards, for every input. The
 -- output is defined by the answer: the bytes stand there where it is a next place, and nothing has changed where it is a refusal.
-use Rattle.std.specs.Prelude.{ℕ, ◌+◌, ◌-◌, Bool, false, List, [], ◌∷◌, ◌++◌, map, leb, length, take, drop}
+use Rattle.std.specs.Prelude.{ℕ, ◌+◌, ◌-◌, List, [], ◌∷◌, ◌++◌, map, leb, length, take, drop}
 use Rattle.theory.specs.declared.Order.{Order}
 use Rattle.theory.specs.Tests.{Res, ok, bad, need, bind, unless}
 use Rattle.theory.specs.Structures.{structure_bytes, sequence_bytes}
@@ -17,11 +17,8 @@ use Rattle.note.specs.History.{History, history_kind, history_bytes, history_fau
 use Rattle.note.specs.Gps.{Gps, gps_kind, gps_bytes, gps_fault}
 use Rattle.note.specs.Trigger.{Trigger, trigger_kind, trigger_bytes}
 use Rattle.note.specs.Tlb.{Tlb, tlb_kind, tlb_bytes, tlb_fault}
-use Rattle.note.specs.Thresholds.{Thresholds, thresholds_kind, thresholds_bytes, thresholds_fault}
-use Rattle.note.specs.TriggerRates.{TriggerRates, trigger_rates_kind, trigger_rates_bytes, trigger_rates_fault}
-use Rattle.note.specs.VetoRates.{VetoRates, veto_rates_kind, veto_rates_bytes, veto_rates_fault}
-use Rattle.note.specs.Records.{Record, record_bytes, records_bytes, entry, read_records, kind_in}
-use Rattle.note.specs.Events.{Container, event_fault, event_word, is_monitoring, event_context, event_late}
+use Rattle.note.specs.Records.{Record, record_bytes, records_bytes, entry, event, unseen, read_records, kind_of}
+use Rattle.note.specs.Events.{Container, event_fault, event_word, event_late}
 use Rattle.note.specs.Files.{File, order_in, version_of, configuration_of, events_of, configuration_word, header_bytes, version_word, read_file}
 
 -- ---- what every writer answers, and what it leaves
@@ -48,7 +45,7 @@ unfoldable pub output_after : Res ℕ → List ℕ → ℕ → List ℕ → List
 output_after (ok next) out place bytes = take place out ++ (bytes ++ drop (place + length bytes) out)
 output_after (bad c p) out place bytes = out
 
--- ---- the eleven record and entry writers
+-- ---- the eight record and entry writers
 
 -- FORMAT 9.2: a kind's structure around its body.
 abbrev pub wrapped : Order → Kind → List ℕ → List ℕ
@@ -83,15 +80,6 @@ trigger_draft o f = record { fault = 0; bytes = wrapped o trigger_kind (trigger_
 
 unfoldable pub tlb_draft : Order → Tlb → Draft
 tlb_draft o f = record { fault = tlb_fault f; bytes = wrapped o tlb_kind (tlb_bytes o f) }
-
-unfoldable pub thresholds_draft : Order → Thresholds → Draft
-thresholds_draft o f = record { fault = thresholds_fault o f; bytes = wrapped o thresholds_kind (thresholds_bytes o f) }
-
-unfoldable pub trigger_rates_draft : Order → TriggerRates → Draft
-trigger_rates_draft o f = record { fault = trigger_rates_fault o f; bytes = wrapped o trigger_rates_kind (trigger_rates_bytes o f) }
-
-unfoldable pub veto_rates_draft : Order → VetoRates → Draft
-veto_rates_draft o f = record { fault = veto_rates_fault o f; bytes = wrapped o veto_rates_kind (veto_rates_bytes o f) }
 
 -- FORMAT 9.2: a record's or an entry's writer, from any place of any output: what it answers, and what it leaves.
 unfoldable pub record_next : List ℕ → ℕ → Draft → Res ℕ
@@ -137,7 +125,7 @@ event_closed o out place end class category type =
     within (length out) place end (
     need (event_fault class category type) place (
     need (event_late (event_word class category type) (end - (place + 8))) place (
-    end_given end (read_records o (event_context (event_word class category type)) (place + 8) (contents_of out place end)))))
+    end_given end (read_records o (event unseen) (place + 8) (contents_of out place end)))))
 
 -- FORMAT 9.4: what a closing writes: the container's two words, and no byte of its contents.
 abbrev pub closing_bytes : Order → ℕ → ℕ → ℕ → List ℕ
@@ -152,24 +140,20 @@ event_output o out place end class category type =
 
 -- ---- Rewrite
 
--- FORMAT 9.5: the file that Rewrite writes: each record's body made again from its fields, by its kind where it stands, the rest around them as it
--- was.
-unfoldable pub record_again : Order → Bool → Record → Record
-record_again o m r = record { word = r.word; body = (kind_in m r.word).again o r.body }
+-- FORMAT 9.5: the file that Rewrite writes: each record's body made again from its fields, the rest around them as it was.
+unfoldable pub record_again : Order → Record → Record
+record_again o r = record { word = r.word; body = (kind_of r.word).again o r.body }
 
-abbrev pub container_again : Order → Bool → Container → Container
-container_again o m c = record { word = c.word; body = map (record_again o m) c.body }
+abbrev pub container_again : Order → Container → Container
+container_again o c = record { word = c.word; body = map (record_again o) c.body }
 
-abbrev pub container_rewritten : Order → Bool → Container → List ℕ
-container_rewritten o m c = structure_bytes o (records_bytes o) (container_again o m c)
-
-abbrev pub event_rewritten : Order → Container → List ℕ
-event_rewritten o e = container_rewritten o (is_monitoring e.word) e
+abbrev pub container_rewritten : Order → Container → List ℕ
+container_rewritten o c = structure_bytes o (records_bytes o) (container_again o c)
 
 unfoldable pub file_rewritten : File → List ℕ
 file_rewritten f =
     header_bytes (order_in f) (version_of f)
-    ++ (container_rewritten (order_in f) false (configuration_of f) ++ sequence_bytes (event_rewritten (order_in f)) (events_of f))
+    ++ (container_rewritten (order_in f) (configuration_of f) ++ sequence_bytes (container_rewritten (order_in f)) (events_of f))
 
 -- FORMAT 9.5: Rewrite's answer: 1 at 0 for the output over the limit; the file's refusal; 13 at 0 for too little room; else the length written.
 unfoldable pub rewrite_next : List ℕ → List ℕ → Res ℕ

@@ -23,8 +23,8 @@ pub const WRONG_LENGTH: u32 = 6;
 /// An event's class, category or type isn't admitted.
 pub const NOT_ADMITTED: u32 = 7;
 
-/// A kind of monitoring events whose layout is not known.
-pub const NO_LAYOUT: u32 = 8;
+/// An event of type 7, a monitoring event.
+pub const MONITORING: u32 = 8;
 
 /// An event is empty, its first record isn't administrative, or a kind comes a second time.
 pub const MISPLACED: u32 = 9;
@@ -64,12 +64,6 @@ pub const TRIGGER_ROW: u32 = 10;
 
 pub const TLB_ROW: u32 = 11;
 
-pub const THRESHOLDS_ROW: u32 = 12;
-
-pub const TRIGGER_RATES_ROW: u32 = 13;
-
-pub const VETO_RATES_ROW: u32 = 14;
-
 /// Table: the number (0 accepted, 12 too few rows lent), the count of rows, the place.
 #[derive(Drop)]
 pub struct TableAnswer {
@@ -78,7 +72,7 @@ pub struct TableAnswer {
     pub place: usize,
 }
 
-/// Record: one of two entries, six records and three records of monitoring events with its fields, or a refusal.
+/// Record: one of two entries and six records with its fields, or a refusal.
 #[derive(Drop)]
 pub enum RecordAnswer {
     Phonon {
@@ -154,28 +148,6 @@ pub enum RecordAnswer {
         tower4: u32,
         tower5: u32,
         tower6: u32,
-    },
-    Thresholds {
-        minimum: u32,
-        maximum: u32,
-        range: u32,
-        tower: u32,
-        codes_at: u32,
-        operations_at: u32,
-        values_at: u32,
-    },
-    TriggerRates {
-        interval: u32,
-        tower: u32,
-        codes_at: u32,
-        lines_at: u32,
-        counters_at: u32,
-    },
-    VetoRates {
-        interval: u32,
-        entries: u32,
-        codes_at: u32,
-        counters_at: u32,
     },
     Refused {
         number: u32,

@@ -87,8 +87,8 @@ edit_seen_by_calls bs old j i x h s =
       same_visits = edit_keeps_visits bs f h e s.byte new;
       same_visited = edit_keeps_visited bs f h e s.byte new;
       same-finds = edit_keeps_finds bs f h e s.byte new;
-      same-records = λ k m l.
-          subst (λ (p : ℕ). record_at o m (set bs i x) p ≡ record_at o m bs p) (start k l) (new.fields_stay k m (inside k l));
+      same-records = λ k l.
+          subst (λ (p : ℕ). record_at o (set bs i x) p ≡ record_at o bs p) (start k l) (new.fields_stay k (inside k l));
       same_lists = λ k l. subst (λ (p : ℕ). SameLists o bs (set bs i x) p) (start k l) (new.lists_stay k (inside k l));
       same_settings = λ k l.
           subst (λ (p : ℕ). setting_at o (set bs i x) p ≡ setting_at o bs p) (start k l) (new.settings_stay k (inside k l));

@@ -1,6 +1,6 @@
 -- What the calls give after one byte is changed inside a trace's samples, in terms of a caller's buffer and answers alone. demands/specs/Edited says
 -- the same of the file that was read.
-use Rattle.std.specs.Prelude.{ℕ, ◌+◌, ◌≤◌, ◌<◌, ◌≡◌, ◌≢◌, Bool, List, length, get_or, set}
+use Rattle.std.specs.Prelude.{ℕ, ◌+◌, ◌≤◌, ◌<◌, ◌≡◌, ◌≢◌, List, length, get_or, set}
 use Rattle.note.specs.Files.{order_of}
 use Rattle.note.specs.Rows.{table_answer, table_buffer, yield_at}
 use Rattle.note.specs.Visitor.{visit_answer, visit_buffer}
@@ -19,9 +19,9 @@ pub record SampleByte (bs old : List ℕ) (j i x : ℕ) : Type 0 where
   pub byte : x < 256
 
 -- Byte i of bs becomes x. Table's and the visitor's answers for every capacity, their buffers, the walker's yields and what Find gives
--- for every number and code are the same. At the start of each row in the buffer Record, told either way, and Setting answer the same,
--- and where Record finds a history its lists have the same bytes. Of the samples only the one that holds byte i changes, by that byte alone;
--- Samples gives the same parts, and their bytes but for that one. Every other byte of the file reads as before.
+-- for every number and code are the same. At the start of each row in the buffer Record and Setting answer the same, and where Record
+-- finds a history its lists have the same bytes. Of the samples only the one that holds byte i changes, by that byte alone; Samples gives
+-- the same parts, and their bytes but for that one. Every other byte of the file reads as before.
 pub record EditedCalls (bs old : List ℕ) (j i x : ℕ) : Type 0 where
   pub same_answer : (capacity : ℕ) → table_answer (set bs i x) capacity ≡ table_answer bs capacity
   pub same_buffer : (other : List ℕ) → table_buffer (set bs i x) other ≡ table_buffer bs other
@@ -29,8 +29,8 @@ pub record EditedCalls (bs old : List ℕ) (j i x : ℕ) : Type 0 where
   pub same_visits : (k capacity : ℕ) → visit_answer (set bs i x) k capacity ≡ visit_answer bs k capacity
   pub same_visited : (k : ℕ) (other : List ℕ) → visit_buffer (set bs i x) k other ≡ visit_buffer bs k other
   pub same-finds : (number code : ℕ) → find_at (set bs i x) number code ≡ find_at bs number code
-  pub same-records : (k : ℕ) (m : Bool) → k < table_count bs old
-      → record_at (order_of bs) m (set bs i x) (table_row bs old k).start ≡ record_at (order_of bs) m bs (table_row bs old k).start
+  pub same-records : (k : ℕ) → k < table_count bs old
+      → record_at (order_of bs) (set bs i x) (table_row bs old k).start ≡ record_at (order_of bs) bs (table_row bs old k).start
   pub same_lists : (k : ℕ) → k < table_count bs old → SameLists (order_of bs) bs (set bs i x) (table_row bs old k).start
   pub same_settings : (k : ℕ) → k < table_count bs old
       → setting_at (order_of bs) (set bs i x) (table_row bs old k).start ≡ setting_at (order_of bs) bs (table_row bs old k).start

@@ -6,8 +6,8 @@ use mathlib.Core.Bool.{Bool, true, false, not, cond, ◌&&◌, and-eq-true_iff}
 use native.Mathlib.Omega.{arith}
 use lib.Bits.{bit_or}
 use lib.Dec.{leb, eqb}
-use borrow.Author.Tests.{le-leb, lt-leb, ne_eqb, not-true}
-use Rattle.note.specs.Records.{Seen, Context, entry, event, monitoring, alone, in_monitoring, is_placed, is_allowed, other_kind, noted, behind}
+use borrow.Author.Tests.{le-leb, lt-leb, not-true}
+use Rattle.note.specs.Records.{Seen, Context, entry, event, alone, is_placed, is_allowed, noted, behind}
 use Rattle.note.proofs.Sweep.{all, all-at}
 use Rattle.record.specs.Steps.{seen_of, context_of}
 
@@ -79,7 +79,6 @@ pub behind-trace : (c : Context) → c ≡ behind c 0x11
 unfolding behind noted
 behind-trace entry = refl
 behind-trace (event s) = refl
-behind-trace monitoring = refl
 behind-trace alone = refl
 
 module _ (n k : ℕ) where
@@ -91,38 +90,21 @@ module _ (n k : ℕ) where
   unfolding is_allowed context_of
   event_allowed h = rw (lt-leb 32 n h)
 
-  -- Outside such an event what came before doesn't matter.
-  one_allowed : (b c : Bool) → true ≡ is_allowed (cond b entry (cond c alone monitoring)) k
+  -- Outside an event what came before doesn't matter.
+  either_allowed : (b : Bool) → true ≡ is_allowed (cond b entry alone) k
   unfolding is_allowed
-  one_allowed true c = refl
-  one_allowed false true = refl
-  one_allowed false false = refl
+  either_allowed true = refl
+  either_allowed false = refl
 
   pub outside_allowed : 32 ≤ n → true ≡ is_allowed (context_of n) k
   unfolding context_of
-  outside_allowed h = rw (le-leb 32 n h) (one_allowed (eqb n 32) (leb n 33))
+  outside_allowed h = rw (le-leb 32 n h) (either_allowed (eqb n 32))
 
-  one-behind : (b c : Bool) → cond b entry (cond c alone monitoring) ≡ behind (cond b entry (cond c alone monitoring)) k
+  either_behind : (b : Bool) → cond b entry alone ≡ behind (cond b entry alone) k
   unfolding behind
-  one-behind true c = refl
-  one-behind false true = refl
-  one-behind false false = refl
+  either_behind true = refl
+  either_behind false = refl
 
   pub outside_behind : 32 ≤ n → context_of n ≡ behind (context_of n) k
   unfolding context_of
-  outside_behind h = rw (le-leb 32 n h) (one-behind (eqb n 32) (leb n 33))
-
--- From 34 on it is a monitoring event's; up to 33 it is not.
-pub above_monitoring : (n : ℕ) → 33 < n → context_of n ≡ monitoring
-unfolding context_of
-above_monitoring n h = rw (le-leb 32 n (omega arith), ne_eqb n 32 (λ e. omega arith), lt-leb n 33 h)
-
-others_outside : (b c : Bool) (s : Seen) → (in_monitoring (cond b (cond c entry alone) (event s)) ≡ false)
-    × ((k : ℕ) → other_kind (cond b (cond c entry alone) (event s)) k ≡ 5)
-others_outside true true s = (refl, λ k. refl)
-others_outside true false s = (refl, λ k. refl)
-others_outside false c s = (refl, λ k. refl)
-
-pub below-monitoring : (n : ℕ) → n ≤ 33 → (in_monitoring (context_of n) ≡ false) × ((k : ℕ) → other_kind (context_of n) k ≡ 5)
-unfolding context_of
-below-monitoring n h = rw (le-leb n 33 h) (others_outside (leb 32 n) (eqb n 32) (seen_of n))
+  outside_behind h = rw (le-leb 32 n h) (either_behind (eqb n 32))

@@ -3,7 +3,7 @@
 use mathlib.Core.Path.{◌≡◌, refl, sym, ap, ◌∙◌, subst}
 use mathlib.Core.Bool.{true, false}
 use mathlib.Core.List.{List}
-use Prim.Native.Nat.{ℕ, suc, ◌+◌, ◌-◌, ◌≤◌, ◌<◌}
+use Prim.Native.Nat.{ℕ, ◌+◌, ◌-◌, ◌≤◌, ◌<◌}
 use native.Mathlib.Omega.{arith}
 use lib.ListN.{length, take, drop, length-drop}
 use lib.Seq.{length-take-le}
@@ -15,12 +15,12 @@ use Rattle.theory.proofs.WordLaws.{Bytes-part}
 use Rattle.theory.proofs.TestLaws.{need-ok, ok_inj, positive}
 use Rattle.theory.proofs.StructureLaws.{opens}
 use Rattle.note.specs.Words.{word}
-use Rattle.note.specs.Records.{Record, Context, is_kind, other_kind, is_allowed, record_rule, record_head, record_late, read_record}
+use Rattle.note.specs.Records.{Record, Context, is_kind, is_allowed, record_rule, record_head, record_late, read_record}
 use Rattle.record.specs.declared.Step.{Step}
 use Rattle.record.specs.declared.Step.TheVariants.{Good, Bad}
 use Rattle.record.specs.Steps.{step_of}
 use Rattle.note.specs.Faults.{too_short}
-use Rattle.note.proofs.FaultLaws.{short-some, other_some}
+use Rattle.note.proofs.FaultLaws.{short-some}
 
 -- The body of a structure whose length word is n, as code cuts it out of its part.
 abbrev pub cut_body : ℕ → List ℕ → List ℕ
@@ -40,12 +40,9 @@ module _ (o : Order) (s : Context) (at : ℕ) (bs : List ℕ) where
   unfolding read_record step_of
   short h = rw (lt-leb 8 (length bs) h)
 
-  pub unknown : 8 ≤ length bs → (k : ℕ) → k ≡ word o 0 bs → is_kind s k ≡ false → (n : ℕ) → n ≡ other_kind s k
-      → Bad n at ≡ step_of (read_record o s at bs)
+  pub unknown : 8 ≤ length bs → (k : ℕ) → k ≡ word o 0 bs → is_kind s k ≡ false → Bad 5 at ≡ step_of (read_record o s at bs)
   unfolding read_record step_of
-  unknown h k ek f n en =
-      let some : n ≡ suc (n - 1) = omega (arith, en, other_some s k) in
-      rw (← ek, le-leb 8 (length bs) h, f, ← en, some)
+  unknown h k ek f = rw (← ek, le-leb 8 (length bs) h, f)
 
 -- A part whose kind word k is allowed in its context.
 pub record Named (o : Order) (s : Context) (bs : List ℕ) (k : ℕ) : Type 0 where
@@ -71,7 +68,7 @@ module _ {o : Order} {s : Context} {bs : List ℕ} {k n : ℕ} (a : Sized o s bs
 
   -- What is read then hangs on the record's place and its body alone.
   sized_reads : read_record o s at bs
-      ≡ need (unless (is_allowed s k) 9) at (bind {B = Record} (need (record_rule o s k (take n (drop 8 bs))) at (ok (take n (drop 8 bs)))) (λ b.
+      ≡ need (unless (is_allowed s k) 9) at (bind {B = Record} (need (record_rule o k (take n (drop 8 bs))) at (ok (take n (drop 8 bs)))) (λ b.
       ok (record { word = k; body = b })))
   unfolding read_record
   sized_reads = rw (← a.named.kind-is, ← a.length-is, le-leb 8 (length bs) a.named.room, a.named.known, le-leb (8 + n) (length bs) whole)
@@ -80,9 +77,9 @@ module _ {o : Order} {s : Context} {bs : List ℕ} {k n : ℕ} (a : Sized o s bs
   unfolding step_of
   misplaced p = rw (sized_reads, p)
 
-  module _ (p : is_allowed s k ≡ true) (c : ℕ) (ec : c ≡ record_rule o s k (cut_body n bs)) where
-    is : record_rule o s k (take n (drop 8 bs)) ≡ c
-    is = ap (record_rule o s k) (sym (cut n bs)) ∙ sym ec
+  module _ (p : is_allowed s k ≡ true) (c : ℕ) (ec : c ≡ record_rule o k (cut_body n bs)) where
+    is : record_rule o k (take n (drop 8 bs)) ≡ c
+    is = ap (record_rule o k) (sym (cut n bs)) ∙ sym ec
 
     pub fault : (c ≡ 0 → ⊥) → Bad c at ≡ step_of (read_record o s at bs)
     unfolding step_of
@@ -101,7 +98,7 @@ pub record Read (o : Order) (s : Context) (at : ℕ) (bs : List ℕ) (k n : ℕ)
   pub size : length (take n (drop 8 bs)) ≡ n
   pub kind-is : k ≡ word o 0 bs
   pub length-is : n ≡ word o 4 bs
-  pub follows : record_rule o s k (take n (drop 8 bs)) ≡ 0
+  pub follows : record_rule o k (take n (drop 8 bs)) ≡ 0
 
 abbrev is_good : Step → Type 0
 is_good (Good k n) = Unit {0}
@@ -122,11 +119,11 @@ pub read-shows : (o : Order) (s : Context) (at : ℕ) (bs : List ℕ) (a : Recor
     → Read o s at bs (word o 0 bs) (word o 4 bs) × (a ≡ record { word = word o 0 bs; body = take (word o 4 bs) (drop 8 bs) })
 unfolding read_record
 read-shows o s at bs a ea =
-    let shown = opens o too_short short-some record_head record_late (λ s at b. need (record_rule o s.0 s.1 b) at (ok b)) s at bs a ea in
+    let shown = opens o too_short short-some record_head record_late (λ s at b. need (record_rule o s.1 b) at (ok b)) s at bs a ea in
     let m : ℕ = word o 4 bs in
     let b : List ℕ = take m (drop 8 bs) in
     let fits : 8 + m ≤ length bs = shown.fits in
-    let (z, eb) = need-ok (record_rule o s (word o 0 bs) b) at (ok b) shown.body_is in
+    let (z, eb) = need-ok (record_rule o (word o 0 bs) b) at (ok b) shown.body_is in
     let same : b ≡ a.body = ok_inj eb in
     let size : length b ≡ m = length-take-le m (drop 8 bs) (omega (arith, length-drop 8 bs)) in
     let along : ◌≡◌ {A = Record} a (record { word = word o 0 bs; body = b }) = λ i. record { word = shown.kind-is i; body = sym same i } in
@@ -141,5 +138,5 @@ read-good o s at bs k n e =
     subst (λ (x : ℕ). Read o s at bs x n) k-is (subst (λ (y : ℕ). Read o s at bs (word o 0 bs) y) n-is r)
 
 -- The body of a good step, as code cuts it.
-pub body-follows : (o : Order) (s : Context) (at : ℕ) (bs : List ℕ) (k n : ℕ) → Read o s at bs k n → record_rule o s k (cut_body n bs) ≡ 0
-body-follows o s at bs k n g = ap (record_rule o s k) (cut n bs) ∙ g.follows
+pub body-follows : (o : Order) (s : Context) (at : ℕ) (bs : List ℕ) (k n : ℕ) → Read o s at bs k n → record_rule o k (cut_body n bs) ≡ 0
+body-follows o s at bs k n g = ap (record_rule o k) (cut n bs) ∙ g.follows

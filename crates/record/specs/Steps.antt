@@ -16,9 +16,9 @@ seen_of s = record {
   tlb = eqb (s / 16 % 2) 1;
 }
 
--- FORMAT 6.1: the context that a number of the code stands for: below 32 an event, 32 a configuration, 33 none, from 34 on a monitoring event.
+-- FORMAT 6.1: the context that a number of the code stands for: below 32 an event, 32 a configuration, from 33 on none.
 unfoldable pub context_of : ℕ → Note.Context
-context_of s = cond (leb 32 s) (cond (eqb s 32) Note.entry (cond (leb s 33) Note.alone Note.monitoring)) (Note.event (seen_of s))
+context_of s = cond (leb 32 s) (cond (eqb s 32) Note.entry Note.alone) (Note.event (seen_of s))
 
 -- A record that was read: its kind word and its body's length; or the refusal.
 unfoldable pub step_of : Res Note.Record → Step

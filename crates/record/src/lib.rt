@@ -2,11 +2,9 @@
 ghost use Rattle.std.specs.Prelude.{◌≡◌, length, ◌<◌};
 ghost use Rattle.theory.specs.Words.{order_from};
 ghost use Rattle.theory.specs.Tests.{among};
-ghost use Rattle.note.specs.Records.{entry_kinds, record_kinds, event, told, is_kind, other_kind, is_placed, is_allowed, behind, record_rule, read_record};
-ghost use Rattle.note.specs.Events.{event_context, is_monitoring};
+ghost use Rattle.note.specs.Records.{entry_kinds, record_kinds, event, unseen, is_kind, is_placed, is_allowed, behind, read_record};
 ghost use Rattle.record.specs.Steps.{seen_of, context_of, step_of};
 
-use monitoring::{is_monitoring_kind, monitoring_rule, other_kind};
 use note::{MISPLACED, TOO_SHORT, WRONG_KIND};
 use rules::{ADMINISTRATIVE, CHARGE, GPS, HISTORY, PHONON, TLB, TRACE, TRIGGER, rule};
 use words::word_at;
@@ -24,12 +22,6 @@ pub const ENTRY: u32 = 32;
 /// Where a record is read: alone.
 pub const ALONE: u32 = 33;
 
-/// Where a record is read: in a monitoring event, of which nothing is kept in mind.
-pub const MONITORING: u32 = 34;
-
-// The type of monitoring events, in the lowest byte of an event's first word.
-const MONITORING_TYPE: u32 = 7;
-
 /// What stands at the front of a part: a record's kind word and its body's length, or the refusal.
 #[derive(Drop)]
 pub enum Step {
@@ -37,31 +29,11 @@ pub enum Step {
     Bad { number: u32, place: usize },
 }
 
-/// Whether an event is a monitoring event, by its first word.
-pub fn is_monitoring(word: u32) -> bool
-    ensures { result ≡ is_monitoring word }
+/// An event before its first record.
+pub fn fresh() -> u32
+    ensures { context_of result ≡ event unseen }
 {
-    word % 256 == MONITORING_TYPE
-}
-
-/// An event before its first record, by its first word: what its records' kind words mean, and that nothing came before.
-pub fn event_context(word: u32) -> u32
-    ensures { context_of result ≡ event_context word }
-{
-    if is_monitoring(word) {
-        return MONITORING;
-    }
     0
-}
-
-/// Where a record is read that is asked by its place, told whether that is in a monitoring event.
-pub fn told(monitoring: bool) -> u32
-    ensures { context_of result ≡ told monitoring }
-{
-    if monitoring {
-        return MONITORING;
-    }
-    ALONE
 }
 
 fn is_entry_kind(word: u32) -> bool
@@ -98,9 +70,6 @@ fn is_kind(context: u32, word: u32) -> bool
     if context < ENTRY {
         return is_record_kind(word);
     }
-    if context > ALONE {
-        return is_monitoring_kind(word);
-    }
     if context == ENTRY {
         return is_entry_kind(word);
     }
@@ -108,27 +77,6 @@ fn is_kind(context: u32, word: u32) -> bool
         return true;
     }
     is_record_kind(word)
-}
-
-// The number of a kind that isn't allowed here.
-fn kind_fault(context: u32, word: u32) -> u32
-    ensures { result ≡ other_kind (context_of context) word }
-{
-    if context > ALONE {
-        return other_kind(word);
-    }
-    WRONG_KIND
-}
-
-// The rule of the kind that a kind word names here.
-fn rule_in(context: u32, word: u32, b: &[u8], big: bool) -> u32
-    requires { length b.now < 0x100000000 }
-    ensures { result ≡ record_rule (order_from big) (context_of context) word b.now }
-{
-    if context > ALONE {
-        return monitoring_rule(word, b, big);
-    }
-    rule(word, b, big)
 }
 
 // Whether a record may stand after those that came before.
@@ -204,7 +152,7 @@ pub fn record_in(part: &[u8], at: usize, context: u32, big: bool) -> Step
     let word = word_at(part, 0, big);
     if !is_kind(context, word) {
         return Step::Bad {
-            number: kind_fault(context, word),
+            number: WRONG_KIND,
             place: at,
         };
     }
@@ -221,7 +169,7 @@ pub fn record_in(part: &[u8], at: usize, context: u32, big: bool) -> Step
             place: at,
         };
     }
-    let fault = rule_in(context, word, &part[FRONT..FRONT + length], big);
+    let fault = rule(word, &part[FRONT..FRONT + length], big);
     if fault != 0 {
         return Step::Bad {
             number: fault,

@@ -2,7 +2,7 @@
 -- The idea: it was read, so its first word begins a container, and its contents are read where code cuts them out. Which of the two kinds
 -- it is the state tells; code asks the word (`event_begins`).
 use mathlib.Core.Path.{◌≡◌, refl, sym, ap, ◌∙◌, subst}
-use mathlib.Core.Bool.{Bool, true, false}
+use mathlib.Core.Bool.{Bool, false}
 use mathlib.Core.List.{List, [], ◌∷◌}
 use Prim.Native.Nat.{ℕ, ◌+◌, ◌≤◌, ◌<◌}
 use native.Mathlib.Omega.{arith}
@@ -12,17 +12,14 @@ use Rattle.theory.specs.declared.Order.{Order}
 use Rattle.theory.specs.Tests.{ok}
 use Rattle.theory.proofs.Items.{Item, Whole, Oks}
 use Rattle.theory.proofs.LoopLaws.{whole}
-use Rattle.theory.proofs.TestLaws.{equal_passed}
 use Rattle.theory.proofs.StructureLaws.{structure, inside, Opened, opens, length-is}
 use Rattle.note.specs.Limits.{file_limit}
 use Rattle.note.specs.Words.{word}
-use Rattle.note.specs.Records.{Record, Context, in_monitoring, read_record, read_records}
-use Rattle.note.specs.Events.{Container, container_bytes, container_size, is_monitoring, event_context}
-use Rattle.note.specs.Files.{configuration_word}
+use Rattle.note.specs.Records.{Record, Context, read_record, read_records}
+use Rattle.note.specs.Events.{Container, container_bytes, container_size}
 use Rattle.note.specs.Writers.{closing_bytes}
 use Rattle.demands.specs.Outputs.{Laid, HasRoom}
 use Rattle.demands.proofs.Bundles.{records, event_item, same-records}
-use Rattle.demands.proofs.EventLaws.{type_decides}
 use Rattle.record.proofs.StepLaws.{cut_body, cut, cut-length, cut-bytes}
 use Rattle.containers.proofs.RecordLoop.{behind_of}
 use Rattle.rewriting.specs.Ready.{container_head, container_late, contents_in, read_container, read_containers, Begins, RecordsReady, Stands}
@@ -34,11 +31,7 @@ use Rattle.note.proofs.FaultLaws.{short-some}
 
 -- What stands in a container.
 abbrev contents : Order → Whole (Bool × ℕ) (List Record)
-contents o = inside (λ s. contents_in s.0 s.1) (records o)
-
--- Nothing is kept in mind but the state.
-abbrev pub Any : Bool → Type 0
-Any first = Unit {0}
+contents o = inside (λ s. contents_in s.0) (records o)
 
 abbrev pub container_item : Order → Item Bool Container
 container_item o = structure o too_short short-some container_head container_late (contents o) (λ s c. false)
@@ -55,37 +48,32 @@ events_are o (e ∷ es) (h, hs) = (
   events_are o es hs,
 )
 
--- What a kind word means in a container the container's first word says: a configuration's isn't that of a monitoring event.
-sort-is : (first : Bool) (w : ℕ) → container_head first w ≡ 0 → in_monitoring (contents_in first w) ≡ is_monitoring w
-sort-is true w e = rw (equal_passed w configuration_word 4 e)
-sort-is false w e = type_decides w
-
-module _ {o : Order} {old : List ℕ} {place : ℕ} {part out rest : List ℕ} {at : ℕ} (i : Copying (container_item o) Any old place part out rest at)
+module _ {o : Order} {old : List ℕ} {place : ℕ} {part out rest : List ℕ} {at : ℕ} (i : Copying (container_item o) old place part out rest at)
     (l : 0 < length rest) where
   item : Container
-  item = (here (container_item o) Any i l).item
+  item = (here (container_item o) i l).item
 
   reads : (container_item o).read i.state at rest ≡ ok item
   unfolding item
-  reads = (here (container_item o) Any i l).reads_item
+  reads = (here (container_item o) i l).reads_item
 
   opened : Opened o too_short short-some container_head container_late (contents o).read i.state at rest item
   opened = opens o too_short short-some container_head container_late (contents o).read i.state at rest item reads
 
   pub container_fits : (m : ℕ) → m ≡ word o 4 rest → (8 + m ≤ length rest) × (at + (8 + m) ≤ file_limit)
-  container_fits = item_fits (container_item o) Any i o opened.fits
+  container_fits = item_fits (container_item o) i o opened.fits
 
 -- Its two words were read.
 module _ {o : Order} {old : List ℕ} {place : ℕ} {part out rest : List ℕ} {at w m : ℕ}
-    (f : Found (container_item o) Any o old place part out rest at w m) where
-  abbrev i : Copying (container_item o) Any old place part out rest at
+    (f : Found (container_item o) o old place part out rest at w m) where
+  abbrev i : Copying (container_item o) old place part out rest at
   i = f.so_far
 
   abbrev own : Container
   own = item i f.more
 
   abbrev context : Context
-  context = contents_in i.state w
+  context = contents_in i.state
 
   fits : 8 + m ≤ length rest
   fits = (container_fits i f.more m f.length-is).0
@@ -101,21 +89,17 @@ module _ {o : Order} {old : List ℕ} {place : ℕ} {part out rest : List ℕ} {
   inner-reads =
       ap (λ (n : ℕ). read_records o context (at + 8) (cut_body n rest)) f.length-is
       ∙ ap (read_records o context (at + 8)) (cut (word o 4 rest) rest)
-      ∙ ap (λ (v : ℕ). read_records o (contents_in i.state v) (at + 8) (take (word o 4 rest) (drop 8 rest))) f.kind-is
-      ∙ same-records o (contents_in i.state (word o 0 rest)) (at + 8) (take (word o 4 rest) (drop 8 rest)) ∙ (opened i f.more).body_is
+      ∙ same-records o context (at + 8) (take (word o 4 rest) (drop 8 rest)) ∙ (opened i f.more).body_is
 
   same : record { word = w; body = own.body } ≡ own
   same = λ j. record { word = (f.kind-is ∙ sym (opened i f.more).kind-is) j; body = own.body }
 
   -- Its two words have room, and its first word may begin a container.
-  head_passed : container_head i.state w ≡ 0
-  head_passed = ap (container_head i.state) f.kind-is ∙ (opened i f.more).head_ok
-
   pub begin_ready : HasRoom (length out) at (at + (8 + m)) × Begins w
   begin_ready =
-      let (room, limit) = loop.rest_has_room (container_item o) Any i in (
+      let (room, limit) = loop.rest_has_room (container_item o) i in (
         (omega arith, omega (arith, fits, room), limit),
-        (i.state, head_passed),
+        (i.state, ap (container_head i.state) f.kind-is ∙ (opened i f.more).head_ok),
       )
 
   -- They were stored: its contents are next.
@@ -123,10 +107,9 @@ module _ {o : Order} {old : List ℕ} {place : ℕ} {part out rest : List ℕ} {
     begun : Laid out mid at (at + 8) (closing_bytes o w at (at + (8 + m)))
     begun = head-laid o out mid at (at + (8 + m)) w begin_ready.0 e
 
-    pub records_ready : (monitoring : Bool) → monitoring ≡ is_monitoring w → RecordsReady o monitoring (at + 8) inner (length mid)
-    records_ready monitoring em = (
+    pub records_ready : RecordsReady o (at + 8) inner (length mid)
+    records_ready = (
       context,
-      sort-is i.state w head_passed ∙ sym em,
       record {
         is = own.body;
         reads = inner-reads;
@@ -136,14 +119,14 @@ module _ {o : Order} {old : List ℕ} {place : ℕ} {part out rest : List ℕ} {
     )
 
     pub container_next : (new : List ℕ) → Stands inner mid (at + 8) new
-        → Copying (container_item o) Any old place part new (behind_of (8 + m) rest) (at + (8 + m))
+        → Copying (container_item o) old place part new (behind_of (8 + m) rest) (at + (8 + m))
     unfolding item
     container_next new stands =
         let written =
         length-is o too_short short-some container_head container_late (contents o) i.state at rest own i.bytes (reads i f.more) in
         let size : container_size o own ≡ 8 + m = ap (λ (n : ℕ). 8 + n) (written ∙ sym f.length-is) in
         let end : at + 8 + length inner ≡ at + (8 + m) = omega (arith, inner-size) in
-        next (container_item o) Any i f.more tt (8 + m) size new
+        next (container_item o) i f.more (8 + m) size new
         (subst (λ (x : Container). Laid out new at (at + (8 + m)) (container_bytes o x)) same
         (container_copied o out mid at (at + (8 + m)) w begin_ready.0 e context inner new own.body (cut-bytes m rest i.bytes) inner-reads
         (subst (λ (n : ℕ). Laid mid new (at + 8) n inner) end stands)))

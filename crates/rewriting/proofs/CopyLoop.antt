@@ -21,15 +21,13 @@ empty : (bs : List ℕ) → length bs ≤ 0 → bs ≡ []
 empty [] l = refl
 empty (b ∷ bs) l = absurd (omega arith)
 
--- What is kept in mind of the state from item to item is whatever `Kept` says.
-module _ {S A : Type 0} (F : Item S A) (Kept : S → Type 0) where
+module _ {S A : Type 0} (F : Item S A) where
   -- The items in front of `rest` were written; those of `rest`, whose first byte stands at `at`, are still to be.
   pub record Copying (old : List ℕ) (place : ℕ) (part out rest : List ℕ) (at : ℕ) : Type 0 where
     pub front : List ℕ
     pub splits : part ≡ front ++ rest
     pub laid : Laid old out place at front
     pub state : S
-    pub kept : Kept state
     pub items : List A
     pub reads : whole F state at rest ≡ ok items
     pub bytes : Bytes rest
@@ -44,15 +42,14 @@ module _ {S A : Type 0} (F : Item S A) (Kept : S → Type 0) where
     pub length-is : m ≡ word o 4 rest
 
   -- Nothing was written: the part is read as items, in whatever way.
-  pub begin : (old : List ℕ) {place : ℕ} {part : List ℕ} (s : S) → Kept s → {read : ℕ → List ℕ → Res (List A)}
+  pub begin : (old : List ℕ) {place : ℕ} {part : List ℕ} (s : S) {read : ℕ → List ℕ → Res (List A)}
       → ((at : ℕ) (bs : List ℕ) → read at bs ≡ whole F s at bs) → Ready read place part (length old) → Bytes part
       → Copying old place part old part place
-  begin old {place} {part} s k same r h = record {
+  begin old {place} {part} s same r h = record {
     front = [];
     splits = refl;
     laid = none-laid old place;
     state = s;
-    kept = k;
     items = r.is;
     reads = sym (same place part) ∙ r.reads;
     bytes = h;
@@ -88,23 +85,21 @@ module _ {S A : Type 0} (F : Item S A) (Kept : S → Type 0) where
       own = (F.sound i.state at rest here.item i.bytes here.reads_item).0
 
       -- It was written too.
-      pub next : Kept (F.step i.state here.item) → (n : ℕ) → F.size here.item ≡ n → (new : List ℕ)
-          → Laid out new at (at + n) (F.enc here.item)
+      pub next : (n : ℕ) → F.size here.item ≡ n → (new : List ℕ) → Laid out new at (at + n) (F.enc here.item)
           → Copying old place part new (behind_of n rest) (at + n)
-      next k n en new m =
+      next n en new m =
           let item : A = here.item in
           let more : List ℕ = F.enc item in
           let behind : behind_of n rest ≡ drop (F.size item) rest =
-          sym (left n rest) ∙ ap (λ (j : ℕ). drop j rest) (sym en) in
+          sym (left n rest) ∙ ap (λ (k : ℕ). drop k rest) (sym en) in
           let parts : rest ≡ more ++ behind_of n rest = own ∙ ap (λ (x : List ℕ). more ++ x) (sym behind) in
           record {
             front = i.front ++ more;
             splits = i.splits ∙ ap (λ (x : List ℕ). i.front ++ x) parts ∙ sym (append_assoc i.front more _);
             laid = both_laid old out new i.front more place at (at + n) (omega (arith, rest_has_room.0, i.laid.size)) i.laid m;
             state = F.step i.state item;
-            kept = k;
             items = here.others;
-            reads = ap₂ (whole F (F.step i.state item)) (ap (λ (j : ℕ). at + j) (sym en)) behind ∙ here.reads-others;
+            reads = ap₂ (whole F (F.step i.state item)) (ap (λ (k : ℕ). at + k) (sym en)) behind ∙ here.reads-others;
             bytes = Bytes-behind n rest i.bytes;
             room = i.room;
             limit = i.limit;

@@ -6,8 +6,8 @@ use Rattle.theory.specs.Tests.{Res, ok}
 use Rattle.theory.specs.Structures.{read_structure, read_sequence}
 use Rattle.note.specs.Limits.{file_limit}
 use Rattle.note.specs.Faults.{too_short}
-use Rattle.note.specs.Records.{Context, entry, in_monitoring, read_records}
-use Rattle.note.specs.Events.{Container, container_size, event_word_rule, event_late, event_context}
+use Rattle.note.specs.Records.{Context, entry, event, unseen, read_records}
+use Rattle.note.specs.Events.{Container, container_size, event_word_rule, event_late}
 use Rattle.note.specs.Files.{configuration_rule, configuration_late, Parts, read_file}
 use Rattle.demands.specs.Outputs.{Laid}
 
@@ -21,13 +21,13 @@ abbrev pub container_late : Bool → ℕ → ℕ → ℕ
 container_late true w n = configuration_late w n
 container_late false w n = event_late w n
 
-abbrev pub contents_in : Bool → ℕ → Context
-contents_in true w = entry
-contents_in false w = event_context w
+abbrev pub contents_in : Bool → Context
+contents_in true = entry
+contents_in false = event unseen
 
 unfoldable pub read_container : Order → Bool → ℕ → List ℕ → Res Container
 read_container o first at bs =
-    read_structure o too_short (container_head first) (container_late first) (λ w at bs. read_records o (contents_in first w) (at + 8) bs) at bs
+    read_structure o too_short (container_head first) (container_late first) (λ w at bs. read_records o (contents_in first) (at + 8) bs) at bs
 
 -- Behind any container come events alone.
 unfoldable pub read_containers : Order → Bool → ℕ → List ℕ → Res (List Container)
@@ -44,10 +44,9 @@ pub record Ready {A : Type 0} (read : ℕ → List ℕ → Res A) (place : ℕ) 
   pub room : place + length part ≤ n
   pub limit : n ≤ file_limit
 
--- Records or entries, in whatever context that is a monitoring event's or isn't; containers, with the configuration or without; an accepted file of
--- that order.
-abbrev pub RecordsReady : Order → Bool → ℕ → List ℕ → ℕ → Type 0
-RecordsReady o m place part n = (c : Context) × (in_monitoring c ≡ m) × Ready (read_records o c) place part n
+-- Records or entries, in whatever context; containers, with the configuration or without; an accepted file of that order.
+abbrev pub RecordsReady : Order → ℕ → List ℕ → ℕ → Type 0
+RecordsReady o place part n = (c : Context) × Ready (read_records o c) place part n
 
 abbrev pub ContainersReady : Order → ℕ → List ℕ → ℕ → Type 0
 ContainersReady o place part n = (first : Bool) × Ready (read_containers o first) place part n

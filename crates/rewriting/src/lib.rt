@@ -14,27 +14,19 @@ use containers::{CONFIGURATION, Count, HEADER, check};
 use copies::copy_record;
 use fields::{category_of, class_of, event_type_of};
 use note::{NO_ROOM, TOO_LARGE, WriterAnswer};
-use record::{FILE_LIMIT, FRONT, is_monitoring};
+use record::{FILE_LIMIT, FRONT};
 use words::{is_big, word_at};
 
-// Writes again the records or entries that fill a part, of a monitoring event or not, whose first byte stands at the place in the file and in the
-// output.
-fn copy_records(monitoring: bool, part: &[u8], out: &mut [u8], place: usize, big: bool)
-    requires { RecordsReady (order_from big) monitoring place part.now (length out.old) }
+// Writes again the records or entries that fill a part, whose first byte stands at the place in the file and in the output.
+fn copy_records(part: &[u8], out: &mut [u8], place: usize, big: bool)
+    requires { RecordsReady (order_from big) place part.now (length out.old) }
     ensures { Stands part.now out.old place out.new }
 {
     let mut rest = part;
     let mut at = place;
     while 0 < rest.len() {
         let size = FRONT + word_at(rest, 4, big) as usize;
-        copy_record(
-            monitoring,
-            word_at(rest, 0, big),
-            &rest[FRONT..size],
-            out,
-            at,
-            big,
-        );
+        copy_record(word_at(rest, 0, big), &rest[FRONT..size], out, at, big);
         rest = &rest[size..];
         at = at + size;
     }
@@ -69,13 +61,7 @@ fn copy_containers(part: &[u8], out: &mut [u8], place: usize, big: bool)
         let size = FRONT + word_at(rest, 4, big) as usize;
         let end = at + size;
         begin_container(out, at, end, word, big);
-        copy_records(
-            is_monitoring(word),
-            &rest[FRONT..size],
-            out,
-            at + FRONT,
-            big,
-        );
+        copy_records(&rest[FRONT..size], out, at + FRONT, big);
         rest = &rest[size..];
         at = end;
     }

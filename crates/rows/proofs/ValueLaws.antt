@@ -1,7 +1,7 @@
 -- A row's values stand where the code reads them, and a body that follows its kind's rule holds them.
 -- The idea: the choice of a kind is taken apart once (kind-cases), and for each kind both sides compute.
 use mathlib.Core.Path.{◌≡◌, refl, sym, ◌∙◌}
-use mathlib.Core.Bool.{Bool, true, false, not, ◌&&◌, true≢false}
+use mathlib.Core.Bool.{true, false, true≢false}
 use mathlib.Core.List.{List}
 use Prim.Native.Nat.{ℕ, ◌+◌, ◌≤◌}
 use native.Mathlib.Omega.{arith}
@@ -19,23 +19,18 @@ use Rattle.note.specs.History.{history_rule, trigger_at, section_of, history_of}
 use Rattle.note.specs.Gps.{gps_kind}
 use Rattle.note.specs.Trigger.{trigger_kind, trigger_of}
 use Rattle.note.specs.Tlb.{tlb_kind, tlb_of}
-use Rattle.note.specs.Thresholds.{thresholds_kind, thresholds_of}
-use Rattle.note.specs.TriggerRates.{trigger_rates_kind, trigger_rates_of}
-use Rattle.note.specs.VetoRates.{veto_rates_kind, veto_rates_of}
-use Rattle.note.specs.Records.{kind_in, kind_of, monitoring_kind_of}
-use Rattle.note.proofs.KindCases.{kind_cases, monitoring_cases}
+use Rattle.note.specs.Records.{kind_of, record_rule}
+use Rattle.note.proofs.KindCases.{kind_cases}
 use Rattle.note.proofs.SignedLaws.{word-again}
-use Rattle.monitoring.proofs.LengthLaws as Monitoring
 use Rattle.rules.proofs.LengthLaws.{long_enough}
 use Rattle.rows.specs.declared.Standing.{Standing}
 use Rattle.rows.specs.declared.Values.{Values}
-use Rattle.rows.specs.Values.{one_at, two_at, standing_of, holds, has_ordinary, ordinary_of}
-use Rattle.rows.specs.Values.{first_at, monitored_standing, has_monitored, monitored_of, values_of, has_values}
+use Rattle.rows.specs.Values.{one_at, two_at, standing_of, holds, has_values, values_of}
 
 -- A body that follows its kind's rule holds its row's values.
-rule_has_ordinary : (o : Order) (k : ℕ) (b : List ℕ) → (kind_of k).rule o b ≡ 0 → has_ordinary o k b ≡ true
-unfolding has_ordinary kind_of
-rule_has_ordinary o k b =
+pub rule_has_values : (o : Order) (k : ℕ) (b : List ℕ) → record_rule o k b ≡ 0 → has_values o k b ≡ true
+unfolding has_values kind_of
+rule_has_values o k b =
     kind_cases (λ w x. x.rule o b ≡ 0 → holds o x.row b ≡ true) k
     (λ e. le-leb 8 (length b) (omega (arith, long_enough o phonon_kind.word b e)))
     (λ e. le-leb 8 (length b) (omega (arith, long_enough o charge_kind.word b e)))
@@ -58,25 +53,25 @@ ordered k is =
 -- What the code finds, by the places that it looked up for the kind.
 module _ (o : Order) (k : ℕ) (b : List ℕ) {at : Standing} (is : at ≡ standing_of k) where
   -- A kind without a row, a history, any other kind.
-  pub none_has : at.kind ≡ 0 → has_ordinary o k b ≡ false
-  unfolding has_ordinary standing_of
+  pub none_has : at.kind ≡ 0 → has_values o k b ≡ false
+  unfolding has_values standing_of
   none_has e = let z : (kind_of k).row ≡ 0 = rw is at e in rw z
 
-  pub history_has : at.kind ≡ 8 → has_ordinary o k b ≡ eqb (history_rule o b) 0
-  unfolding has_ordinary standing_of
+  pub history_has : at.kind ≡ 8 → has_values o k b ≡ eqb (history_rule o b) 0
+  unfolding has_values standing_of
   history_has e = let h : (kind_of k).row ≡ 8 = rw is at e in rw h
 
-  pub others_have : (at.kind ≡ 8 → ⊥) → (at.kind ≡ 0 → ⊥) → has_ordinary o k b ≡ leb (at.two + 4) (length b)
-  unfolding has_ordinary standing_of
+  pub others_have : (at.kind ≡ 8 → ⊥) → (at.kind ≡ 0 → ⊥) → has_values o k b ≡ leb (at.two + 4) (length b)
+  unfolding has_values standing_of
   others_have n z = rw (is, ne_eqb (kind_of k).row 8 (rw is at n), ne_eqb (kind_of k).row 0 (rw is at z))
 
-  module _ (h : has_ordinary o k b ≡ true) where
+  module _ (h : has_values o k b ≡ true) where
     pub history-follows : at.kind ≡ 8 → history_rule o b ≡ 0
     history-follows e = eqb-true (history_rule o b) 0 (sym (history_has e) ∙ h)
 
     pub history-values : at.kind ≡ 8 → {x m y : ℕ} → x ≡ word o 0 b → m ≡ trigger_at o b → y ≡ word o m b
-        → ◌≡◌ {A = Values} (record { kind = at.kind; one = x; two = y }) (ordinary_of o k b)
-    unfolding ordinary_of standing_of history_of section_of
+        → ◌≡◌ {A = Values} (record { kind = at.kind; one = x; two = y }) (values_of o k b)
+    unfolding values_of standing_of history_of section_of
     history-values e ex em ey =
         let (p, q) = kind_cases (λ w z. z.row ≡ 8 → (z.one o b ≡ word o 0 b) × (z.two o b ≡ word o (trigger_at o b) b)) k
         (λ e. absurd (omega arith)) (λ e. absurd (omega arith)) (λ e. absurd (omega arith)) (λ e. absurd (omega arith))
@@ -96,8 +91,8 @@ module _ (o : Order) (k : ℕ) (b : List ℕ) {at : Standing} (is : at ≡ stand
 
       -- An entry's words are signed, and its row has their bits.
       pub others-values : Bytes b → {x y : ℕ} → x ≡ word o at.one b → y ≡ word o at.two b
-          → ◌≡◌ {A = Values} (record { kind = at.kind; one = x; two = y }) (ordinary_of o k b)
-      unfolding ordinary_of standing_of phonon_of charge_of administrative_of trace_of trigger_of tlb_of
+          → ◌≡◌ {A = Values} (record { kind = at.kind; one = x; two = y }) (values_of o k b)
+      unfolding values_of standing_of phonon_of charge_of administrative_of trace_of trigger_of tlb_of
       others-values bytes ex ey =
           let (p, q) = kind_cases
           (λ w z. (z.row ≡ 8 → ⊥) → (z.row ≡ 0 → ⊥) → two_at z.row + 4 ≤ length b
@@ -109,53 +104,3 @@ module _ (o : Order) (k : ℕ) (b : List ℕ) {at : Standing} (is : at ≡ stand
           (λ p q l. (refl, refl)) (λ p q l. (refl, refl)) (λ p q l. (refl, refl)) (λ p q l. absurd (q refl))
           (rw is at n) (rw is at some) (rw is at others-room.1) in
           rw (ex, ey, is, p, q)
-
--- ---- in a monitoring event
-
-rule_has_monitored : (o : Order) (k : ℕ) (b : List ℕ) → (monitoring_kind_of k).rule o b ≡ 0 → has_monitored k b ≡ true
-unfolding has_monitored monitoring_kind_of
-rule_has_monitored o k b =
-    monitoring_cases (λ w x. x.rule o b ≡ 0 → not (eqb x.row 0) && leb (first_at x.row + 4) (length b) ≡ true) k
-    (λ e. le-leb 16 (length b) (omega (arith, Monitoring.long_enough o thresholds_kind.word b e)))
-    (λ e. le-leb 8 (length b) (omega (arith, Monitoring.long_enough o trigger_rates_kind.word b e)))
-    (λ e. le-leb 8 (length b) (omega (arith, Monitoring.long_enough o veto_rates_kind.word b e)))
-    (λ e. absurd (omega arith))
-
--- In either: a body that follows its kind's rule holds its row's values.
-pub rule_has_values : (o : Order) (m : Bool) (k : ℕ) (b : List ℕ) → (kind_in m k).rule o b ≡ 0 → has_values o m k b ≡ true
-rule_has_values o true k b = rule_has_monitored o k b
-rule_has_values o false k b = rule_has_ordinary o k b
-
--- And what the values are.
-pub values_are : (o : Order) (m : Bool) (k : ℕ) (b : List ℕ)
-    → values_of o m k b ≡ record { kind = (kind_in m k).row; one = (kind_in m k).one o b; two = (kind_in m k).two o b }
-unfolding ordinary_of monitored_of
-values_are o true k b = refl
-values_are o false k b = refl
-
-pub few_before : (k : ℕ) {at : Standing} → at ≡ monitored_standing k → at.one ≤ 12
-unfolding monitored_standing
-few_before k is = rw is (monitoring_cases (λ w x. first_at x.row ≤ 12) k (omega arith) (omega arith) (omega arith) (omega arith))
-
-module _ (k : ℕ) (b : List ℕ) {at : Standing} (is : at ≡ monitored_standing k) where
-  pub none_has_monitored : at.kind ≡ 0 → has_monitored k b ≡ false
-  unfolding has_monitored monitored_standing
-  none_has_monitored e = let z : (monitoring_kind_of k).row ≡ 0 = rw is at e in rw z
-
-  pub monitored_have : (at.kind ≡ 0 → ⊥) → has_monitored k b ≡ leb (at.one + 4) (length b)
-  unfolding has_monitored monitored_standing
-  monitored_have z = rw (is, ne_eqb (monitoring_kind_of k).row 0 (rw is at z))
-
-  module _ (h : has_monitored k b ≡ true) where
-    pub monitored_room : at.one + 4 ≤ length b
-    monitored_room = leb-true (at.one + 4) (length b) (sym (monitored_have (λ e. true≢false (sym h ∙ none_has_monitored e))) ∙ h)
-
-    pub monitored_values : (o : Order) {x : ℕ} → x ≡ word o at.one b
-        → ◌≡◌ {A = Values} (record { kind = at.kind; one = x; two = 0 }) (monitored_of o k b)
-    unfolding monitored_of monitored_standing thresholds_of trigger_rates_of veto_rates_of
-    monitored_values o ex =
-        let (p, q) = monitoring_cases
-        (λ w z. (z.row ≡ 0 → ⊥) → (z.one o b ≡ word o (first_at z.row) b) × (z.two o b ≡ 0)) k
-        (λ d. (refl, refl)) (λ d. (refl, refl)) (λ d. (refl, refl)) (λ d. absurd (d refl))
-        (λ e. true≢false (sym h ∙ none_has_monitored (rw is e))) in
-        rw (ex, is, p, q)

@@ -1,15 +1,15 @@
 -- A record's row kind and values, and where they stand in its body: the code finds two places for a kind and reads the words there, so that one
--- function serves seven kinds; a history's second value stands where its counts put it. In a monitoring event there is one place for a kind.
-use Rattle.std.specs.Prelude.{ℕ, ◌+◌, Bool, true, false, cond, not, ◌&&◌, List, leb, eqb, length}
+-- function serves seven kinds; a history's second value stands where its counts put it.
+use Rattle.std.specs.Prelude.{ℕ, ◌+◌, Bool, cond, not, ◌&&◌, List, leb, eqb, length}
 use Rattle.theory.specs.declared.Order.{Order}
 use Rattle.note.specs.History.{history_rule}
-use Rattle.note.specs.Records.{kind_of, monitoring_kind_of}
+use Rattle.note.specs.Records.{kind_of}
 use Rattle.rows.specs.declared.Values.{Values}
 use Rattle.rows.specs.declared.Standing.{Standing}
 
--- FORMAT 7.2: row kind and values, from the kind word and the body, outside monitoring events.
-unfoldable pub ordinary_of : Order → ℕ → List ℕ → Values
-ordinary_of o k b = record { kind = (kind_of k).row; one = (kind_of k).one o b; two = (kind_of k).two o b }
+-- FORMAT 7.2: row kind and values, from the kind word and the body.
+unfoldable pub values_of : Order → ℕ → List ℕ → Values
+values_of o k b = record { kind = (kind_of k).row; one = (kind_of k).one o b; two = (kind_of k).two o b }
 
 -- FORMAT 7.2: where the values stand in the body of a row kind, a history's second apart: that these are the note's words is proved
 -- (proofs/ValueLaws.antt).
@@ -26,27 +26,5 @@ standing_of k = record { kind = (kind_of k).row; one = one_at (kind_of k).row; t
 abbrev pub holds : Order → ℕ → List ℕ → Bool
 holds o row b = cond (eqb row 8) (eqb (history_rule o b) 0) (not (eqb row 0) && leb (two_at row + 4) (length b))
 
-unfoldable pub has_ordinary : Order → ℕ → List ℕ → Bool
-has_ordinary o k b = holds o (kind_of k).row b
-
--- FORMAT 7.2: the same in a monitoring event: the first value stands at one place, and the second is 0.
-unfoldable pub monitored_of : Order → ℕ → List ℕ → Values
-monitored_of o k b = record { kind = (monitoring_kind_of k).row; one = (monitoring_kind_of k).one o b; two = (monitoring_kind_of k).two o b }
-
-abbrev pub first_at : ℕ → ℕ
-first_at row = cond (eqb row 12) 12 4
-
-unfoldable pub monitored_standing : ℕ → Standing
-monitored_standing k = record { kind = (monitoring_kind_of k).row; one = first_at (monitoring_kind_of k).row; two = 0 }
-
-unfoldable pub has_monitored : ℕ → List ℕ → Bool
-has_monitored k b = not (eqb (monitoring_kind_of k).row 0) && leb (first_at (monitoring_kind_of k).row + 4) (length b)
-
--- FORMAT 7.2: in either, where the Bool says whether it is a monitoring event.
-abbrev pub values_of : Order → Bool → ℕ → List ℕ → Values
-values_of o true k b = monitored_of o k b
-values_of o false k b = ordinary_of o k b
-
-abbrev pub has_values : Order → Bool → ℕ → List ℕ → Bool
-has_values o true k b = has_monitored k b
-has_values o false k b = has_ordinary o k b
+unfoldable pub has_values : Order → ℕ → List ℕ → Bool
+has_values o k b = holds o (kind_of k).row b

@@ -4,12 +4,11 @@ ghost use Rattle.std.proofs.lemmas.List.Edits.{sets};
 ghost use Rattle.theory.specs.Words.{order_from};
 ghost use Rattle.theory.specs.Stores.{HasEach};
 ghost use Rattle.rows.specs.Buffers.{row_of, stored};
-ghost use Rattle.rows.specs.Values.{standing_of, has_ordinary, ordinary_of, monitored_standing, has_monitored, monitored_of, has_values, values_of};
+ghost use Rattle.rows.specs.Values.{standing_of, has_values, values_of};
 
-use monitoring::{THRESHOLDS, TRIGGER_RATES, VETO_RATES};
 use note::{
-    ADMINISTRATIVE_ROW, CHARGE_ROW, GPS_ROW, HISTORY_ROW, PHONON_ROW, THRESHOLDS_ROW, TLB_ROW,
-    TRACE_ROW, TRIGGER_RATES_ROW, TRIGGER_ROW, VETO_RATES_ROW,
+    ADMINISTRATIVE_ROW, CHARGE_ROW, GPS_ROW, HISTORY_ROW, PHONON_ROW, TLB_ROW, TRACE_ROW,
+    TRIGGER_ROW,
 };
 use rules::{
     ADMINISTRATIVE, CHARGE, CODE_AT, GPS, HISTORY, N_AT, PHONON, TLB, TRACE, TRIGGER, history_rule,
@@ -103,10 +102,10 @@ fn value_places(word: u32) -> Standing
     }
 }
 
-// Whether a kind's row has values, and a body holds the words that they are, outside monitoring events.
-fn has_ordinary(word: u32, b: &[u8], big: bool) -> bool
+/// Whether a kind's row has values, and a body holds the words that they are.
+pub fn has_values(word: u32, b: &[u8], big: bool) -> bool
     requires { length b.now < 0x100000000 }
-    ensures { result ≡ has_ordinary (order_from big) word b.now }
+    ensures { result ≡ has_values (order_from big) word b.now }
 {
     let s = value_places(word);
     if s.kind == HISTORY_ROW {
@@ -118,10 +117,10 @@ fn has_ordinary(word: u32, b: &[u8], big: bool) -> bool
     s.two + 4 <= b.len()
 }
 
-// A row's values, from a body that holds them, outside monitoring events.
-fn ordinary_values(word: u32, b: &[u8], big: bool) -> Values
-    requires { (has_ordinary (order_from big) word b.now ≡ true) × (length b.now < 0x100000000) }
-    ensures { result ≡ ordinary_of (order_from big) word b.now }
+/// A row's values, from a body that holds them.
+pub fn values_in(word: u32, b: &[u8], big: bool) -> Values
+    requires { (has_values (order_from big) word b.now ≡ true) × (length b.now < 0x100000000) }
+    ensures { result ≡ values_of (order_from big) word b.now }
 {
     let s = value_places(word);
     if s.kind == HISTORY_ROW {
@@ -137,80 +136,6 @@ fn ordinary_values(word: u32, b: &[u8], big: bool) -> Values
         one: word_at(b, s.one, big),
         two: word_at(b, s.two, big),
     }
-}
-
-// Where the first value of a row stands in a monitoring event; its second value is 0.
-fn monitored_place(word: u32) -> Standing
-    ensures { result ≡ monitored_standing word }
-{
-    match word {
-        THRESHOLDS => Standing {
-            kind: THRESHOLDS_ROW,
-            one: 12,
-            two: 0,
-        },
-        TRIGGER_RATES => Standing {
-            kind: TRIGGER_RATES_ROW,
-            one: 4,
-            two: 0,
-        },
-        VETO_RATES => Standing {
-            kind: VETO_RATES_ROW,
-            one: 4,
-            two: 0,
-        },
-        _ => Standing {
-            kind: 0,
-            one: 4,
-            two: 0,
-        },
-    }
-}
-
-// Whether a kind's row has values, and a body holds the first, in a monitoring event.
-fn has_monitored(word: u32, b: &[u8]) -> bool
-    ensures { result ≡ has_monitored word b.now }
-{
-    let s = monitored_place(word);
-    if s.kind == 0 {
-        return false;
-    }
-    s.one + 4 <= b.len()
-}
-
-// A row's values, from a body that holds them, in a monitoring event.
-fn monitored_values(word: u32, b: &[u8], big: bool) -> Values
-    requires { has_monitored word b.now ≡ true }
-    ensures { result ≡ monitored_of (order_from big) word b.now }
-{
-    let s = monitored_place(word);
-    Values {
-        kind: s.kind,
-        one: word_at(b, s.one, big),
-        two: 0,
-    }
-}
-
-/// Whether the row of a kind, in a monitoring event or not, has values, and a body holds the words that they are.
-pub fn has_values(monitoring: bool, word: u32, b: &[u8], big: bool) -> bool
-    requires { length b.now < 0x100000000 }
-    ensures { result ≡ has_values (order_from big) monitoring word b.now }
-{
-    if monitoring {
-        return has_monitored(word, b);
-    }
-    has_ordinary(word, b, big)
-}
-
-/// A row's values, from a body that holds them.
-pub fn values_in(monitoring: bool, word: u32, b: &[u8], big: bool) -> Values
-    requires { (has_values (order_from big) monitoring word b.now ≡ true) × (length b.now < 0x100000000) }
-    ensures { result ≡ values_of (order_from big) monitoring word b.now }
-{
-    if monitoring {
-        return monitored_values(word, b, big);
-    }
-    ordinary_values(word, b, big)
 }
 
 // Stores the numbers of a row, one after the other, in its part of the buffer.

@@ -18,7 +18,7 @@ use Rattle.note.specs.History.{history_rule, history_kind}
 use Rattle.note.specs.Gps.{gps_rule, gps_kind}
 use Rattle.note.specs.Trigger.{trigger_rule, trigger_kind}
 use Rattle.note.specs.Tlb.{tlb_rule, tlb_kind}
-use Rattle.note.specs.Records.{kind_of}
+use Rattle.note.specs.Records.{record_rule}
 use Rattle.note.proofs.KindCases.{kind_cases}
 
 -- The least length of a body, by kind word.
@@ -40,7 +40,7 @@ exactly n cs b e = let l : length b ≡ n = equal_passed (length b) n 5 (first-a
 at_least : (n : ℕ) (cs b : List ℕ) → first (unless (leb n (length b)) 6 ∷ cs) ≡ 0 → n ≤ length b
 at_least n cs b e = most_passed n (length b) 5 (first-at _ e 0)
 
-pub long_enough : (o : Order) (k : ℕ) (b : List ℕ) → (kind_of k).rule o b ≡ 0 → least k ≤ length b
+pub long_enough : (o : Order) (k : ℕ) (b : List ℕ) → record_rule o k b ≡ 0 → least k ≤ length b
 unfolding phonon_rule charge_rule administrative_rule trace_rule history_rule gps_rule trigger_rule tlb_rule
 long_enough o k b =
     kind_cases (λ w x. x.rule o b ≡ 0 → least w ≤ length b) k

@@ -9,7 +9,7 @@ ghost use Rattle.note.specs.History.{width_at, width_of, end_at, section_rule, h
 ghost use Rattle.note.specs.Gps.{gps_rule};
 ghost use Rattle.note.specs.Trigger.{trigger_rule};
 ghost use Rattle.note.specs.Tlb.{tlb_rule};
-ghost use Rattle.note.specs.Records.{kind_of};
+ghost use Rattle.note.specs.Records.{record_rule};
 
 use channels::{is_charge, is_named, is_phonon};
 use fields::{
@@ -318,7 +318,7 @@ pub fn tlb_rule(b: &[u8], big: bool) -> u32
 /// The rule of a kind word's kind; 5 for a word that names none. Most records are traces.
 pub fn rule(word: u32, b: &[u8], big: bool) -> u32
     requires { length b.now < 0x100000000 }
-    ensures { result ≡ (kind_of word).rule (order_from big) b.now }
+    ensures { result ≡ record_rule (order_from big) word b.now }
 {
     if word == TRACE {
         return trace_rule(b, big);

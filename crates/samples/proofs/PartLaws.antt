@@ -1,6 +1,5 @@
 -- Where the samples stand: a part of the file, which is empty exactly where no trace was found.
 -- The idea: what Record finds is either a refusal, or another kind, or a trace, whose body has 48 bytes before at least two samples.
-use mathlib.Core.Bool.{false}
 use Prim.Native.Nat.{ℕ, ◌+◌, ◌-◌, ◌≤◌, ◌<◌}
 use mathlib.Core.Path.{◌≡◌, refl, sym, ap, ◌∙◌}
 use mathlib.Core.List.{List}
@@ -26,18 +25,18 @@ empty : (o : Order) (bs : List ℕ) (place : ℕ) → samples_part o bs place �
 empty o bs place e = none e (ap length (sym (empty_part o bs place e)))
 
 -- A trace that was found stands there with its samples.
-whole : {o : Order} {bs : List ℕ} {place n : ℕ} → Found o false bs place 0x11 n → Stands o bs place
+whole : {o : Order} {bs : List ℕ} {place n : ℕ} → Found o bs place 0x11 n → Stands o bs place
 whole {o} {bs} {place} {n} g =
     part (n - 48) (part-found g) (ap length (sym (part-given g)) ∙ cut_long g) (some g) (omega (arith, g.fits, g.within, long g))
 
 pub stands : (o : Order) (bs : List ℕ) (place : ℕ) → Stands o bs place
 unfolding step_of
-stands o bs place = go (record_found o false bs place) refl
+stands o bs place = go (record_found o bs place) refl
   where
-    go : (r : Res Record) → record_found o false bs place ≡ r → Stands o bs place
-    go (bad c p) e = empty o bs place (refused-part o bs place {c = c} {p = p} {s = step_of (record_found o false bs place)} (ap step_of e) refl)
+    go : (r : Res Record) → record_found o bs place ≡ r → Stands o bs place
+    go (bad c p) e = empty o bs place (refused-part o bs place {c = c} {p = p} {s = step_of (record_found o bs place)} (ap step_of e) refl)
     go (ok r) e =
-        let g : Found o false bs place r.word (length r.body) = good-found {s = step_of (record_found o false bs place)} (ap step_of e) refl in
+        let g : Found o bs place r.word (length r.body) = good-found {s = step_of (record_found o bs place)} (ap step_of e) refl in
         elim (ℕ_discrete r.word 0x11) [
           | yes t ↦ whole (trace-found g t)
           | no other ↦ empty o bs place (no_part g other)

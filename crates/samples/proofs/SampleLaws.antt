@@ -1,6 +1,5 @@
 -- What a trace that was found shows: how long its samples are, that they fill whole words, and Sample's answer by each test's outcome.
 -- The idea: the rule's last test makes the body 48 + 2n bytes, and n is even.
-use mathlib.Core.Bool.{false}
 use Prim.Native.Nat.{ℕ, zero, suc, ◌+◌, ◌-◌, ◌*◌, ◌/◌, ◌%◌, ◌≤◌, ◌<◌}
 use mathlib.Core.Path.{◌≡◌, sym, ap, subst, ◌∙◌}
 use mathlib.Core.List.{List, [], ◌∷◌}
@@ -31,7 +30,7 @@ drop-take (suc a) (suc n) (x ∷ xs) =
     drop-take a n xs ∙ ap (λ (m : ℕ). take m (drop a xs)) e
 
 -- Another kind.
-module _ {o : Order} {bs : List ℕ} {place k n : ℕ} (g : Found o false bs place k n) (other : k ≡ 0x11 → ⊥) where
+module _ {o : Order} {bs : List ℕ} {place k n : ℕ} (g : Found o bs place k n) (other : k ≡ 0x11 → ⊥) where
   pub no_part : samples_part o bs place ≡ (0, 0)
   unfolding samples_part
   no_part = rw (g.found, ne_eqb k 0x11 other)
@@ -41,10 +40,10 @@ module _ {o : Order} {bs : List ℕ} {place k n : ℕ} (g : Found o false bs pla
   no_sample m = rw (g.found, ne_eqb k 0x11 other)
 
 -- A trace.
-pub trace-found : {o : Order} {bs : List ℕ} {place k n : ℕ} → Found o false bs place k n → k ≡ 0x11 → Found o false bs place 0x11 n
-trace-found {o} {bs} {place} {k} {n} g trace = subst (λ (w : ℕ). Found o false bs place w n) trace g
+pub trace-found : {o : Order} {bs : List ℕ} {place k n : ℕ} → Found o bs place k n → k ≡ 0x11 → Found o bs place 0x11 n
+trace-found {o} {bs} {place} {k} {n} g trace = subst (λ (w : ℕ). Found o bs place w n) trace g
 
-module _ {o : Order} {bs : List ℕ} {place n : ℕ} (g : Found o false bs place 0x11 n) where
+module _ {o : Order} {bs : List ℕ} {place n : ℕ} (g : Found o bs place 0x11 n) where
   abbrev count : ℕ
   count = word o 44 (body_at bs place n)
 
@@ -104,10 +103,10 @@ module _ {o : Order} {bs : List ℕ} {place n : ℕ} (g : Found o false bs place
   sample_given_lem m l h e = rw (g.found, le-leb 1 m l, le-leb m count (omega (arith, size_of_trace, h)), e, cut-size, part_bytes)
 
 -- No part: another kind, or a refusal.
-pub refused-part : (o : Order) (bs : List ℕ) (place : ℕ) {c p : ℕ} {s : Step} → s ≡ Bad c p → s ≡ step_of (record_found o false bs place)
+pub refused-part : (o : Order) (bs : List ℕ) (place : ℕ) {c p : ℕ} {s : Step} → s ≡ Bad c p → s ≡ step_of (record_found o bs place)
     → samples_part o bs place ≡ (0, 0)
 unfolding samples_part
-refused-part o bs place is gives = rw (step_bad (record_found o false bs place) _ _ (sym is ∙ gives))
+refused-part o bs place is gives = rw (step_bad (record_found o bs place) _ _ (sym is ∙ gives))
 
 pub empty_part : (o : Order) (bs : List ℕ) (place : ℕ) → samples_part o bs place ≡ (0, 0) → [] ≡ samples_at o bs place
 unfolding samples_at

@@ -19,7 +19,7 @@ pub fn samples<'a>(file: &'a [u8], place: usize, big: bool) -> &'a [u8]
     ensures bytes { result.now ≡ samples_at (order_from big) file.now place }
     ensures own { result.ref_ptr ≡ (file.entry.ref_ptr.0, (samples_part (order_from big) file.now place).0 + file.entry.ref_ptr.1) }
 {
-    match record_found(file, place, false, big) {
+    match record_found(file, place, big) {
         Step::Good { word, length } => {
             if word == rules::TRACE {
                 return &file[place + SAMPLES_FROM..place + FRONT + length];
@@ -50,7 +50,7 @@ fn sample_of(part: &[u8], number: usize, big: bool) -> u16
 pub fn sample(file: &[u8], place: usize, number: usize, big: bool) -> SampleAnswer
     ensures { given_sample result ≡ sample_at (order_from big) file.now place number }
 {
-    match record_found(file, place, false, big) {
+    match record_found(file, place, big) {
         Step::Good { word, length } => {
             if word != rules::TRACE {
                 return SampleAnswer::Refused {

@@ -1,7 +1,6 @@
 -- Filling the rows of events that were checked: what is known at each turn, and what a turn leads to.
 -- The idea: an event's records are stored behind its own row's place, and its own row, whose count is known then, before them.
 use mathlib.Core.Path.{◌≡◌, refl, sym, ap, ap₂, ◌∙◌, subst}
-use mathlib.Core.Bool.{Bool}
 use mathlib.Core.List.{List, [], ◌∷◌, ◌++◌, map, append-nil, map-append}
 use Prim.Native.Nat.{ℕ, ◌+◌, ◌-◌, ◌*◌, ◌%◌, ◌≤◌, ◌<◌}
 use native.Mathlib.Omega.{arith}
@@ -15,11 +14,10 @@ use Rattle.theory.proofs.LayoutLaws.{rows_append, length-rows, row_count-append,
 use Rattle.theory.proofs.LoopLaws.{At, start, ended, prefix, reads}
 use Rattle.note.specs.Limits.{file_limit, row_width}
 use Rattle.note.specs.Words.{word}
-use Rattle.note.specs.Records.{Context, in_monitoring, records_bytes, read_records}
-use Rattle.note.specs.Events.{Container, is_monitoring, event_context}
+use Rattle.note.specs.Records.{event, unseen, records_bytes, read_records}
+use Rattle.note.specs.Events.{Container}
 use Rattle.note.specs.Rows.{child_of, children_of, event_node}
 use Rattle.demands.proofs.Bundles.{event_item, events, same-events}
-use Rattle.demands.proofs.EventLaws.{type_decides}
 use Rattle.demands.proofs.RowLaws.{children_total, events-extents}
 use Rattle.containers.specs.Counts.{rows_of_events}
 use Rattle.containers.proofs.RecordLoop.{behind_of, Bytes-behind}
@@ -37,7 +35,7 @@ nodes o es = map (event_node o) es
 -- The rows that check counts are the rows of the events' nodes.
 pub events-rows : (o : Order) (es : List Container) → row_count (nodes o es) ≡ rows_of_events es
 events-rows o [] = refl
-events-rows o (e ∷ es) = omega (arith, length-map e.body (child_of o (is_monitoring e.word)), events-rows o es)
+events-rows o (e ∷ es) = omega (arith, length-map e.body (child_of o), events-rows o es)
 
 -- What is known at a turn: the events so far, the place behind them, and their rows in the buffer.
 pub record FillingEvents (o : Order) (from : ℕ) (bs rows₀ : List ℕ) (first : ℕ) (stored' rest : List ℕ) (at n : ℕ) : Type 0 where
@@ -93,25 +91,15 @@ module _ {o : Order} {from : ℕ} {bs rows₀ : List ℕ} {first : ℕ} {now res
       contents-size : length (records_bytes o this.body) ≡ m
       contents-size = coming.size ∙ sym em
 
-      -- what its records are read as, and whether that is as a monitoring event's
-      abbrev context : Context
-      context = event_context (word o 0 rest)
-
-      abbrev sort : Bool
-      sort = is_monitoring this.word
-
-      sort-is : in_monitoring context ≡ sort
-      sort-is = type_decides (word o 0 rest) ∙ ap is_monitoring (sym coming.kind-is)
-
-      contents : read_records o context (at + 8) (cut_body m rest) ≡ ok this.body
-      contents = subst (λ (y : ℕ). read_records o context (at + 8) (cut_body y rest) ≡ ok this.body) (sym em) coming.contents
+      contents : read_records o (event unseen) (at + 8) (cut_body m rest) ≡ ok this.body
+      contents = subst (λ (y : ℕ). read_records o (event unseen) (at + 8) (cut_body y rest) ≡ ok this.body) (sym em) coming.contents
 
       -- its children, which its length word measures
       abbrev ch : List Child
-      ch = children_of o sort this.body
+      ch = children_of o this.body
 
       whole_is : 8 + m ≡ 8 + total ch
-      whole_is = omega (arith, contents-size, children_total o sort this.body)
+      whole_is = omega (arith, contents-size, children_total o this.body)
 
       -- it fits what is left, which ends within the limit
       pub sized : (8 + m ≤ length rest) × (at + (8 + m) ≤ file_limit)
@@ -128,7 +116,7 @@ module _ {o : Order} {from : ℕ} {bs rows₀ : List ℕ} {first : ℕ} {now res
             arith,
             ap row_count (map-append (event_node o) i.es (this ∷ [])),
             row_count-append (nodes o i.es) (event_node o this ∷ []),
-            length-map this.body (child_of o sort),
+            length-map this.body (child_of o),
           )
 
       more_bytes : extents (nodes o (i.es ++ this ∷ [])) ≡ extents (nodes o i.es) + (8 + m)
@@ -158,21 +146,10 @@ module _ {o : Order} {from : ℕ} {bs rows₀ : List ℕ} {first : ℕ} {now res
           )
 
       -- its records can be filled, from the row behind its own on
-      module _ (t : Bool) (k : ℕ) (et : t ≡ is_monitoring k) (ek : k ≡ word o 0 rest) where
-        told : sort ≡ t
-        told = ap is_monitoring (coming.kind-is ∙ sym ek) ∙ sym et
-
-        pub fillable : Fillable o t (at + 8) (cut_body m rest) (length now) (n + 1)
-        fillable =
-            let size : length (cut_body m rest) ≡ m = cut-length m rest sized.0 in
-            record {
-              context = context;
-              sort = sort-is ∙ told;
-              records = this.body;
-              reads = contents;
-              within = omega (arith, size, sized.1);
-              fits = rows_fit;
-            }
+      pub fillable : Fillable o (at + 8) (cut_body m rest) (length now) (n + 1)
+      fillable =
+          let size : length (cut_body m rest) ≡ m = cut-length m rest sized.0 in
+          record { context = event unseen; records = this.body; reads = contents; within = omega (arith, size, sized.1); fits = rows_fit }
 
       -- its own row, and its rows
       abbrev own_row : Row
@@ -196,14 +173,9 @@ module _ {o : Order} {from : ℕ} {bs rows₀ : List ℕ} {first : ℕ} {now res
       row_is = omega (arith, i.row, length-rows (first + 1) from (nodes o i.es))
 
       -- Where its records were filled.
-      module _ (t : Bool) (k : ℕ) (et : t ≡ is_monitoring k) (ek : k ≡ word o 0 rest) (filled : List ℕ) (next : ℕ)
-          (g : Filled o t (at + 8) (cut_body m rest) now (n + 1) (n + 1) filled next) where
+      module _ (filled : List ℕ) (next : ℕ) (g : Filled o (at + 8) (cut_body m rest) now (n + 1) (n + 1) filled next) where
         records-filled : (filled ≡ stored now (n + 1) (child_rows (n + 1) (at + 8) ch)) × (next ≡ n + 1 + length this.body)
-        records-filled =
-            let (held, is) = g context this.body (sort-is ∙ told t k et ek) contents in (
-              held ∙ ap (λ (x : Bool). stored now (n + 1) (child_rows (n + 1) (at + 8) (children_of o x this.body))) (sym (told t k et ek)),
-              is,
-            )
+        records-filled = g (event unseen) this.body contents
 
         -- its own row's index lies below the next, which is no more than the bytes so far, and its own row fits
         pub next_row : (n + 1 ≤ next) × (next ≤ at + (8 + m)) × (n * row_width + row_width ≤ length filled)
@@ -214,7 +186,7 @@ module _ {o : Order} {from : ℕ} {bs rows₀ : List ℕ} {first : ℕ} {now res
               omega (arith, ap length held, length-stored now (n + 1) (child_rows (n + 1) (at + 8) ch), rows_fit),
             )
 
-        module _ (now' : List ℕ) (ew : now' ≡ stored filled n (row_of (put_row at k m n next) ∷ [])) where
+        module _ (k : ℕ) (ek : k ≡ word o 0 rest) (now' : List ℕ) (ew : now' ≡ stored filled n (row_of (put_row at k m n next) ∷ [])) where
           own_is : row_of (put_row at k m n next) ≡ own_row
           unfolding row_of
           own_is =

@@ -1,7 +1,6 @@
 -- Filling the rows of a file that was checked: the rows that storing its parts' rows in the code's order leaves.
 -- The idea: each part that code cuts out is read as the file's own, so its rows are the file's, and they stand one behind the other.
 use mathlib.Core.Path.{◌≡◌, refl, sym, ap, ap₂, ◌∙◌}
-use mathlib.Core.Bool.{false}
 use mathlib.Core.List.{List, [], ◌∷◌, ◌++◌, map}
 use Prim.Native.Nat.{ℕ, ◌+◌, ◌-◌, ◌≤◌}
 use native.Mathlib.Omega.{arith}
@@ -32,7 +31,7 @@ abbrev entries : Order → File → List Record
 entries o f = (configuration_of f).body
 
 abbrev ch : File → List Child
-ch f = children_of (order_in f) false (entries (order_in f) f)
+ch f = children_of (order_in f) (entries (order_in f) f)
 
 abbrev header_row : Order → File → Row
 header_row o f = record { kind = 1; start = 0; whole = 8; parent = 0; one = version_of f; two = 0 }
@@ -52,7 +51,7 @@ unfolding rows_of nodes_of rows
 rows_are f = refl
 
 front-size : (f : File) → length (front (order_in f) f) ≡ 2 + length (entries (order_in f) f)
-front-size f = omega (arith, length-child_rows 2 16 (ch f), length-map (entries (order_in f) f) (child_of (order_in f) false))
+front-size f = omega (arith, length-child_rows 2 16 (ch f), length-map (entries (order_in f) f) (child_of (order_in f)))
 
 count : (f : File) → length (rows_of f) ≡ 2 + length (entries (order_in f) f) + length (event_rows f)
 count f = omega (arith, ap length (rows_are f), length-append (front (order_in f) f) (event_rows f), front-size f)
@@ -123,13 +122,12 @@ module _ {o : Order} {bs buffer : List ℕ} {m : ℕ} {one : List ℕ} (b : Begu
   one_size = ap length b.held ∙ length-stored buffer 0 (header_row o f ∷ [])
 
   -- the entries can be filled, from the third row on
-  pub fillable : Fillable o false 16 (entries_part bs m) (length one) 2
+  pub fillable : Fillable o 16 (entries_part bs m) (length one) 2
   fillable =
       let size : length (entries_part bs m) ≡ length (records_bytes o (entries o f)) =
       ap length (entries-part bs f b.bytes b.asked.reads _ part-size) in
       record {
         context = entry;
-        sort = refl;
         records = entries o f;
         reads = entries_are;
         within = omega (arith, size, contents);
@@ -137,9 +135,9 @@ module _ {o : Order} {bs buffer : List ℕ} {m : ℕ} {one : List ℕ} (b : Begu
       }
 
   -- Where the entries were filled.
-  module _ (two : List ℕ) (next : ℕ) (g : Filled o false 16 (entries_part bs m) one 2 2 two next) where
+  module _ (two : List ℕ) (next : ℕ) (g : Filled o 16 (entries_part bs m) one 2 2 two next) where
     filled : (two ≡ stored one 2 (child_rows 2 16 (ch f))) × (next ≡ 2 + length (entries o f))
-    filled = g entry (entries o f) refl entries_are
+    filled = g entry (entries o f) entries_are
 
     -- the next row's index: two rows lie before the entries', of which there are no more than bytes; and the buffer is as long as it was
     pub next_row : (2 ≤ next) × (next ≤ 2 + m) × (length two ≡ length buffer)
@@ -151,10 +149,10 @@ module _ {o : Order} {bs buffer : List ℕ} {m : ℕ} {one : List ℕ} (b : Begu
 
     -- the events' place, their first row's number, and so their rows
     place_is : 8 + (8 + m) ≡ 8 + (8 + total (ch f))
-    place_is = omega (arith, contents.0, children_total o false (entries o f))
+    place_is = omega (arith, contents.0, children_total o (entries o f))
 
     number_is : next + 1 ≡ 3 + length (ch f)
-    number_is = omega (arith, filled.1, length-map (entries o f) (child_of o false))
+    number_is = omega (arith, filled.1, length-map (entries o f) (child_of o))
 
     event-rows : rows (next + 1) (8 + (8 + m)) (map (event_node o) (events_of f)) ≡ event_rows f
     event-rows = ap₂ (λ (x y : ℕ). rows x y (map (event_node o) (events_of f))) number_is place_is

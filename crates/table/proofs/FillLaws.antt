@@ -1,7 +1,7 @@
 -- Filling the rows of records that were checked: what is known at each turn, and what a turn leads to.
 -- The idea: the whole is known to be read, so what stands next is read too, and its kind and length words say what it is.
 use mathlib.Core.Path.{◌≡◌, refl, sym, ap, ap₂, ◌∙◌, subst}
-use mathlib.Core.Bool.{Bool, true}
+use mathlib.Core.Bool.{true}
 use mathlib.Core.List.{List, [], ◌∷◌, ◌++◌, map-append}
 use Prim.Native.Nat.{ℕ, ◌+◌, ◌*◌, ◌≤◌, ◌<◌}
 use native.Mathlib.Nat.{add-zero}
@@ -15,17 +15,16 @@ use Rattle.theory.proofs.LayoutLaws.{length-child_rows}
 use Rattle.theory.proofs.LoopLaws.{At, start, ended, prefix, reads}
 use Rattle.note.specs.Limits.{file_limit, row_width}
 use Rattle.note.specs.Words.{word}
-use Rattle.note.specs.Records.{Record, Context, in_monitoring, kind_in, behind, read_records}
+use Rattle.note.specs.Records.{Record, Context, behind, read_records}
 use Rattle.note.specs.Rows.{child_of, children_of}
 use Rattle.demands.proofs.Bundles.{record_item, same_record, same-records}
-use Rattle.demands.proofs.EventLaws.{still}
 use Rattle.record.proofs.StepLaws.{Read, read-shows, cut_body, cut, body-follows, cut-length}
 use Rattle.containers.proofs.RecordLoop.{record_at, behind_of, on}
 use Rattle.rows.specs.declared.Row as code
 use Rattle.rows.specs.declared.Values.{Values}
 use Rattle.rows.specs.Buffers.{row_of, stored}
 use Rattle.rows.specs.Values.{has_values, values_of}
-use Rattle.rows.proofs.ValueLaws.{rule_has_values, values_are}
+use Rattle.rows.proofs.ValueLaws.{rule_has_values}
 use Rattle.rows.proofs.StoreLaws.{stored-append, stored-nil, length-stored}
 use Rattle.table.specs.Filling.{Fillable, Filled}
 
@@ -43,53 +42,42 @@ rows_append p at (x ∷ xs) c =
     (rows_append p (at + x.size) xs c ∙ ap (λ (q : ℕ). child_rows p (at + x.size) xs ++ (child_row p q c ∷ [])) e)
 
 -- What is known at a turn, in one context: the records so far, the place behind them, and their rows in the buffer.
-pub record FillingIn (o : Order) (t : Bool) (s₀ : Context) (from : ℕ) (bs rows₀ : List ℕ) (first parent : ℕ)
-    (rows rest : List ℕ) (at n : ℕ) : Type 0 where
+pub record FillingIn (o : Order) (s₀ : Context) (from : ℕ) (bs rows₀ : List ℕ) (first parent : ℕ) (rows rest : List ℕ) (at n : ℕ) : Type 0 where
   pub state : Context
-  pub sort : in_monitoring state ≡ t
   pub xs : List Record
   pub is : At (record_item o) s₀ from bs state at rest xs
-  pub here : at ≡ from + total (children_of o t xs)
+  pub here : at ≡ from + total (children_of o xs)
   pub row : n ≡ first + length xs
-  pub held : rows ≡ stored rows₀ first (child_rows parent from (children_of o t xs))
+  pub held : rows ≡ stored rows₀ first (child_rows parent from (children_of o xs))
 
 -- What is known at a turn: that, in each context in which the part is read.
-abbrev pub Filling : Order → Bool → ℕ → List ℕ → List ℕ → ℕ → ℕ → List ℕ → List ℕ → ℕ → ℕ → Type 0
-Filling o t from bs rows₀ first parent rows rest at n =
-    (s : Context) (rs : List Record) → in_monitoring s ≡ t → read_records o s from bs ≡ ok rs
-    → FillingIn o t s from bs rows₀ first parent rows rest at n
+abbrev pub Filling : Order → ℕ → List ℕ → List ℕ → ℕ → ℕ → List ℕ → List ℕ → ℕ → ℕ → Type 0
+Filling o from bs rows₀ first parent rows rest at n =
+    (s : Context) (rs : List Record) → read_records o s from bs ≡ ok rs → FillingIn o s from bs rows₀ first parent rows rest at n
 
-pub begin : (o : Order) (t : Bool) (from : ℕ) (bs rows : List ℕ) (first parent : ℕ) → Filling o t from bs rows first parent rows bs from first
+pub begin : (o : Order) (from : ℕ) (bs rows : List ℕ) (first parent : ℕ) → Filling o from bs rows first parent rows bs from first
 unfolding child_rows
-begin o t from bs rows first parent s rs em e =
-    record {
-      state = s;
-      sort = em;
-      xs = [];
-      is = start (record_item o) s from bs;
-      here = omega arith;
-      row = omega arith;
-      held = sym (stored-nil rows first);
-    }
+begin o from bs rows first parent s rs e =
+    record { state = s; xs = []; is = start (record_item o) s from bs; here = omega arith; row = omega arith; held = sym (stored-nil rows first) }
 
 -- The row that code stores for a record: its values, where it begins, its length word, its parent's number.
 abbrev put_row : Values → ℕ → ℕ → ℕ → code.Row
 put_row v at m parent = record { kind = v.kind; start = at; whole = 8 + m; parent = parent; one = v.one; two = v.two }
 
 -- In one context.
-module _ {o : Order} {t : Bool} {s₀ : Context} {from : ℕ} {bs rows₀ : List ℕ} {first parent : ℕ} {rows rest : List ℕ} {at n : ℕ}
-    (i : FillingIn o t s₀ from bs rows₀ first parent rows rest at n) (rs : List Record) (w : read_records o s₀ from bs ≡ ok rs) where
+module _ {o : Order} {s₀ : Context} {from : ℕ} {bs rows₀ : List ℕ} {first parent : ℕ} {rows rest : List ℕ} {at n : ℕ}
+    (i : FillingIn o s₀ from bs rows₀ first parent rows rest at n) (rs : List Record) (w : read_records o s₀ from bs ≡ ok rs) where
   -- the rows so far
   abbrev old : List Row
-  old = child_rows parent from (children_of o t i.xs)
+  old = child_rows parent from (children_of o i.xs)
 
   same_rows_in : length rows ≡ length rows₀
   same_rows_in = ap length i.held ∙ length-stored rows₀ first old
 
-  done_in : length rest ≤ 0 → (rows ≡ stored rows₀ first (child_rows parent from (children_of o t rs))) × (n ≡ first + length rs)
+  done_in : length rest ≤ 0 → (rows ≡ stored rows₀ first (child_rows parent from (children_of o rs))) × (n ≡ first + length rs)
   done_in h =
       let same : i.xs ≡ rs = ok_inj (ended (record_item o) i.is (omega arith) ∙ sym (same-records o s₀ from bs) ∙ w) in (
-        i.held ∙ ap (λ (x : List Record). stored rows₀ first (child_rows parent from (children_of o t x))) same,
+        i.held ∙ ap (λ (x : List Record). stored rows₀ first (child_rows parent from (children_of o x))) same,
         i.row ∙ ap (λ (x : List Record). first + length x) same,
       )
 
@@ -115,33 +103,32 @@ module _ {o : Order} {t : Bool} {s₀ : Context} {from : ℕ} {bs rows₀ : List
 
     -- its row, and the rows with it
     abbrev mine : Row
-    mine = child_row parent (from + total (children_of o t i.xs)) (child_of o t this)
+    mine = child_row parent (from + total (children_of o i.xs)) (child_of o this)
 
-    with_this : children_of o t (i.xs ++ this ∷ []) ≡ children_of o t i.xs ++ (child_of o t this ∷ [])
-    with_this = map-append (child_of o t) i.xs (this ∷ [])
+    with_this : children_of o (i.xs ++ this ∷ []) ≡ children_of o i.xs ++ (child_of o this ∷ [])
+    with_this = map-append (child_of o) i.xs (this ∷ [])
 
-    with_mine : child_rows parent from (children_of o t (i.xs ++ this ∷ [])) ≡ old ++ (mine ∷ [])
-    with_mine = ap (child_rows parent from) with_this ∙ rows_append parent from (children_of o t i.xs) (child_of o t this)
+    with_mine : child_rows parent from (children_of o (i.xs ++ this ∷ [])) ≡ old ++ (mine ∷ [])
+    with_mine = ap (child_rows parent from) with_this ∙ rows_append parent from (children_of o i.xs) (child_of o this)
 
     row_is : n ≡ first + length old
-    row_is = omega (arith, i.row, length-child_rows parent from (children_of o t i.xs), length-map i.xs (child_of o t))
+    row_is = omega (arith, i.row, length-child_rows parent from (children_of o i.xs), length-map i.xs (child_of o))
 
-    module _ (v : Values) (ev : v ≡ values_of o t k (cut_body m rest)) where
+    module _ (v : Values) (ev : v ≡ values_of o k (cut_body m rest)) where
       mine-is : row_of (put_row v at m parent) ≡ mine
-      unfolding child_of row_of
+      unfolding child_of values_of row_of
       mine-is =
-          let v-is = ev ∙ ap (values_of o t k) (cut m rest) ∙ values_are o t k (take m (drop 8 rest)) in
+          let v-is : v ≡ values_of o k (take m (drop 8 rest)) = ev ∙ ap (values_of o k) (cut m rest) in
           rw (v-is, shown.size, i.here)
 
       next_in : (rows' : List ℕ) → rows' ≡ stored rows n (row_of (put_row v at m parent) ∷ [])
-          → FillingIn o t s₀ from bs rows₀ first parent rows' (behind_of (8 + m) rest) (at + (8 + m)) (n + 1)
+          → FillingIn o s₀ from bs rows₀ first parent rows' (behind_of (8 + m) rest) (at + (8 + m)) (n + 1)
       unfolding child_of
       next_in rows' ew = record {
         state = behind i.state k;
-        sort = still i.state k ∙ i.sort;
         xs = i.xs ++ this ∷ [];
         is = moved;
-        here = omega (arith, i.here, ap total with_this, total-append (children_of o t i.xs) (child_of o t this), shown.size);
+        here = omega (arith, i.here, ap total with_this, total-append (children_of o i.xs) (child_of o this), shown.size);
         row = omega (arith, i.row, length-append i.xs (this ∷ []));
         held = ew
             ∙ ap (λ (r : Row). stored rows n (r ∷ [])) mine-is
@@ -151,10 +138,10 @@ module _ {o : Order} {t : Bool} {s₀ : Context} {from : ℕ} {bs rows₀ : List
       }
 
 -- At a turn of the loop over a part that can be filled.
-module _ {o : Order} {t : Bool} {from : ℕ} {bs rows₀ : List ℕ} {first parent : ℕ} {rows rest : List ℕ} {at n : ℕ}
-    (i : Filling o t from bs rows₀ first parent rows rest at n) (p : Fillable o t from bs (length rows₀) first) where
-  abbrev here : FillingIn o t p.context from bs rows₀ first parent rows rest at n
-  here = i p.context p.records p.sort p.reads
+module _ {o : Order} {from : ℕ} {bs rows₀ : List ℕ} {first parent : ℕ} {rows rest : List ℕ} {at n : ℕ}
+    (i : Filling o from bs rows₀ first parent rows rest at n) (p : Fillable o from bs (length rows₀) first) where
+  abbrev here : FillingIn o p.context from bs rows₀ first parent rows rest at n
+  here = i p.context p.records p.reads
 
   pub same_rows : length rows ≡ length rows₀
   same_rows = same_rows_in here p.records p.reads
@@ -168,11 +155,10 @@ module _ {o : Order} {t : Bool} {from : ℕ} {bs rows₀ : List ℕ} {first pare
 
     -- its body, as code cuts it, holds its row's values
     pub valued : (k m : ℕ) → k ≡ word o 0 rest → m ≡ word o 4 rest
-        → (has_values o t k (cut_body m rest) ≡ true) × (length (cut_body m rest) ≤ file_limit)
+        → (has_values o k (cut_body m rest) ≡ true) × (length (cut_body m rest) ≤ file_limit)
     valued k m ek em =
-        let r = shown here p.records p.reads l k m ek em in
-        let follows = body-follows o here.state at rest k m r in (
-          rule_has_values o t k _ (subst (λ (x : Bool). (kind_in x k).rule o (cut_body m rest) ≡ 0) here.sort follows),
+        let r = shown here p.records p.reads l k m ek em in (
+          rule_has_values o k _ (body-follows o here.state at rest k m r),
           omega (arith, cut-length m rest r.fits, (sized m em).1),
         )
 
@@ -181,12 +167,12 @@ module _ {o : Order} {t : Bool} {from : ℕ} {bs rows₀ : List ℕ} {first pare
     row_fits = row_fits_in here p.records p.reads l _ _ refl refl p.fits
 
 -- Behind a turn, and at the end.
-module _ {o : Order} {t : Bool} {from : ℕ} {bs rows₀ : List ℕ} {first parent : ℕ} {rows rest : List ℕ} {at n : ℕ}
-    (i : Filling o t from bs rows₀ first parent rows rest at n) where
-  pub next : 0 < length rest → (k m : ℕ) → k ≡ word o 0 rest → m ≡ word o 4 rest → (v : Values) → v ≡ values_of o t k (cut_body m rest)
+module _ {o : Order} {from : ℕ} {bs rows₀ : List ℕ} {first parent : ℕ} {rows rest : List ℕ} {at n : ℕ}
+    (i : Filling o from bs rows₀ first parent rows rest at n) where
+  pub next : 0 < length rest → (k m : ℕ) → k ≡ word o 0 rest → m ≡ word o 4 rest → (v : Values) → v ≡ values_of o k (cut_body m rest)
       → (rows' : List ℕ) → rows' ≡ stored rows n (row_of (put_row v at m parent) ∷ [])
-      → Filling o t from bs rows₀ first parent rows' (behind_of (8 + m) rest) (at + (8 + m)) (n + 1)
-  next l k m ek em v ev rows' ew s rs es w = next_in (i s rs es w) rs w l k m ek em v ev rows' ew
+      → Filling o from bs rows₀ first parent rows' (behind_of (8 + m) rest) (at + (8 + m)) (n + 1)
+  next l k m ek em v ev rows' ew s rs w = next_in (i s rs w) rs w l k m ek em v ev rows' ew
 
-  pub done : length rest ≤ 0 → Filled o t from bs rows₀ first parent rows n
-  done h s rs es w = done_in (i s rs es w) rs w h
+  pub done : length rest ≤ 0 → Filled o from bs rows₀ first parent rows n
+  done h s rs w = done_in (i s rs w) rs w h

@@ -3,7 +3,6 @@
 use Prim.Native.Nat.{ℕ, ◌*◌, ◌/◌, ◌≤◌, ◌<◌}
 use native.Mathlib.Omega.{arith}
 use mathlib.Core.Path.{◌≡◌, sym, ap, ◌∙◌}
-use mathlib.Core.Bool.{false}
 use mathlib.Core.List.{List}
 use lib.ListN.{length, length-map}
 use borrow.Author.Tests.{le-leb, lt-leb}
@@ -26,8 +25,7 @@ use Rattle.table.proofs.EventFillLaws.{events-rows}
 rows-counted : (f : File) → length (rows_of f) ≡ rows_of_file f
 unfolding rows_of nodes_of
 rows-counted f =
-    length-rows 1 0 (nodes_of f)
-    ∙ omega (arith, length-map (configuration_of f).body (child_of (order_in f) false), events-rows (order_in f) (events_of f))
+    length-rows 1 0 (nodes_of f) ∙ omega (arith, length-map (configuration_of f).body (child_of (order_in f)), events-rows (order_in f) (events_of f))
 
 -- What check's answer says of the file and its rows.
 rows-good : (r : Res File) (n : ℕ) → Good n ≡ file_rows r → (f : File) × (r ≡ ok f) × (length (rows_of f) ≡ n)

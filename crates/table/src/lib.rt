@@ -6,14 +6,13 @@ ghost use Rattle.table.specs.Filling.{Fillable, FillableEvents, FillableFile, Fi
 
 use containers::{Count, ENTRIES, ENTRIES_LENGTH, HEADER, check};
 use note::{CONFIGURATION_ROW, EVENT_ROW, FEW_ROWS, HEADER_ROW, TableAnswer};
-use record::{FRONT, is_monitoring};
+use record::FRONT;
 use rows::{HEADER_BYTES, ROW_WIDTH, Row, put_row, values_in};
 use words::{is_big, word_at};
 
-// Stores the rows of the records that fill a part, of a monitoring event or not, from the row with the index `first` on, and answers the next
-// row's index. The part was checked, so a record's kind and length words say what stands there.
+// Stores the rows of the records that fill a part, from the row with the index `first` on, and answers the next row's index. The part
+// was checked, so a record's kind and length words say what stands there.
 fn fill_records(
-    monitoring: bool,
     part: &[u8],
     from: usize,
     rows: &mut [u32],
@@ -21,15 +20,15 @@ fn fill_records(
     parent: u32,
     big: bool,
 ) -> usize
-    requires { Fillable (order_from big) monitoring from part.now (length rows.old) first }
-    ensures { Filled (order_from big) monitoring from part.now rows.old first parent rows.new result }
+    requires { Fillable (order_from big) from part.now (length rows.old) first }
+    ensures { Filled (order_from big) from part.now rows.old first parent rows.new result }
 {
     let mut rest = part;
     let mut at = from;
     let mut n = first;
     while 0 < rest.len() {
         let size = FRONT + word_at(rest, 4, big) as usize;
-        let v = values_in(monitoring, word_at(rest, 0, big), &rest[FRONT..size], big);
+        let v = values_in(word_at(rest, 0, big), &rest[FRONT..size], big);
         put_row(
             rows,
             n,
@@ -59,10 +58,8 @@ fn fill_events(part: &[u8], from: usize, rows: &mut [u32], first: usize, big: bo
     let mut at = from;
     let mut n = first;
     while 0 < rest.len() {
-        let word = word_at(rest, 0, big);
         let size = FRONT + word_at(rest, 4, big) as usize;
         let next = fill_records(
-            is_monitoring(word),
             &rest[FRONT..size],
             at + FRONT,
             rows,
@@ -78,7 +75,7 @@ fn fill_events(part: &[u8], from: usize, rows: &mut [u32], first: usize, big: bo
                 start: at as u32,
                 whole: size as u32,
                 parent: 0,
-                one: word % 65536,
+                one: word_at(rest, 0, big) % 65536,
                 two: (next - n - 1) as u32,
             },
         );
@@ -107,7 +104,7 @@ fn fill(file: &[u8], rows: &mut [u32], big: bool)
             two: 0,
         },
     );
-    let next = fill_records(false, &file[ENTRIES..end], ENTRIES, rows, 2, 2, big);
+    let next = fill_records(&file[ENTRIES..end], ENTRIES, rows, 2, 2, big);
     put_row(
         rows,
         1,

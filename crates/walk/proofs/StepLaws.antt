@@ -11,7 +11,6 @@ use borrow.Author.Tests.{le-leb, lt-leb, lt-ltb, le-ltb, eq-eqb, ne_eqb, leb-tru
 use Rattle.theory.specs.declared.Order.{Order}
 use Rattle.note.specs.Limits.{file_limit}
 use Rattle.note.specs.Words.{word}
-use Rattle.note.specs.Events.{is_monitoring}
 use Rattle.note.specs.Files.{read_file}
 use Rattle.note.specs.declared.WalkerYield.{WalkerYield}
 use Rattle.note.specs.declared.WalkerYield.TheVariants.{Row, End}
@@ -99,12 +98,12 @@ few_counted o bs = go (length bs) bs
 -- ---- the steps
 
 pub opens_refused : (bs : List ℕ) (c p : ℕ) → Bad c p ≡ file_rows (read_file bs)
-    → ◌≡◌ {A = Spot} (record { number = c; fault = p; place = 0; end = 0; parent = 0; monitoring = false; rows = 0; last = End }) (start_of bs)
+    → ◌≡◌ {A = Spot} (record { number = c; fault = p; place = 0; end = 0; parent = 0; rows = 0; last = End }) (start_of bs)
 unfolding start_of
 opens_refused bs c p e = rw (count-bad rows_of_file e)
 
 pub opens_accepted : (bs : List ℕ) (n : ℕ) → Good n ≡ file_rows (read_file bs)
-    → ◌≡◌ {A = Spot} (record { number = 0; fault = 0; place = 0; end = 0; parent = 0; monitoring = false; rows = 0; last = End }) (start_of bs)
+    → ◌≡◌ {A = Spot} (record { number = 0; fault = 0; place = 0; end = 0; parent = 0; rows = 0; last = End }) (start_of bs)
 unfolding start_of
 opens_accepted bs n e = let (f, r, s) = count-good rows_of_file e in rw r
 
@@ -113,7 +112,7 @@ module _ (o : Order) (bs : List ℕ) (at : Spot) where
   unfolding header_step
   header-none h = rw (lt-leb 8 (length bs) h)
 
-  pub header-here : 8 ≤ length bs → (v : ℕ) → v ≡ word o 4 bs → moved at 8 8 0 false (Row 1 0 8 0 v 0) ≡ header_step o bs at
+  pub header-here : 8 ≤ length bs → (v : ℕ) → v ≡ word o 4 bs → moved at 8 8 0 (Row 1 0 8 0 v 0) ≡ header_step o bs at
   unfolding header_step
   header-here h v e = rw (le-leb 8 (length bs) h, e)
 
@@ -142,25 +141,25 @@ module _ {o : Order} {bs : List ℕ} {n : ℕ} (f : Found o bs n) where
   few_children c ec = omega (arith, ec, few_counted o (cut_body n bs), cut-length n bs fits)
 
   module _ (at : Spot) (k : ℕ) (ek : k ≡ word o 0 bs) where
-    pub record_empty : has_values o at.monitoring k (cut_body n bs) ≡ false → ended at ≡ record_step o bs at
+    pub record_empty : has_values o k (cut_body n bs) ≡ false → ended at ≡ record_step o bs at
     unfolding record_step
-    record_empty h = let h' : has_values o at.monitoring (word o 0 bs) (body_in o bs) ≡ false = rw (ek, cut-is) at h in rw (f.is-here, h')
+    record_empty h = let h' : has_values o (word o 0 bs) (body_in o bs) ≡ false = rw (ek, cut-is) at h in rw (f.is-here, h')
 
-    pub record_here : has_values o at.monitoring k (cut_body n bs) ≡ true → (v : Values) → v ≡ values_of o at.monitoring k (cut_body n bs)
-        → moved at (at.place + (8 + n)) at.end at.parent at.monitoring (Row v.kind at.place (8 + n) at.parent v.one v.two)
+    pub record_here : has_values o k (cut_body n bs) ≡ true → (v : Values) → v ≡ values_of o k (cut_body n bs)
+        → moved at (at.place + (8 + n)) at.end at.parent (Row v.kind at.place (8 + n) at.parent v.one v.two)
         ≡ record_step o bs at
     unfolding record_step
     record_here h v ev =
-        let h' : has_values o at.monitoring (word o 0 bs) (body_in o bs) ≡ true = rw (ek, cut-is) at h in
-        let v' : v ≡ values_of o at.monitoring (word o 0 bs) (body_in o bs) = rw (ek, cut-is) at ev in
+        let h' : has_values o (word o 0 bs) (body_in o bs) ≡ true = rw (ek, cut-is) at h in
+        let v' : v ≡ values_of o (word o 0 bs) (body_in o bs) = rw (ek, cut-is) at ev in
         rw (f.is-here, h', v', f.length-is)
 
     pub container_here : (c : ℕ) → c ≡ count_in o (cut_body n bs) → (row : WalkerYield) → row ≡ container_row at.place (8 + n) k c
-        → (t : Bool) → t ≡ is_monitoring k → moved at (at.place + 8) (at.place + (8 + n)) (at.rows + 1) t row ≡ container_step o bs at
+        → moved at (at.place + 8) (at.place + (8 + n)) (at.rows + 1) row ≡ container_step o bs at
     unfolding container_step
-    container_here c ec row er t et =
+    container_here c ec row er =
         let c' : c ≡ count_in o (body_in o bs) = rw cut-is at ec in
-        rw (f.is-here, et, er, ek, c', f.length-is)
+        rw (f.is-here, er, ek, c', f.length-is)
 
 -- ---- which step it is
 

@@ -19,15 +19,14 @@ use Rattle.theory.specs.Layout.{total, child_rows, rows, row, box}
 use Rattle.theory.proofs.StructureLaws.{length-structure}
 use Rattle.note.specs.Limits.{file_limit}
 use Rattle.note.specs.Answers.{accepted, refused, counts, given_yield}
-use Rattle.note.specs.Records.{Record, Context, entry, in_monitoring, behind, record_size, record_bytes, records_bytes}
-use Rattle.note.specs.Events.{Container, container_bytes, container_size, events_bytes, is_monitoring, event_context}
+use Rattle.note.specs.Records.{Record, Context, entry, event, unseen, behind, record_size, record_bytes, records_bytes}
+use Rattle.note.specs.Events.{Container, container_bytes, container_size, events_bytes}
 use Rattle.note.specs.Files.{Parts, File, order_of, version_of, configuration_of, events_of, header_bytes, file_bytes, read_file}
 use Rattle.note.specs.Rows.{child_of, children_of, event_node, nodes_of, rows_of, row_numbers, yield_given, yield_at}
 use Rattle.note.specs.declared.WalkerYield.{WalkerYield}
 use Rattle.note.specs.declared.WalkerYield.TheVariants.{Row, End, Refused}
 use Rattle.demands.specs.Valid.{ValidRecords, ValidEvents}
 use Rattle.demands.proofs.Bundles.{header_item}
-use Rattle.demands.proofs.EventLaws.{type_decides, still}
 use Rattle.demands.proofs.Follows.{file_sound, in_its_order}
 use Rattle.demands.proofs.RefusalLaws.{refusal-is-numbered}
 use Rattle.demands.proofs.RowLaws.{children_total, container_size_lem, file-length}
@@ -59,27 +58,27 @@ module _ (bs : List ℕ) (limit : length bs ≤ file_limit) where
   first at next r rs e l on = subst (λ (x : Spot). (x.last ≡ row_yield r) × From x rs) (sym e) (l, on)
 
   -- At the end of the file, the end for ever.
-  ended_yields : (end parent : ℕ) (t : Bool) (n : ℕ) (y : WalkerYield) → 1 ≤ length bs → n ≤ length bs → end ≤ length bs
-      → From (here (length bs) end parent t n y) []
+  ended_yields : (end parent n : ℕ) (y : WalkerYield) → 1 ≤ length bs → n ≤ length bs → end ≤ length bs
+      → From (here (length bs) end parent n y) []
   unfolding steps_from Yields step_of
-  ended_yields end parent t n y one low within k =
-      ap (λ (x : Spot). (steps_from bs k x).last) (end_turn o bs limit end parent t n y one low within) ∙ go k
+  ended_yields end parent n y one low within k =
+      ap (λ (x : Spot). (steps_from bs k x).last) (end_turn o bs limit end parent n y one low within) ∙ go k
     where
-      go : (k : ℕ) → (steps_from bs k (here (length bs) end parent t n End)).last ≡ End
+      go : (k : ℕ) → (steps_from bs k (here (length bs) end parent n End)).last ≡ End
       go zero = refl
-      go (suc k) = ap (λ (x : Spot). (steps_from bs k x).last) (end_turn o bs limit end parent t n End one low within) ∙ go k
+      go (suc k) = ap (λ (x : Spot). (steps_from bs k x).last) (end_turn o bs limit end parent n End one low within) ∙ go k
 
   -- The children of a container, and then what lies behind it.
-  children_yield : (c : Context) (t : Bool) (rs : List Record) → in_monitoring c ≡ t → ValidRecords o c rs
+  children_yield : (c : Context) (rs : List Record) → ValidRecords o c rs
       → (place end parent n : ℕ) (y : WalkerYield) (rest : List ℕ) (later : List Layout.Row)
       → drop place bs ≡ records_bytes o rs ++ rest → place + length (records_bytes o rs) ≡ end → 1 ≤ place → n ≤ place → end ≤ length bs
-      → ((z : WalkerYield) → From (here end end parent t (n + length rs) z) later)
-      → From (here place end parent t n y) (child_rows parent place (children_of o t rs) ++ later)
+      → ((z : WalkerYield) → From (here end end parent (n + length rs) z) later)
+      → From (here place end parent n y) (child_rows parent place (children_of o rs) ++ later)
   unfolding child_rows child_of step_of
-  children_yield c t [] et v place end parent n y rest later part ends one low within on =
+  children_yield c [] v place end parent n y rest later part ends one low within on =
       let p : end ≡ place = omega (arith, ends) in
-      subst (λ (q : ℕ). From (here q end parent t n y) later) p (subst (λ (m : ℕ). From (here end end parent t m y) later) (add-zero n) (on y))
-  children_yield c t (r ∷ rs) et v place end parent n y rest later part ends one low within on =
+      subst (λ (q : ℕ). From (here q end parent n y) later) p (subst (λ (m : ℕ). From (here end end parent m y) later) (add-zero n) (on y))
+  children_yield c (r ∷ rs) v place end parent n y rest later part ends one low within on =
       let all : List ℕ = records_bytes o (r ∷ rs) in
       let size : length (record_bytes o r) ≡ record_size r = length-structure o (λ (b : List ℕ). b) r in
       let sizes : length all ≡ record_size r + length (records_bytes o rs) =
@@ -89,59 +88,56 @@ module _ (bs : List ℕ) (limit : length bs ≤ file_limit) where
       let others : drop (place + record_size r) bs ≡ records_bytes o rs ++ rest =
       behind_of_lem bs place (record_size r) (record_bytes o r) _ (part ∙ append_assoc (record_bytes o r) (records_bytes o rs) rest) size in
       let number_is : n + length (r ∷ rs) ≡ n + 1 + length rs = omega arith in
-      let on-later : (z : WalkerYield) → From (here end end parent t (n + 1 + length rs) z) later =
-      λ z. subst (λ (m : ℕ). From (here end end parent t m z) later) number_is (on z) in
+      let on-later : (z : WalkerYield) → From (here end end parent (n + 1 + length rs) z) later =
+      λ z. subst (λ (m : ℕ). From (here end end parent m z) later) number_is (on z) in
       first _ _ _ _
-      (record_turn o bs limit place end parent t n y c r (records_bytes o rs) et v.0 mine one low (omega (arith, sizes, ends)) within) refl
-      (children_yield (behind c r.word) t rs (still c r.word ∙ et) v.1 _ _ _ _ _ rest later
+      (record_turn o bs limit place end parent n y c r (records_bytes o rs) v.0 mine one low (omega (arith, sizes, ends)) within) refl
+      (children_yield (behind c r.word) rs v.1 _ _ _ _ _ rest later
       others (omega (arith, sizes, ends)) (omega arith) (omega arith) within on-later)
 
   -- A container: its row, its children's, and then those of the nodes behind it.
-  container_yields : (inner : Context) (t : Bool) (c : Container) → is_monitoring c.word ≡ t → in_monitoring inner ≡ t
+  container_yields : (inner : Context) (c : Container)
       → Fits 4 c.word → Fits 4 (length (records_bytes o c.body)) → ValidRecords o inner c.body
-      → (place end parent : ℕ) (u : Bool) (n : ℕ) (y : WalkerYield) (rest : List ℕ) (k a b : ℕ) (ns : List Layout.Node)
+      → (place end parent n : ℕ) (y : WalkerYield) (rest : List ℕ) (k a b : ℕ) (ns : List Layout.Node)
       → drop place bs ≡ container_bytes o c ++ rest → 8 ≤ place → n ≤ place → end ≤ place → place + container_size o c ≤ length bs
       → container_row place (container_size o c) c.word (length c.body) ≡ Row k place (container_size o c) 0 a b
       → (let next = place + container_size o c in let count = n + 1 + length c.body in
-      (z : WalkerYield) → From (here next next (n + 1) t count z) (rows (count + 1) next ns))
-      → From (here place end parent u n y) (rows (n + 1) place (box k a b (children_of o t c.body) ∷ ns))
+      (z : WalkerYield) → From (here next next (n + 1) count z) (rows (count + 1) next ns))
+      → From (here place end parent n y) (rows (n + 1) place (box k a b (children_of o c.body) ∷ ns))
   unfolding rows step_of
-  container_yields inner t c sort et hk hn v place end parent u n y rest k a b ns part one low before within row_is on =
-      let ch : List Layout.Child = children_of o t c.body in
+  container_yields inner c hk hn v place end parent n y rest k a b ns part one low before within row_is on =
+      let ch : List Layout.Child = children_of o c.body in
       let next : ℕ = place + container_size o c in
       let count : ℕ = n + 1 + length c.body in
-      let size_is : container_size o c ≡ 8 + total ch = omega (arith, children_total o t c.body) in
-      let number_is : count + 1 ≡ n + 1 + 1 + length ch = omega (arith, length-map c.body (child_of o t)) in
+      let size_is : container_size o c ≡ 8 + total ch = omega (arith, children_total o c.body) in
+      let number_is : count + 1 ≡ n + 1 + 1 + length ch = omega (arith, length-map c.body (child_of o)) in
       let inside : drop (place + 8) bs ≡ records_bytes o c.body ++ rest =
       sym (drop-drop 8 place bs) ∙ ap (drop 8) part ∙ contents o (records_bytes o) c rest in
       let later-is : rows (count + 1) next ns ≡ rows (n + 1 + 1 + length ch) (place + (8 + total ch)) ns =
       ap₂ (λ (i m : ℕ). rows i (place + m) ns) number_is size_is in
-      first _ _ _ _
-      (container_turn o bs limit place end parent u n y inner c rest hk hn v part (omega arith) low before (omega arith)
-      ∙ ap (λ (s : Bool). here (place + 8) next (n + 1) s (n + 1) (container_row place (container_size o c) c.word (length c.body))) sort)
+      first _ _ _ _ (container_turn o bs limit place end parent n y inner c rest hk hn v part (omega arith) low before (omega arith))
       (row_is ∙ ap (λ (m : ℕ). Row k place m 0 a b) size_is)
-      (children_yield inner t c.body et v _ _ _ _ _ rest _ inside (omega arith) (omega arith) (omega arith) within
-      (λ z. subst (From (here next next (n + 1) t count z)) later-is (on z)))
+      (children_yield inner c.body v _ _ _ _ _ rest _ inside (omega arith) (omega arith) (omega arith) within
+      (λ z. subst (From (here next next (n + 1) count z)) later-is (on z)))
 
   -- Events up to the end of the file.
-  events_yield : (es : List Container) → ValidEvents o es → (place end parent : ℕ) (t : Bool) (n : ℕ) (y : WalkerYield)
+  events_yield : (es : List Container) → ValidEvents o es → (place end parent n : ℕ) (y : WalkerYield)
       → drop place bs ≡ events_bytes o es → place + length (events_bytes o es) ≡ length bs → 9 ≤ place → n ≤ place → end ≤ place
-      → From (here place end parent t n y) (rows (n + 1) place (map (event_node o) es))
+      → From (here place end parent n y) (rows (n + 1) place (map (event_node o) es))
   unfolding rows container_row
-  events_yield [] v place end parent t n y part ends one low before =
+  events_yield [] v place end parent n y part ends one low before =
       let p : length bs ≡ place = omega (arith, ends) in
-      subst (λ (q : ℕ). From (here q end parent t n y) []) p (ended_yields end parent t n y (omega arith) (omega arith) (omega arith))
-  events_yield (e ∷ es) v place end parent t n y part ends one low before =
+      subst (λ (q : ℕ). From (here q end parent n y) []) p (ended_yields end parent n y (omega arith) (omega arith) (omega arith))
+  events_yield (e ∷ es) v place end parent n y part ends one low before =
       let size : length (container_bytes o e) ≡ container_size o e = container_size_lem o e in
       let sizes : length (events_bytes o (e ∷ es)) ≡ container_size o e + length (events_bytes o es) =
       omega (arith, length-append (container_bytes o e) (events_bytes o es), size) in
       let others : drop (place + container_size o e) bs ≡ events_bytes o es =
       behind_of_lem bs place (container_size o e) (container_bytes o e) (events_bytes o es) part size in
-      container_yields (event_context e.word) (is_monitoring e.word) e refl (type_decides e.word)
-      v.0.word_fits v.0.length-fits v.0.records-valid
-      place end parent t n y (events_bytes o es) _ _ _ (map (event_node o) es)
+      container_yields (event unseen) e v.0.word_fits v.0.length-fits v.0.records-valid
+      place end parent n y (events_bytes o es) _ _ _ (map (event_node o) es)
       part (omega arith) low before (omega (arith, ends, sizes)) (rw (ne_eqb place 8 (λ z. absurd (omega arith))))
-      (λ z. events_yield es v.1 _ _ _ _ _ z others (omega (arith, ends, sizes)) (omega arith) (omega (arith, few o e.body)) (omega arith))
+      (λ z. events_yield es v.1 _ _ _ _ z others (omega (arith, ends, sizes)) (omega arith) (omega (arith, few o e.body)) (omega arith))
 
 -- An accepted file: the walk yields its rows, and then the end.
 parts_yield : (bs : List ℕ) (p : Parts) → Bytes bs → read_file bs ≡ ok (order_of bs, p) → Yields bs (opened_of bs) (rows_of (order_of bs, p))
@@ -159,13 +155,11 @@ parts_yield bs p h e =
     let behind8 : drop 8 bs ≡ container_bytes o c ++ events_bytes o es = ap (drop 8) is ∙ drop_at (header_bytes o (version_of f)) _ 8 header in
     let others : drop (8 + container_size o c) bs ≡ events_bytes o es =
     behind_of_lem bs 8 (container_size o c) (container_bytes o c) (events_bytes o es) behind8 (container_size_lem o c) in
-    let outside : is_monitoring c.word ≡ false = rw v.configuration-word in
     let kind_fits : Fits 4 c.word = rw v.configuration-word (omega arith) in
     rw e (first bs limit _ _ _ _ (header-turn o bs limit (version_of f) (sym (version-is bs f h e)) (omega (arith, sized))) refl
-    (container_yields bs limit entry false c outside refl kind_fits v.configuration-fits v.entries-valid
-    _ _ _ _ _ _ (events_bytes o es) _ _ _ (map (event_node o) es)
+    (container_yields bs limit entry c kind_fits v.configuration-fits v.entries-valid _ _ _ _ _ (events_bytes o es) _ _ _ (map (event_node o) es)
     behind8 (omega arith) (omega arith) (omega arith) (omega (arith, sized)) refl
-    (λ z. events_yield bs limit es v.events-valid _ _ _ _ _ z
+    (λ z. events_yield bs limit es v.events-valid _ _ _ _ z
     others (omega (arith, sized)) (omega arith) (omega (arith, few o c.body)) (omega arith))))
 
 pub file_yields : (bs : List ℕ) (f : File) → Bytes bs → read_file bs ≡ ok f → Yields bs (opened_of bs) (rows_of f)
@@ -196,7 +190,7 @@ given-row false r = refl
 
 -- Over a refused file a walk never moves.
 abbrev over : ℕ → ℕ → WalkerYield → Spot
-over c p y = record { number = c; fault = p; place = 0; end = 0; parent = 0; monitoring = false; rows = 0; last = y }
+over c p y = record { number = c; fault = p; place = 0; end = 0; parent = 0; rows = 0; last = y }
 
 refused-turn : (bs : List ℕ) (c p : ℕ) (y : WalkerYield) → 0 < c → step_of bs (over c p y) ≡ over c p (Refused c p)
 unfolding stayed step_of

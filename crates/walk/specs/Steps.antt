@@ -1,13 +1,12 @@
 -- Where a walk stands, what it yields there, and where it goes, as one step over plain numbers. Opening has read the whole file, so a step moves
 -- on by length words and tests no rule again; it is defined for any numbers all the same. That from opening on the yields are the table's rows,
 -- and then the end, is proved (proofs/WalkLaws.antt).
-use Rattle.std.specs.Prelude.{ℕ, zero, suc, ◌+◌, ◌-◌, ◌%◌, Bool, false, cond, ◌&&◌, ◌≡◌, List, [], ◌∷◌, leb, ltb, eqb, length, take, drop}
+use Rattle.std.specs.Prelude.{ℕ, zero, suc, ◌+◌, ◌-◌, ◌%◌, Bool, cond, ◌&&◌, ◌≡◌, List, [], ◌∷◌, leb, ltb, eqb, length, take, drop}
 use Rattle.theory.specs.declared.Order.{Order}
 use Rattle.theory.specs.Tests.{Res, ok, bad}
 use Rattle.theory.specs.Layout as Layout
 use Rattle.note.specs.Limits.{file_limit}
 use Rattle.note.specs.Words.{word}
-use Rattle.note.specs.Events.{is_monitoring}
 use Rattle.note.specs.Files.{File, order_of, read_file}
 use Rattle.note.specs.declared.WalkerYield.{WalkerYield}
 use Rattle.note.specs.declared.WalkerYield.TheVariants.{Row, End, Refused}
@@ -32,16 +31,7 @@ container_row place whole w count = cond (eqb place 8) (Row 2 8 whole 0 count 0)
 
 -- The walk stays where it is; it yields the end, or the file's refusal.
 unfoldable pub stayed : Spot → WalkerYield → Spot
-stayed at y = record {
-  number = at.number;
-  fault = at.fault;
-  place = at.place;
-  end = at.end;
-  parent = at.parent;
-  monitoring = at.monitoring;
-  rows = at.rows;
-  last = y;
-}
+stayed at y = record { number = at.number; fault = at.fault; place = at.place; end = at.end; parent = at.parent; rows = at.rows; last = y }
 
 abbrev pub ended : Spot → Spot
 ended at = stayed at End
@@ -50,42 +40,39 @@ abbrev pub refused_at : Spot → Spot
 refused_at at = stayed at (Refused at.number at.fault)
 
 -- It moves on, one row further, and yields that row.
-abbrev pub moved : Spot → ℕ → ℕ → ℕ → Bool → WalkerYield → Spot
-moved at place end parent monitoring row = record {
+abbrev pub moved : Spot → ℕ → ℕ → ℕ → WalkerYield → Spot
+moved at place end parent row = record {
   number = at.number;
   fault = at.fault;
   place = place;
   end = end;
   parent = parent;
-  monitoring = monitoring;
   rows = at.rows + 1;
   last = row;
 }
 
--- The header's row; a record's, at the front of what is left of its container; a container's, of what is left of the file. What a record's kind word
--- means its container's first word says (FORMAT 6.1).
+-- The header's row; a record's, at the front of what is left of its container; a container's, of what is left of the file.
 unfoldable pub header_step : Order → List ℕ → Spot → Spot
-header_step o bs at = cond (leb 8 (length bs)) (moved at 8 8 0 false (Row 1 0 8 0 (word o 4 bs) 0)) (ended at)
+header_step o bs at = cond (leb 8 (length bs)) (moved at 8 8 0 (Row 1 0 8 0 (word o 4 bs) 0)) (ended at)
 
 abbrev pub body_in : Order → List ℕ → List ℕ
 body_in o bs = take (word o 4 bs) (drop 8 bs)
 
 abbrev pub record_row : Order → List ℕ → Spot → WalkerYield
 record_row o bs at =
-    Row (values_of o at.monitoring (word o 0 bs) (body_in o bs)).kind at.place (8 + word o 4 bs) at.parent
-    (values_of o at.monitoring (word o 0 bs) (body_in o bs)).one (values_of o at.monitoring (word o 0 bs) (body_in o bs)).two
+    Row (values_of o (word o 0 bs) (body_in o bs)).kind at.place (8 + word o 4 bs) at.parent
+    (values_of o (word o 0 bs) (body_in o bs)).one (values_of o (word o 0 bs) (body_in o bs)).two
 
 unfoldable pub record_step : Order → List ℕ → Spot → Spot
 record_step o bs at =
     cond (stands o bs)
-    (cond (has_values o at.monitoring (word o 0 bs) (body_in o bs))
-    (moved at (at.place + (8 + word o 4 bs)) at.end at.parent at.monitoring (record_row o bs at)) (ended at))
+    (cond (has_values o (word o 0 bs) (body_in o bs)) (moved at (at.place + (8 + word o 4 bs)) at.end at.parent (record_row o bs at)) (ended at))
     (ended at)
 
 unfoldable pub container_step : Order → List ℕ → Spot → Spot
 container_step o bs at =
     cond (stands o bs)
-    (moved at (at.place + 8) (at.place + (8 + word o 4 bs)) (at.rows + 1) (is_monitoring (word o 0 bs))
+    (moved at (at.place + 8) (at.place + (8 + word o 4 bs)) (at.rows + 1)
     (container_row at.place (8 + word o 4 bs) (word o 0 bs) (count_in o (body_in o bs))))
     (ended at)
 
@@ -110,8 +97,8 @@ step_of bs at = step_in (order_of bs) bs at
 
 -- FORMAT 8.3: where a walk starts, by what reading the file gave; and its first yield. A caller has no other way to begin one.
 abbrev pub start_given : Res File → Spot
-start_given (ok f) = record { number = 0; fault = 0; place = 0; end = 0; parent = 0; monitoring = false; rows = 0; last = End }
-start_given (bad c p) = record { number = c; fault = p; place = 0; end = 0; parent = 0; monitoring = false; rows = 0; last = End }
+start_given (ok f) = record { number = 0; fault = 0; place = 0; end = 0; parent = 0; rows = 0; last = End }
+start_given (bad c p) = record { number = c; fault = p; place = 0; end = 0; parent = 0; rows = 0; last = End }
 
 unfoldable pub start_of : List ℕ → Spot
 start_of bs = start_given (read_file bs)

@@ -6,12 +6,12 @@ ghost use Rattle.walk.specs.Steps.{stands, count_in, container_row, stayed, head
 
 use containers::{Count, HEADER, check};
 use note::{CONFIGURATION_ROW, EVENT_ROW, HEADER_ROW, WalkerYield};
-use record::{FILE_LIMIT, FRONT, is_monitoring};
+use record::{FILE_LIMIT, FRONT};
 use rows::{HEADER_BYTES, has_values, values_in};
 use words::{is_big, word_at};
 
 /// Where a walk stands: the file's refusal (number 0: accepted) and its place, the next byte, the end of the container that it is in,
-/// that container's row number and whether it is a monitoring event, the rows so far, and what was yielded last.
+/// that container's row number, the rows so far, and what was yielded last.
 #[derive(Drop)]
 pub struct Spot {
     pub number: u32,
@@ -19,7 +19,6 @@ pub struct Spot {
     pub place: usize,
     pub end: usize,
     pub parent: u32,
-    pub monitoring: bool,
     pub rows: u32,
     pub last: WalkerYield,
 }
@@ -86,7 +85,6 @@ fn stayed(at: Spot, last: WalkerYield) -> Spot
         place: at.place,
         end: at.end,
         parent: at.parent,
-        monitoring: at.monitoring,
         rows: at.rows,
         last,
     }
@@ -106,7 +104,6 @@ fn header_step(file: &[u8], at: Spot, big: bool) -> Spot
         place: HEADER,
         end: HEADER,
         parent: 0,
-        monitoring: false,
         rows: at.rows + 1,
         last: WalkerYield::Row {
             kind: HEADER_ROW,
@@ -129,17 +126,16 @@ fn record_step(part: &[u8], at: Spot, big: bool) -> Spot
     }
     let word = word_at(part, 0, big);
     let size = FRONT + word_at(part, 4, big) as usize;
-    if !has_values(at.monitoring, word, &part[FRONT..size], big) {
+    if !has_values(word, &part[FRONT..size], big) {
         return stayed(at, WalkerYield::End);
     }
-    let v = values_in(at.monitoring, word, &part[FRONT..size], big);
+    let v = values_in(word, &part[FRONT..size], big);
     Spot {
         number: at.number,
         fault: at.fault,
         place: at.place + size,
         end: at.end,
         parent: at.parent,
-        monitoring: at.monitoring,
         rows: at.rows + 1,
         last: WalkerYield::Row {
             kind: v.kind,
@@ -162,15 +158,13 @@ fn container_step(part: &[u8], at: Spot, big: bool) -> Spot
     }
     let size = FRONT + word_at(part, 4, big) as usize;
     let count = count_in(&part[FRONT..size], big);
-    let word = word_at(part, 0, big);
-    let row = container_row(at.place, size as u32, word, count as u32);
+    let row = container_row(at.place, size as u32, word_at(part, 0, big), count as u32);
     Spot {
         number: at.number,
         fault: at.fault,
         place: at.place + FRONT,
         end: at.place + size,
         parent: at.rows + 1,
-        monitoring: is_monitoring(word),
         rows: at.rows + 1,
         last: row,
     }
@@ -230,7 +224,6 @@ pub fn start(file: &[u8]) -> Spot
             place: 0,
             end: 0,
             parent: 0,
-            monitoring: false,
             rows: 0,
             last: WalkerYield::End,
         },
@@ -240,7 +233,6 @@ pub fn start(file: &[u8]) -> Spot
             place: 0,
             end: 0,
             parent: 0,
-            monitoring: false,
             rows: 0,
             last: WalkerYield::End,
         },

@@ -1,7 +1,6 @@
 // The writers and the closings for C: numbers, lent arrays and buffers alone. include/dwejrasq.h documents each.
 ghost use Rattle.theory.specs.declared.Order.TheVariants.{Little};
 ghost use Rattle.note.specs.Writers.{header_next, header_output, configuration_closed, configuration_output, event_closed, event_output, phonon_draft, charge_draft, administrative_draft, trace_draft, history_draft, gps_draft, trigger_draft, tlb_draft};
-ghost use Rattle.note.specs.Writers.{thresholds_draft, trigger_rates_draft, veto_rates_draft};
 ghost use Rattle.telling.specs.Told.{Told};
 ghost use Rattle.writing.specs.Handed.{RecordTold, phonon_from, charge_from, administrative_from, gps_from, trigger_from, tlb_from};
 
@@ -199,91 +198,6 @@ pub extern "C" fn dwj_write_tlb(
     let answer = dwejrasq::write_tlb(
         out, place, fields[0], fields[1], fields[2], fields[3], fields[4], fields[5],
     );
-    told(answer, next, refusal)
-}
-
-/// Thresholds: four words, and the bytes of six codes, nine operations and a value for each of both.
-#[unsafe(no_mangle)]
-pub extern "C" fn dwj_write_thresholds(
-    out: &mut [u8],
-    place: usize,
-    minimum: u32,
-    maximum: u32,
-    range: u32,
-    tower: u32,
-    codes: &[u8],
-    operations: &[u8],
-    values: &[u8],
-    next: &mut u64,
-    refusal: &mut u64,
-) -> u32
-    ensures { RecordTold out.old place (thresholds_draft Little (record {
-      minimum = minimum;
-      maximum = maximum;
-      range = range;
-      tower = tower;
-      codes = codes.now;
-      operations = operations.now;
-      values = values.now;
-    }))
-        (record { next = next.entry.now; refusal = refusal.old })
-        (record { number = result; next = next.exit.now; refusal = refusal.new }) out.new }
-{
-    let answer = dwejrasq::write_thresholds(
-        out, place, minimum, maximum, range, tower, codes, operations, values,
-    );
-    told(answer, next, refusal)
-}
-
-/// Trigger rates: two words, and the bytes of six codes, five lines and a counter for each of both.
-#[unsafe(no_mangle)]
-pub extern "C" fn dwj_write_trigger_rates(
-    out: &mut [u8],
-    place: usize,
-    interval: u32,
-    tower: u32,
-    codes: &[u8],
-    lines: &[u8],
-    counters: &[u8],
-    next: &mut u64,
-    refusal: &mut u64,
-) -> u32
-    ensures { RecordTold out.old place (trigger_rates_draft Little (record {
-      interval = interval;
-      tower = tower;
-      codes = codes.now;
-      lines = lines.now;
-      counters = counters.now;
-    }))
-        (record { next = next.entry.now; refusal = refusal.old })
-        (record { number = result; next = next.exit.now; refusal = refusal.new }) out.new }
-{
-    let answer = dwejrasq::write_trigger_rates(out, place, interval, tower, codes, lines, counters);
-    told(answer, next, refusal)
-}
-
-/// Veto rates: interval and count of entries, and the bytes of a code and a counter for each.
-#[unsafe(no_mangle)]
-pub extern "C" fn dwj_write_veto_rates(
-    out: &mut [u8],
-    place: usize,
-    interval: u32,
-    entries: u32,
-    codes: &[u8],
-    counters: &[u8],
-    next: &mut u64,
-    refusal: &mut u64,
-) -> u32
-    ensures { RecordTold out.old place (veto_rates_draft Little (record {
-      interval = interval;
-      entries = entries;
-      codes = codes.now;
-      counters = counters.now;
-    }))
-        (record { next = next.entry.now; refusal = refusal.old })
-        (record { number = result; next = next.exit.now; refusal = refusal.new }) out.new }
-{
-    let answer = dwejrasq::write_veto_rates(out, place, interval, entries, codes, counters);
     told(answer, next, refusal)
 }
 

@@ -19,15 +19,14 @@ abbrev start : tie.After-word → tie.Start
 start c = c.before.before.before.before
 
 found : (c : tie.After-word)
-    → (let a = (start c).args in
-    Found (order_from a.big) a.monitoring a.file.now a.place c.word.given.0.0 c.word.given.0.1.0)
+    → Found (order_from (start c).args.big) (start c).args.file.now (start c).args.place c.word.given.0.0 c.word.given.0.1.0
 found c = good-found c.word.given.1 c.before.before.record_found_lem.ensures
 
 body-at-requires : tie.Need-body-at-requires
 body-at-requires c κs = (found c.before).fits
 
-answer-of-requires : tie.Need-answer-of-requires
-answer-of-requires c κs = let g = found c.before.before in (body-follows g c.body_at.ensures, body-ends g c.body_at.ensures)
+fields-of-requires : tie.Need-fields-of-requires
+fields-of-requires c κs = let g = found c.before.before in (body-follows g c.body_at.ensures, body-ends g c.body_at.ensures)
 
 enum-known-number : tie.Need-enum-known-number
 enum-known-number c = search rules
@@ -37,14 +36,14 @@ unfolding record_at
 returns c =
     let good = c.before.before.before in
     let a = (start good).args in
-    good-given (found good) c.before.body_at.ensures (record_given (order_from a.big) a.monitoring a.place) c.answer-of.ensures
+    good-given (found good) c.before.body_at.ensures (record_given (order_from a.big) a.place) c.fields-of.ensures
 
 returns-2 : tie.Need-returns-2
 unfolding given_record record_at
 returns-2 c =
     let called = c.before.before.before in
     let a = called.before.before.args in
-    bad-given _ _ _ _ c.before.number.given.1 called.record_found_lem.ensures (record_given (order_from a.big) a.monitoring a.place)
+    bad-given _ _ _ c.before.number.given.1 called.record_found_lem.ensures (record_given (order_from a.big) a.place)
 
 pub record-spec : {M : Type 1} → statement M
 record-spec =
@@ -53,7 +52,7 @@ record-spec =
     record-found-requires
     enum-known-word
     body-at-requires
-    answer-of-requires
+    fields-of-requires
     enum-known-number
     returns
     returns-2)

@@ -3,12 +3,13 @@ use borrow.Author.Rules.{rules}
 use Rattle.answers.proofs.FoundLaws.{over, past, inside}
 use Rattle.answers.proofs.record_found.Statement.{statement}
 use Rattle.answers.proofs.record_found.Tie as tie
+use Rattle.record.specs.Steps.{context_of}
 
 returns : tie.Need-returns
-returns c = over _ _ _ _ c.if1.true
+returns c = over _ _ _ c.if1.true
 
 returns-2 : tie.Need-returns-2
-returns-2 c = past _ _ _ _ c.before.if1.false c.if2.true
+returns-2 c = past _ _ _ c.before.if1.false c.if2.true
 
 sub-record-in : tie.Need-overflow-sub-record-in
 sub-record-in c = search rules
@@ -19,16 +20,12 @@ part-record-in-start c = search rules
 part-record-in-end : tie.Need-slice-bounds-record-in-end
 part-record-in-end c = search rules
 
-told-requires : tie.Need-told-requires
-told-requires c κs = search rules
-
 record-in-requires : tie.Need-record-in-requires
 record-in-requires c κs = search rules
 
 returns-3 : tie.Need-returns-3
-returns-3 c =
-    let told-it = c.before in
-    inside _ _ _ _ told-it.before.before.before.if1.false told-it.told.ensures c.record-in.ensures
+unfolding context_of
+returns-3 c = inside _ _ _ c.before.before.before.if1.false c.record-in.ensures
 
 pub record-found-spec : {M : Type 1} → statement M
 record-found-spec =
@@ -39,6 +36,5 @@ record-found-spec =
     sub-record-in
     part-record-in-start
     part-record-in-end
-    told-requires
     record-in-requires
     returns-3)

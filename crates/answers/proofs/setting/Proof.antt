@@ -7,7 +7,6 @@ use Rattle.note.specs.Calls.{setting_given, setting_at}
 use Rattle.answers.proofs.FoundLaws.{Found, good-found, body-follows, good-given, bad-given}
 use Rattle.answers.proofs.setting.Statement.{statement}
 use Rattle.answers.proofs.setting.Tie as tie
-use mathlib.Core.Bool.{false}
 
 record-found-requires : tie.Need-record-found-requires
 record-found-requires c κs = search rules
@@ -20,7 +19,7 @@ abbrev start : tie.After-word → tie.Start
 start c = c.before.before.before.before
 
 found : (c : tie.After-word)
-    → Found (order_from (start c).args.big) false (start c).args.file.now (start c).args.place c.word.given.0.0 c.word.given.0.1.0
+    → Found (order_from (start c).args.big) (start c).args.file.now (start c).args.place c.word.given.0.0 c.word.given.0.1.0
 found c = good-found c.word.given.1 c.before.before.record_found_lem.ensures
 
 body-at-requires : tie.Need-body-at-requires
@@ -44,7 +43,7 @@ unfolding given_setting setting_at
 returns-2 c =
     let called = c.before.before.before in
     let a = called.before.before.args in
-    bad-given _ false _ _ c.before.number.given.1 called.record_found_lem.ensures (setting_given (order_from a.big) a.place)
+    bad-given _ _ _ c.before.number.given.1 called.record_found_lem.ensures (setting_given (order_from a.big) a.place)
 
 pub setting-spec : {M : Type 1} → statement M
 setting-spec =

@@ -9,7 +9,7 @@ use Rattle.theory.specs.Words.{order_from}
 use Rattle.theory.specs.declared.Order.{Order}
 use Rattle.theory.proofs.WordLaws.{Bytes-from}
 use Rattle.note.specs.Words.{word}
-use Rattle.demands.proofs.Bundles.{entries}
+use Rattle.note.specs.Records.{entry}
 use Rattle.note.specs.Files.{configuration_rule, configuration_late, read_configuration}
 use Rattle.record.specs.Steps.{context_of}
 use Rattle.containers.proofs.ContainerLaws.{short, fault, long, Begun, contents-fault, held}
@@ -52,7 +52,7 @@ begun c = record {
 
 returns : tie.Need-returns
 unfolding read_configuration
-returns c = let a = c.before.before.args in short _ configuration_rule configuration_late entries a.at a.part.now c.if1.true
+returns c = let a = c.before.before.args in short _ configuration_rule configuration_late entry a.at a.part.now c.if1.true
 
 word-at-requires : tie.Need-word-at-requires
 word-at-requires c κs = search rules
@@ -61,7 +61,7 @@ returns-2 : tie.Need-returns-2
 unfolding read_configuration
 returns-2 c =
     let a = c.before.before.before.before.args in
-    fault _ configuration_rule configuration_late entries a.at a.part.now c.before.before.if1.false
+    fault _ configuration_rule configuration_late entry a.at a.part.now c.before.before.if1.false
     5 (rw (← c.before.word_at.ensures, ne_eqb _ _ c.if2.true)) (λ e. omega arith)
 
 word-at-requires-2 : tie.Need-word-at-requires-2
@@ -74,7 +74,7 @@ returns-3 : tie.Need-returns-3
 unfolding read_configuration
 returns-3 c =
     let two = c.before.before in
-    long _ configuration_rule configuration_late entries (start two).args.at (part two) two.before.before.if1.false (allowed two)
+    long _ configuration_rule configuration_late entry (start two).args.at (part two) two.before.before.if1.false (allowed two)
     _ c.before.word-at2.ensures c.if3.true
 
 add-records-in : tie.Need-overflow-add-records-in
@@ -105,13 +105,13 @@ returns-4 : tie.Need-returns-4
 unfolding read_configuration context_of
 returns-4 c =
     let read = c.before.before.before in
-    held (begun read.before.before) entries _ _ (sym c.before.count.given.1 ∙ read.records-in.ensures)
+    held (begun read.before.before) _ _ _ (sym c.before.count.given.1 ∙ read.records-in.ensures)
 
 returns-5 : tie.Need-returns-5
 unfolding read_configuration context_of
 returns-5 c =
     let read = c.before.before.before in
-    contents-fault (begun read.before.before) entries _ _ _ (sym c.before.number.given.1 ∙ read.records-in.ensures)
+    contents-fault (begun read.before.before) _ _ _ _ (sym c.before.number.given.1 ∙ read.records-in.ensures)
 
 pub configuration-in-spec : {M : Type 1} → statement M
 configuration-in-spec =

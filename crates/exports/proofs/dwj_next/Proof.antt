@@ -6,7 +6,6 @@ use Rattle.exports.proofs.dwj_next.Statement.{statement}
 use Rattle.exports.proofs.dwj_next.Tie as tie
 use Rattle.exports.proofs.dwj_next.Reads as reads
 use Rattle.exports.proofs.dwj_next.Lts as lts
-use Rattle.exports.proofs.bit.Reads as bit-reads
 use Rattle.exports.proofs.tell.Reads as tell-reads
 use Rattle.walk.proofs.last.Reads as last-reads
 use Rattle.walk.proofs.step.Reads as step-reads
@@ -38,23 +37,17 @@ element-copy-out-t31 c = search rules
 cast-t33 : tie.Need-overflow-cast-t33
 cast-t33 c = search rules
 
-element-copy-out-t36 : tie.Need-element-copy-out-t36
-element-copy-out-t36 c = search rules
-
 step-requires : tie.Need-step-requires
 step-requires c κs = search rules
 
 cast-t9 : tie.Need-overflow-cast-t9
 cast-t9 c = search rules
 
+cast-t31 : tie.Need-overflow-cast-t31
+cast-t31 c = search rules
+
 cast-t18 : tie.Need-overflow-cast-t18
 cast-t18 c = search rules
-
-cast-t32 : tie.Need-overflow-cast-t32
-cast-t32 c = search rules
-
-bit-requires : tie.Need-bit-requires
-bit-requires c κs = search rules
 
 last-requires : tie.Need-last-requires
 last-requires c κs = search rules
@@ -66,9 +59,8 @@ returns : tie.Need-returns
 unfolding numbers_of spot_of
 returns c =
     let asked = c.before.before.before in
-    let told = asked.before.before in
-    let stepped = told.before.before.before.before in
-    rw (← stepped.step.ensures, ← asked.last.ensures, ← told.bit.ensures) (c.tell.ensures.0, (refl, c.tell.ensures.1))
+    let stepped = asked.before.before.before.before.before in
+    rw (← stepped.step.ensures, ← asked.last.ensures) (c.tell.ensures.0, (refl, c.tell.ensures.1))
 
 pub dwj-next-spec : {M : Type 1} → statement M
 dwj-next-spec =
@@ -83,12 +75,10 @@ dwj-next-spec =
     cast-t28
     element-copy-out-t31
     cast-t33
-    element-copy-out-t36
     step-requires
     cast-t9
+    cast-t31
     cast-t18
-    cast-t32
-    bit-requires
     last-requires
     tell-requires
     returns)

@@ -6,7 +6,6 @@ use Rattle.exports.proofs.dwj_open.Statement.{statement}
 use Rattle.exports.proofs.dwj_open.Tie as tie
 use Rattle.exports.proofs.dwj_open.Reads as reads
 use Rattle.exports.proofs.dwj_open.Lts as lts
-use Rattle.exports.proofs.bit.Reads as bit-reads
 use Rattle.exports.proofs.tell.Reads as tell-reads
 use Rattle.walk.proofs.last.Reads as last-reads
 use Rattle.walk.proofs.opened.Reads as opened-reads
@@ -23,9 +22,6 @@ cast-t10 c = search rules
 cast-t11 : tie.Need-overflow-cast-t11
 cast-t11 c = search rules
 
-bit-requires : tie.Need-bit-requires
-bit-requires c κs = search rules
-
 last-requires : tie.Need-last-requires
 last-requires c κs = search rules
 
@@ -36,11 +32,10 @@ returns : tie.Need-returns
 unfolding numbers_of
 returns c =
     let asked = c.before.before.before in
-    let told = asked.before.before in
-    let opened = told.before.before.before.before in
-    rw (← opened.opened.ensures, ← asked.last.ensures, ← told.bit.ensures) (c.tell.ensures.0, (refl, c.tell.ensures.1))
+    let opened = asked.before.before.before.before.before in
+    rw (← opened.opened.ensures, ← asked.last.ensures) (c.tell.ensures.0, (refl, c.tell.ensures.1))
 
 pub dwj-open-spec : {M : Type 1} → statement M
 dwj-open-spec =
     tie.close
-    (tie.spec opened-requires cast-t6 cast-t10 cast-t11 bit-requires last-requires tell-requires returns)
+    (tie.spec opened-requires cast-t6 cast-t10 cast-t11 last-requires tell-requires returns)

@@ -21,13 +21,18 @@ or-unless-requires c κs = search rules
 or-unless-requires-2 : tie.Need-or-unless-requires-2
 or-unless-requires-2 c κs = search rules
 
+or-unless-requires-3 : tie.Need-or-unless-requires-3
+or-unless-requires-3 c κs = search rules
+
 returns : tie.Need-returns
 unfolding event_fault
 returns c =
-    let category = c.before in
+    let last = c.before in
+    let category = last.before in
     let class = category.before.before in
     rw (
-      c.or-unless2.ensures,
+      c.or-unless3.ensures,
+      last.or-unless2.ensures,
       category.or-unless.ensures,
       category.before.is-category.ensures,
       class.unless.ensures,
@@ -43,4 +48,5 @@ event-fault-spec =
     is-category-requires
     or-unless-requires
     or-unless-requires-2
+    or-unless-requires-3
     returns)

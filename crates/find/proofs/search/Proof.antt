@@ -15,13 +15,12 @@ use Rattle.note.specs.Answers.{accepted, counts, given_find}
 use Rattle.note.specs.Events.{read_events}
 use Rattle.note.specs.Calls.{first_match}
 use Rattle.find.specs.Search.{traces_read}
-use Rattle.find.proofs.SearchLaws.{Searching, later_traces, begin, searched, event-fits, numbered, into, past-event, past_other}
+use Rattle.find.proofs.SearchLaws.{Searching, later_traces, begin, searched, event-fits, first_fits, into, past-event, past_other}
 use Rattle.find.proofs.SearchLaws.{Looking, looked, record_fits, trace-fits, hit, past}
 use Rattle.find.proofs.search.Statement.{statement}
 use Rattle.find.proofs.search.Tie as tie
 use Rattle.find.proofs.search.Reads as reads
 use Rattle.find.proofs.search.Lts as lts
-use Rattle.find.proofs.carries.Reads as carries-reads
 use Rattle.words.proofs.word_at.Reads as word-at-reads
 
 -- What the search is to give.
@@ -53,12 +52,12 @@ abbrev around : tie.At-loop invariant-loop decreases-loop invariant-events decre
 around c = c.before.before.before.before
 
 -- The record that stands next, where its length word was read: it stays in what is left of the event.
-abbrev turn : tie.After-word-at4 invariant-loop decreases-loop invariant-events decreases-events → tie.In-loop invariant-loop decreases-loop invariant-events decreases-events
+abbrev turn : tie.After-word-at5 invariant-loop decreases-loop invariant-events decreases-events → tie.In-loop invariant-loop decreases-loop invariant-events decreases-events
 turn c = c.before.before.before
 
-record-stays : (c : tie.After-word-at4 invariant-loop decreases-loop invariant-events decreases-events)
-    → 8 + c.word-at4.result ≤ length (turn c).before.loop.records.now
-record-stays c = omega (arith, record_fits (turn c).before.loop.invariant.1 (turn c).loop-test.true, c.word-at4.ensures)
+record-stays : (c : tie.After-word-at5 invariant-loop decreases-loop invariant-events decreases-events)
+    → 8 + c.word-at5.result ≤ length (turn c).before.loop.records.now
+record-stays c = omega (arith, record_fits (turn c).before.loop.invariant.1 (turn c).loop-test.true, c.word-at5.ensures)
 
 events-holds : tie.Need-events-init invariant-loop decreases-loop invariant-events decreases-events
 events-holds c =
@@ -75,8 +74,8 @@ cast-size c = search rules
 add-size : tie.Need-overflow-add-size invariant-loop decreases-loop invariant-events decreases-events
 add-size c = search rules
 
-carries-requires : tie.Need-carries-requires invariant-loop decreases-loop invariant-events decreases-events
-carries-requires c κs = numbered c.before.before.events.invariant.1 c.before.events-test.true
+word-at-requires-2 : tie.Need-word-at-requires-2 invariant-loop decreases-loop invariant-events decreases-events
+word-at-requires-2 c κs = omega (arith, first_fits c.before.before.events.invariant.1 c.before.events-test.true)
 
 sub-records : tie.Need-overflow-sub-records invariant-loop decreases-loop invariant-events decreases-events
 sub-records c = search rules
@@ -94,19 +93,19 @@ loop-holds : tie.Need-loop-init invariant-loop decreases-loop invariant-events d
 loop-holds c =
     let event = c.before.before.before in
     let i = event.before.before.events.invariant in
-    let same_number = sym c.before.before.carries.ensures ∙ c.before.if1.true in
+    let same_number = sym c.before.before.word-at2.ensures ∙ c.before.if1.true in
     (i.0, into i.1 event.before.events-test.true _ event.word_at.ensures same_number)
 
-word-at-requires-2 : tie.Need-word-at-requires-2 invariant-loop decreases-loop invariant-events decreases-events
-word-at-requires-2 c κs = omega (arith, record_fits c.before.loop.invariant.1 c.loop-test.true)
-
 word-at-requires-3 : tie.Need-word-at-requires-3 invariant-loop decreases-loop invariant-events decreases-events
-word-at-requires-3 c κs =
-    let kind = c.before in
-    omega (arith, trace-fits kind.before.before.loop.invariant.1 kind.before.loop-test.true (sym kind.word-at2.ensures ∙ c.if2.true))
+word-at-requires-3 c κs = omega (arith, record_fits c.before.loop.invariant.1 c.loop-test.true)
 
 word-at-requires-4 : tie.Need-word-at-requires-4 invariant-loop decreases-loop invariant-events decreases-events
-word-at-requires-4 c κs = omega (arith, record_fits c.before.before.before.loop.invariant.1 c.before.before.loop-test.true)
+word-at-requires-4 c κs =
+    let kind = c.before in
+    omega (arith, trace-fits kind.before.before.loop.invariant.1 kind.before.loop-test.true (sym kind.word-at3.ensures ∙ c.if2.true))
+
+word-at-requires-5 : tie.Need-word-at-requires-5 invariant-loop decreases-loop invariant-events decreases-events
+word-at-requires-5 c κs = omega (arith, record_fits c.before.before.before.loop.invariant.1 c.before.before.loop-test.true)
 
 cast-length : tie.Need-overflow-cast-length invariant-loop decreases-loop invariant-events decreases-events
 cast-length c = search rules
@@ -136,11 +135,11 @@ loop-again : tie.Need-loop-preserved invariant-loop decreases-loop invariant-eve
 loop-again c =
     let t = turn c.before in
     let i = t.before.loop.inv in
-    let kind-is = c.before.before.before.word-at2.ensures in (
+    let kind-is = c.before.before.before.word-at3.ensures in (
       i.0,
       past i.1 t.loop-test.taken
           (⊎_elim (λ w. λ k q. w.2.left (w.1.ensures ∙ q)) (λ w. λ k q. w.left (kind-is ∙ k)) c.before.before.if2.branch)
-          _ c.before.word-at4.ensures,
+          _ c.before.word-at5.ensures,
     )
 
 sub-rest : tie.Need-overflow-sub-rest invariant-loop decreases-loop invariant-events decreases-events
@@ -164,10 +163,10 @@ events-again c =
     let i = event.before.before.events.invariant in
     let l = event.before.events-test.true in
     let size = event.word_at.ensures in
-    let other = c.before.before.carries.ensures in
+    let other = c.before.before.word-at2.ensures in
     let none_yet = ⊎_elim (λ w. w.4 ∙ w.2.inv.0) (λ w. w.1 ∙ i.0) c.before.if1.branch in
     let nothing-here =
-    ⊎_elim (λ w. looked w.2.inv.1 w.3.left) (λ w. past_other i.1 l _ size (sym other ∙ w.0.left)) c.before.if1.branch in
+    ⊎_elim (λ w. looked w.2.inv.1 w.3.left) (λ w. past_other i.1 l _ size (λ q. w.0.left (other ∙ q))) c.before.if1.branch in
     (none_yet, past-event i.1 l _ size nothing-here)
 
 returns : tie.Need-returns invariant-loop decreases-loop invariant-events decreases-events
@@ -180,8 +179,8 @@ returns-2 : tie.Need-returns-2 invariant-loop decreases-loop invariant-events de
 unfolding given_find
 returns-2 c =
     let kind = c.before.before.before in
-    let trace = sym kind.word-at2.ensures ∙ c.before.before.if2.true in
-    let same_code = sym c.before.word-at3.ensures ∙ c.if3.true in
+    let trace = sym kind.word-at3.ensures ∙ c.before.before.if2.true in
+    let same_code = sym c.before.word-at4.ensures ∙ c.if3.true in
     ap (λ (p : List ℕ). accepted (counts p)) (hit kind.before.before.loop.invariant.1 kind.before.loop-test.true trace same_code)
 
 pub search-spec : {M : Type 1} → statement M
@@ -196,15 +195,15 @@ search-spec =
     word-at-requires
     cast-size
     add-size
-    carries-requires
+    word-at-requires-2
     sub-records
     part-records-start
     part-records-end
     add-place
     loop-holds
-    word-at-requires-2
     word-at-requires-3
     word-at-requires-4
+    word-at-requires-5
     cast-length
     add-length
     sub-records-2

@@ -1,15 +1,12 @@
--- Each context has its list of kinds; alone has two.
-use mathlib.Core.Path.{sym, ap, ◌∙◌}
+-- Each context has its list of kinds; alone has both.
 use borrow.Author.Tests.{le-leb, lt-leb, ne_eqb}
-use Rattle.note.specs.Records.{Context, is_kind}
+use Rattle.note.specs.Records.{is_kind}
 use Rattle.record.specs.Steps.{context_of}
-use Rattle.record.proofs.SeenLaws.{above_monitoring}
 use borrow.Author.Rules.{rules}
 use Rattle.record.proofs.is_kind.Statement.{statement}
 use Rattle.record.proofs.is_kind.Tie as tie
 use Rattle.record.proofs.is_kind.Reads as reads
 use Rattle.record.proofs.is_kind.Lts as lts
-use Rattle.monitoring.proofs.is_monitoring_kind.Reads as is-monitoring-kind-reads
 use Rattle.record.proofs.is_entry_kind.Reads as is-entry-kind-reads
 use Rattle.record.proofs.is_record_kind.Reads as is-record-kind-reads
 
@@ -20,53 +17,31 @@ returns : tie.Need-returns
 unfolding is_kind context_of
 returns c = rw (lt-leb 32 _ c.before.if1.true) c.is-record-kind.ensures
 
-is-monitoring-kind-requires : tie.Need-is-monitoring-kind-requires
-is-monitoring-kind-requires c κs = search rules
-
-returns-2 : tie.Need-returns-2
-unfolding is_kind
-returns-2 c =
-    c.is-monitoring-kind.ensures
-    ∙ ap (λ (s : Context). is_kind s c.before.before.before.args.word) (sym (above_monitoring _ c.before.if2.true))
-
 is-entry-kind-requires : tie.Need-is-entry-kind-requires
 is-entry-kind-requires c κs = search rules
 
-returns-3 : tie.Need-returns-3
+returns-2 : tie.Need-returns-2
 unfolding is_kind context_of
-returns-3 c = rw c.before.if3.true c.is-entry-kind.ensures
+returns-2 c = rw c.before.if2.true c.is-entry-kind.ensures
 
 is-entry-kind-requires-2 : tie.Need-is-entry-kind-requires-2
 is-entry-kind-requires-2 c κs = search rules
 
-returns-4 : tie.Need-returns-4
+returns-3 : tie.Need-returns-3
 unfolding is_kind context_of
-returns-4 c =
+returns-3 c =
     let asked = c.before in
-    let told = asked.before.before in
-    rw (
-      le-leb 32 _ told.before.if1.false,
-      ne_eqb _ _ asked.before.if3.false,
-      le-leb _ 33 told.if2.false,
-      ← asked.is-entry-kind2.ensures,
-      c.if4.true,
-    )
+    rw (le-leb 32 _ asked.before.before.if1.false, ne_eqb _ _ asked.before.if2.false, ← asked.is-entry-kind2.ensures, c.if3.true)
 
 is-record-kind-requires-2 : tie.Need-is-record-kind-requires-2
 is-record-kind-requires-2 c κs = search rules
 
-returns-5 : tie.Need-returns-5
+returns-4 : tie.Need-returns-4
 unfolding is_kind context_of
-returns-5 c =
+returns-4 c =
     let asked = c.before.before in
-    let told = asked.before.before in
-    rw (
-      le-leb 32 _ told.before.if1.false,
-      ne_eqb _ _ asked.before.if3.false,
-      le-leb _ 33 told.if2.false,
-      ← asked.is-entry-kind2.ensures,
-      c.before.if4.false,
-    ) c.is-record-kind2.ensures
+    rw (le-leb 32 _ asked.before.before.if1.false, ne_eqb _ _ asked.before.if2.false, ← asked.is-entry-kind2.ensures, c.before.if3.false)
+    c.is-record-kind2.ensures
 
 pub is-kind-spec : {M : Type 1} → statement M
 is-kind-spec =
@@ -74,11 +49,9 @@ is-kind-spec =
     (tie.spec
     is-record-kind-requires
     returns
-    is-monitoring-kind-requires
-    returns-2
     is-entry-kind-requires
-    returns-3
+    returns-2
     is-entry-kind-requires-2
-    returns-4
+    returns-3
     is-record-kind-requires-2
-    returns-5)
+    returns-4)

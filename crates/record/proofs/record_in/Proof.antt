@@ -16,8 +16,7 @@ use Rattle.record.proofs.record_in.Reads as reads
 use Rattle.record.proofs.record_in.Lts as lts
 use Rattle.record.proofs.is_allowed.Reads as is-allowed-reads
 use Rattle.record.proofs.is_kind.Reads as is-kind-reads
-use Rattle.record.proofs.kind_fault.Reads as kind-fault-reads
-use Rattle.record.proofs.rule_in.Reads as rule-in-reads
+use Rattle.rules.proofs.rule.Reads as rule-reads
 use Rattle.words.proofs.word_at.Reads as word-at-reads
 
 -- Where the kind word has passed: the part, its place and its context.
@@ -63,16 +62,12 @@ word-at-requires c κs = search rules
 is-kind-requires : tie.Need-is-kind-requires
 is-kind-requires c κs = search rules
 
-kind-fault-requires : tie.Need-kind-fault-requires
-kind-fault-requires c κs = search rules
-
 returns-2 : tie.Need-returns-2
 returns-2 c =
-    let test = c.before in
-    let word = test.before.before in
+    let word = c.before.before in
     let a = word.before.before.before.args in
     unknown _ (context_of a.context) a.at a.part.now word.before.if1.false _ word.word_at.ensures
-    (sym test.before.is-kind.ensures ∙ not-true _ test.if2.true) _ c.kind-fault.ensures
+    (sym c.before.is-kind.ensures ∙ not-true _ c.if2.true)
 
 word-at-requires-2 : tie.Need-word-at-requires-2
 word-at-requires-2 c κs = search rules
@@ -89,30 +84,30 @@ is-allowed-requires c κs = search rules
 returns-4 : tie.Need-returns-4
 returns-4 c = misplaced (sized c.before.before) _ (sym c.before.is-allowed.ensures ∙ not-true _ c.if4.true)
 
-add-rule-in : tie.Need-overflow-add-rule-in
-add-rule-in c = search rules
+add-rule : tie.Need-overflow-add-rule
+add-rule c = search rules
 
-sub-rule-in : tie.Need-overflow-sub-rule-in
-sub-rule-in c = search rules
+sub-rule : tie.Need-overflow-sub-rule
+sub-rule c = search rules
 
-part-rule-in-start : tie.Need-slice-bounds-rule-in-start
-part-rule-in-start c = search rules
+part-rule-start : tie.Need-slice-bounds-rule-start
+part-rule-start c = search rules
 
-part-rule-in-end : tie.Need-slice-bounds-rule-in-end
-part-rule-in-end c = search rules
+part-rule-end : tie.Need-slice-bounds-rule-end
+part-rule-end c = search rules
 
-rule-in-requires : tie.Need-rule-in-requires
-rule-in-requires c κs = search rules
+rule-requires : tie.Need-rule-requires
+rule-requires c κs = search rules
 
 returns-5 : tie.Need-returns-5
 returns-5 c =
     let placed = c.before.before.before in
-    fault (sized placed.before.before) _ (allowed placed) _ c.before.rule-in.ensures c.if5.true
+    fault (sized placed.before.before) _ (allowed placed) _ c.before.rule.ensures c.if5.true
 
 returns-6 : tie.Need-returns-6
 returns-6 c =
     let placed = c.before.before.before in
-    good (sized placed.before.before) _ (allowed placed) _ c.before.rule-in.ensures c.if5.false
+    good (sized placed.before.before) _ (allowed placed) _ c.before.rule.ensures c.if5.false
 
 pub record-in-spec : {M : Type 1} → statement M
 record-in-spec =
@@ -121,17 +116,16 @@ record-in-spec =
     returns
     word-at-requires
     is-kind-requires
-    kind-fault-requires
     returns-2
     word-at-requires-2
     cast-length
     returns-3
     is-allowed-requires
     returns-4
-    add-rule-in
-    sub-rule-in
-    part-rule-in-start
-    part-rule-in-end
-    rule-in-requires
+    add-rule
+    sub-rule
+    part-rule-start
+    part-rule-end
+    rule-requires
     returns-5
     returns-6)

@@ -8,7 +8,7 @@ use Rattle.theory.specs.Words.{order_from}
 use Rattle.theory.proofs.WordLaws.{Bytes-from}
 use Rattle.note.specs.Limits.{file_limit}
 use Rattle.rewriting.proofs.CopyLoop.{Copying, Found, begin, ended}
-use Rattle.rewriting.proofs.ContainerLoop.{container_item, Any, same_containers, container_fits}
+use Rattle.rewriting.proofs.ContainerLoop.{container_item, same_containers, container_fits}
 use Rattle.rewriting.proofs.ContainerLoop.{begin_ready, records_ready, container_next}
 use borrow.Author.Rules.{rules}
 use Rattle.rewriting.proofs.copy_containers.Statement.{statement}
@@ -17,11 +17,10 @@ use Rattle.rewriting.proofs.copy_containers.Reads as reads
 use Rattle.rewriting.proofs.copy_containers.Lts as lts
 use Rattle.rewriting.proofs.begin_container.Reads as begin-container-reads
 use Rattle.rewriting.proofs.copy_records.Reads as copy-records-reads
-use Rattle.record.proofs.is_monitoring.Reads as is-monitoring-reads
 use Rattle.words.proofs.word_at.Reads as word-at-reads
 
 abbrev invariant-loop : tie.invariant-loop
-invariant-loop part out₀ place big rest₀ at₀ out rest at = Copying (container_item (order_from big)) Any out₀ place part out rest at
+invariant-loop part out₀ place big rest₀ at₀ out rest at = Copying (container_item (order_from big)) out₀ place part out rest at
 
 abbrev decreases-loop : tie.decreases-loop
 decreases-loop part out₀ place big rest₀ at₀ out rest at = length rest
@@ -32,7 +31,7 @@ abbrev written : tie.After-slice-known3 invariant-loop decreases-loop → tie.Af
 written c = c.before.before
 
 abbrev begun : tie.After-copy-records-arg2 invariant-loop decreases-loop → tie.After-begin-container invariant-loop decreases-loop
-begun c = c.before.before.before.before.before
+begun c = c.before.before.before.before
 
 abbrev read : tie.After-begin-container invariant-loop decreases-loop → tie.After-word-at2 invariant-loop decreases-loop
 read c = c.before.before
@@ -47,7 +46,7 @@ start c = c.before.before.before
 found : (c : tie.After-word-at2 invariant-loop decreases-loop)
     → (let a = (start (head c)).args in
     let l = (head c).loop in
-    Found (container_item (order_from a.big)) Any (order_from a.big) a.out.now a.place a.part.now
+    Found (container_item (order_from a.big)) (order_from a.big) a.out.now a.place a.part.now
     l.out l.rest.now l.at c.before.word_at.result c.word-at2.result)
 found c =
     let turn = c.before.before in
@@ -66,7 +65,7 @@ loop-holds c =
     let s = c.before.before in
     let (first, ready) = s.requires in
     let h = Bytes-from s.args.part.now (λ i l. omega (arith, c.before.shared-slice-known.given i)) in
-    begin (container_item _) Any _ first tt (same_containers _ first) ready h
+    begin (container_item _) _ first (same_containers _ first) ready h
 
 word-at-requires : tie.Need-word-at-requires invariant-loop decreases-loop
 word-at-requires c κs = omega (arith, words c)
@@ -86,9 +85,6 @@ add-end c = omega (arith, sized c)
 begin-container-requires : tie.Need-begin-container-requires invariant-loop decreases-loop
 begin-container-requires c κs = begin_ready (found c.before)
 
-is-monitoring-requires : tie.Need-is-monitoring-requires invariant-loop decreases-loop
-is-monitoring-requires c κs = search rules
-
 sub-copy-records : tie.Need-overflow-sub-copy-records invariant-loop decreases-loop
 sub-copy-records c = search rules
 
@@ -96,14 +92,13 @@ part-copy-records-start : tie.Need-slice-bounds-copy-records-start invariant-loo
 part-copy-records-start c = search rules
 
 part-copy-records-end : tie.Need-slice-bounds-copy-records-end invariant-loop decreases-loop
-part-copy-records-end c = (sized c.before.before.before.before.before).0
+part-copy-records-end c = (sized c.before.before.before.before).0
 
 add-copy-records : tie.Need-overflow-add-copy-records invariant-loop decreases-loop
 add-copy-records c = omega (arith, sized (read (begun c)))
 
 copy-records-requires : tie.Need-copy-records-requires invariant-loop decreases-loop
-copy-records-requires c κs =
-    records_ready (found (read (begun c))) _ (begun c).begin-container.ensures _ c.before.before.is-monitoring.ensures
+copy-records-requires c κs = records_ready (found (read (begun c))) _ (begun c).begin-container.ensures
 
 sub-rest : tie.Need-overflow-sub-rest invariant-loop decreases-loop
 sub-rest c = (sized (read (begun (written c).before))).0
@@ -127,7 +122,7 @@ same_length : tie.Need-same-length invariant-loop decreases-loop
 same_length c = c.before.loop.invariant.laid.size
 
 returns : tie.Need-returns invariant-loop decreases-loop
-returns c = ended (container_item _) Any c.before.loop.invariant c.loop-test.false
+returns c = ended (container_item _) c.before.loop.invariant c.loop-test.false
 
 pub copy-containers-spec : {M : Type 1} → statement M
 copy-containers-spec =
@@ -142,7 +137,6 @@ copy-containers-spec =
     add-size
     add-end
     begin-container-requires
-    is-monitoring-requires
     sub-copy-records
     part-copy-records-start
     part-copy-records-end

@@ -9,7 +9,7 @@ use Rattle.theory.proofs.WordLaws.{Bytes-from}
 use Rattle.note.specs.Limits.{file_limit}
 use Rattle.demands.proofs.Bundles.{record_item, same-records}
 use Rattle.rewriting.proofs.CopyLoop.{Copying, Found, begin, ended}
-use Rattle.rewriting.proofs.RecordCopy.{Sorted, record_fits, copyable, copied_next}
+use Rattle.rewriting.proofs.RecordCopy.{record_fits, copyable, copied_next}
 use borrow.Author.Rules.{rules}
 use Rattle.rewriting.proofs.copy_records.Statement.{statement}
 use Rattle.rewriting.proofs.copy_records.Tie as tie
@@ -19,10 +19,10 @@ use Rattle.copies.proofs.copy_record.Reads as copy-record-reads
 use Rattle.words.proofs.word_at.Reads as word-at-reads
 
 abbrev invariant-loop : tie.invariant-loop
-invariant-loop monitoring part out₀ place big rest₀ at₀ out rest at = Copying (record_item (order_from big)) (Sorted monitoring) out₀ place part out rest at
+invariant-loop part out₀ place big rest₀ at₀ out rest at = Copying (record_item (order_from big)) out₀ place part out rest at
 
 abbrev decreases-loop : tie.decreases-loop
-decreases-loop monitoring part out₀ place big rest₀ at₀ out rest at = length rest
+decreases-loop part out₀ place big rest₀ at₀ out rest at = length rest
 
 -- From a turn's end back to where its record was written, from there to where its two words were read, and to the loop's head.
 abbrev written : tie.After-slice-known2 invariant-loop decreases-loop → tie.After-copy-record invariant-loop decreases-loop
@@ -46,7 +46,7 @@ sized c = record_fits (head c).loop.invariant c.before.loop-test.true _ c.word_a
 found : (c : tie.After-word-at2 invariant-loop decreases-loop)
     → (let a = (start (head c.before)).args in
     let l = (head c.before).loop in
-    Found (record_item (order_from a.big)) (Sorted a.monitoring) (order_from a.big) a.out.now a.place a.part.now
+    Found (record_item (order_from a.big)) (order_from a.big) a.out.now a.place a.part.now
     l.out l.rest.now l.at c.word-at2.result c.before.word_at.result)
 found c =
     let own = c.before in
@@ -55,9 +55,9 @@ found c =
 loop-holds : tie.Need-loop-init invariant-loop decreases-loop
 loop-holds c =
     let s = c.before.before in
-    let (context, sort, ready) = s.requires in
+    let (context, ready) = s.requires in
     let h = Bytes-from s.args.part.now (λ i l. omega (arith, c.before.shared-slice-known.given i)) in
-    begin (record_item _) (Sorted s.args.monitoring) _ context sort (same-records _ context) ready h
+    begin (record_item _) _ context (same-records _ context) ready h
 
 word-at-requires : tie.Need-word-at-requires invariant-loop decreases-loop
 word-at-requires c κs = let (fits, limit) = record_fits c.before.loop.invariant c.loop-test.true _ refl in omega (arith, fits)
@@ -105,7 +105,7 @@ same_length : tie.Need-same-length invariant-loop decreases-loop
 same_length c = c.before.loop.invariant.laid.size
 
 returns : tie.Need-returns invariant-loop decreases-loop
-returns c = ended (record_item _) (Sorted _) c.before.loop.invariant c.loop-test.false
+returns c = ended (record_item _) c.before.loop.invariant c.loop-test.false
 
 pub copy-records-spec : {M : Type 1} → statement M
 copy-records-spec =

@@ -1,5 +1,4 @@
 -- `samples::sample` meets its contract: each way out is a law of SampleLaws, handed the record that was found and the tests on the way.
-use mathlib.Core.Bool.{false}
 use native.Mathlib.Omega.{arith}
 use Rattle.theory.specs.Words.{order_from}
 use Rattle.note.specs.Answers.{given_sample}
@@ -25,7 +24,7 @@ abbrev start : tie.After-word → tie.Start
 start c = c.before.before.before.before
 
 found : (c : tie.After-word)
-    → Found (order_from (start c).args.big) false (start c).args.file.now (start c).args.place c.word.given.0.0 c.word.given.0.1.0
+    → Found (order_from (start c).args.big) (start c).args.file.now (start c).args.place c.word.given.0.0 c.word.given.0.1.0
 found c = good-found c.word.given.1 c.before.before.record_found_lem.ensures
 
 -- Where its kind is asked: it's a trace.
@@ -33,7 +32,7 @@ abbrev good : tie.Else1 → tie.After-word
 good c = c.before.before
 
 trace : (c : tie.Else1)
-    → (let a = (start (good c)).args in Found (order_from a.big) false a.file.now a.place 0x11 (good c).word.given.0.1.0)
+    → (let a = (start (good c)).args in Found (order_from a.big) a.file.now a.place 0x11 (good c).word.given.0.1.0)
 trace c = trace-found (found (good c)) c.if1.false
 
 returns : tie.Need-returns
@@ -88,7 +87,7 @@ unfolding given_sample sample_at
 returns-5 c =
     let called = c.before.before.before in
     let a = called.before.before.args in
-    bad-given _ false _ _ c.before.why.given.1 called.record_found_lem.ensures (sample_given (order_from a.big) a.place _)
+    bad-given _ _ _ c.before.why.given.1 called.record_found_lem.ensures (sample_given (order_from a.big) a.place _)
 
 pub sample-spec : {M : Type 1} → statement M
 sample-spec =

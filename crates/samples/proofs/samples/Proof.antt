@@ -1,5 +1,4 @@
 -- `samples::samples` meets its contract: the part runs from the samples' first byte to the record's last, where a trace was found.
-use mathlib.Core.Bool.{false}
 use Rattle.theory.specs.Words.{order_from}
 use Rattle.samples.proofs.SampleLaws.{trace-found, no_part, long, part-found, part-given, refused-part, empty_part}
 use native.Mathlib.Omega.{arith}
@@ -22,7 +21,7 @@ abbrev start : tie.After-word → tie.Start
 start c = c.before.before.before.before
 
 found : (c : tie.After-word)
-    → Found (order_from (start c).args.big) false (start c).args.file.now (start c).args.place c.word.given.0.0 c.word.given.0.1.0
+    → Found (order_from (start c).args.big) (start c).args.file.now (start c).args.place c.word.given.0.0 c.word.given.0.1.0
 found c = good-found c.word.given.1 c.before.before.record_found_lem.ensures
 
 -- Where its kind was asked: it's a trace, so its samples lie between its 48 first bytes and its end.
@@ -30,7 +29,7 @@ abbrev good : tie.Then1 → tie.After-word
 good c = c.before.before
 
 trace : (c : tie.Then1)
-    → (let a = (start (good c)).args in Found (order_from a.big) false a.file.now a.place 0x11 (good c).word.given.0.1.0)
+    → (let a = (start (good c)).args in Found (order_from a.big) a.file.now a.place 0x11 (good c).word.given.0.1.0)
 trace c = trace-found (found (good c)) c.if1.true
 
 add-result : tie.Need-overflow-add-result

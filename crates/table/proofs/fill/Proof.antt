@@ -53,7 +53,7 @@ begun c =
 -- Where the entries' rows were stored: how many they are, and the buffer as long as before.
 rows : (c : tie.After-fill-records)
     → (2 ≤ c.fill-records.result) × (c.fill-records.result ≤ 2 + (read (headed c)).word_at.result)
-    × (length c.fill-records.new.1.1.1.0 ≡ length (start (read (headed c))).args.rows.now)
+    × (length c.fill-records.new.1.1.0 ≡ length (start (read (headed c))).args.rows.now)
 rows c = next_row (begun (headed c)) _ _ c.fill-records.ensures
 
 word-at-requires : tie.Need-word-at-requires

@@ -17,11 +17,10 @@ use Rattle.rows.proofs.values_in.Reads as values-in-reads
 use Rattle.words.proofs.word_at.Reads as word-at-reads
 
 abbrev invariant-loop : tie.invariant-loop
-invariant-loop monitoring part from rows₀ first parent big rest₀ at₀ n₀ rows rest at n =
-    Filling (order_from big) monitoring from part rows₀ first parent rows rest at n
+invariant-loop part from rows₀ first parent big rest₀ at₀ n₀ rows rest at n = Filling (order_from big) from part rows₀ first parent rows rest at n
 
 abbrev decreases-loop : tie.decreases-loop
-decreases-loop monitoring part from rows₀ first parent big rest₀ at₀ n₀ rows rest at n = length rest
+decreases-loop part from rows₀ first parent big rest₀ at₀ n₀ rows rest at n = length rest
 
 -- From a turn back to the function's start; from its end back to where its row was made, from there to where its length word was read,
 -- and to the loop's head.
@@ -51,7 +50,7 @@ room : (c : tie.In-loop invariant-loop decreases-loop) → c.before.loop.n * row
 room c = row_fits c.before.loop.invariant (start c).requires c.loop-test.true
 
 loop-holds : tie.Need-loop-init invariant-loop decreases-loop
-loop-holds c = begin _ _ _ _ _ _ _
+loop-holds c = begin _ _ _ _ _ _
 
 word-at-requires : tie.Need-word-at-requires invariant-loop decreases-loop
 word-at-requires c κs = words c
@@ -82,11 +81,11 @@ values-in-requires c κs =
     valued turn.before.loop.invariant (start turn).requires turn.loop-test.true _ _ kind.word-at2.ensures kind.before.word_at.ensures in
     (holds, omega (arith, limit))
 
-cast-t15 : tie.Need-overflow-cast-t15 invariant-loop decreases-loop
-cast-t15 c = omega (arith, whole (read c))
+cast-t14 : tie.Need-overflow-cast-t14 invariant-loop decreases-loop
+cast-t14 c = omega (arith, whole (read c))
 
-cast-t22 : tie.Need-overflow-cast-t22 invariant-loop decreases-loop
-cast-t22 c = omega (arith, whole (read c))
+cast-t21 : tie.Need-overflow-cast-t21 invariant-loop decreases-loop
+cast-t21 c = omega (arith, whole (read c))
 
 put-row-requires : tie.Need-put-row-requires invariant-loop decreases-loop
 put-row-requires c κs = room (read c).before
@@ -139,8 +138,8 @@ fill-records-spec =
     part-values-in-start
     part-values-in-end
     values-in-requires
-    cast-t15
-    cast-t22
+    cast-t14
+    cast-t21
     put-row-requires
     sub-rest
     part-rest-start

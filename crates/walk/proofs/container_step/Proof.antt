@@ -16,7 +16,6 @@ use Rattle.walk.proofs.container_row.Reads as container-row-reads
 use Rattle.walk.proofs.count_in.Reads as count-in-reads
 use Rattle.walk.proofs.stands.Reads as stands-reads
 use Rattle.walk.proofs.stayed.Reads as stayed-reads
-use Rattle.record.proofs.is_monitoring.Reads as is-monitoring-reads
 use Rattle.words.proofs.word_at.Reads as word-at-reads
 
 -- Where the test was passed: a structure stands at the part's front.
@@ -61,7 +60,7 @@ count-in-requires : tie.Need-count-in-requires
 count-in-requires c κs = search rules
 
 cast-container-row : tie.Need-overflow-cast-container-row
-cast-container-row c = let sized = c.before.before.before in omega (arith, fits (found sized), (start sized).requires.0)
+cast-container-row c = let sized = c.before.before in omega (arith, fits (found sized), (start sized).requires.0)
 
 word-at-requires-2 : tie.Need-word-at-requires-2
 word-at-requires-2 c κs = omega (arith, (standing _ _ (here c.before.before.before)).0)
@@ -75,8 +74,8 @@ cast-container-row-2 c =
 container-row-requires : tie.Need-container-row-requires
 container-row-requires c κs = search rules
 
-add-t12 : tie.Need-overflow-add-t12
-add-t12 c = search rules
+add-t11 : tie.Need-overflow-add-t11
+add-t11 c = search rules
 
 add-t17 : tie.Need-overflow-add-t17
 add-t17 c = search rules
@@ -84,21 +83,16 @@ add-t17 c = search rules
 add-t16 : tie.Need-overflow-add-t16
 add-t16 c = search rules
 
-is-monitoring-requires : tie.Need-is-monitoring-requires
-is-monitoring-requires c κs = search rules
-
-add-t11 : tie.Need-overflow-add-t11
-add-t11 c = search rules
+add-t15 : tie.Need-overflow-add-t15
+add-t15 c = search rules
 
 returns-2 : tie.Need-returns-2
 returns-2 c =
-    let sort = c.before in
-    let rowed = sort.before.before.before.before in
+    let rowed = c.before.before.before.before in
     let worded = rowed.before in
     let counted = worded.before in
     let sized = counted.before.before in
     container_here (found sized) _ _ worded.word-at2.ensures _ counted.count-in.ensures _ rowed.container-row.ensures
-    _ sort.is-monitoring.ensures
 
 pub container-step-spec : {M : Type 1} → statement M
 container-step-spec =
@@ -114,13 +108,12 @@ container-step-spec =
     part-count-in-start
     part-count-in-end
     count-in-requires
-    word-at-requires-2
     cast-container-row
+    word-at-requires-2
     cast-container-row-2
     container-row-requires
-    add-t12
+    add-t11
     add-t17
     add-t16
-    is-monitoring-requires
-    add-t11
+    add-t15
     returns-2)

@@ -37,7 +37,7 @@ read c = c.before.before.before
 
 filled : (c : tie.Else2)
     → (let a = (start (read c)).args in
-    has_values (order_from a.big) a.at.monitoring (read c).before.word_at.result (cut_body (read c).word-at2.result a.part.now) ≡ true)
+    has_values (order_from a.big) (read c).before.word_at.result (cut_body (read c).word-at2.result a.part.now) ≡ true)
 filled c = sym c.before.has-values.ensures ∙ not-false _ c.if2.false
 
 stands-requires : tie.Need-stands-requires

@@ -1,2 +1,0 @@
-pub mod CodeTests
-pub mod ListFaults
