@@ -1,4 +1,6 @@
 // Record and Setting: what stands at a place of a file, with its fields; an entry in working units. Any file and any place are taken.
+#![tactic(auto)]
+
 ghost use Rattle.std.specs.Prelude.{◌≡◌, ◌∷◌, ◌+◌, ◌≤◌, length};
 ghost use Rattle.theory.specs.Words.{order_from};
 ghost use Rattle.theory.specs.Tests.{ok};

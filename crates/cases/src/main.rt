@@ -1,6 +1,8 @@
 // The cases program: reads a stream of cases from standard input and prints what Table answers for each. A case is two words (how
 // many rows to lend, how many bytes the file has) and the file. Printed are answer, count and place; then, of an accepted file, each
 // row's number and six values. A case that is cut short, or is larger than the buffer for files, ends the program.
+#![tactic(auto)]
+
 ghost use Rattle.std.specs.Prelude.{◌*◌, ◌≤◌, length};
 
 use libc::{STDIN_FILENO, STDOUT_FILENO};

@@ -1,4 +1,6 @@
 // Detector codes and channel names (FORMAT 3).
+#![tactic(auto)]
+
 ghost use Rattle.std.specs.Prelude.{◌≡◌, ◌%◌};
 ghost use Rattle.note.specs.Answers.{given_code};
 ghost use Rattle.note.specs.Channels.{channel_answer, code_answer, names_channel, names_phonon, names_charge, numbered, channel_of};

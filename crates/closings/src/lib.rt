@@ -1,5 +1,7 @@
 // The file header's writer and the closings of the two containers. All is known before the first store: a refusal changes no byte. The closings'
 // storing halves, at the end, refuse nothing: their callers know.
+#![tactic(auto)]
+
 ghost use Rattle.std.specs.Prelude.{◌≡◌, ◌+◌, ◌*◌, ◌%◌, ◌^◌, ◌≤◌, ◌<◌, length};
 ghost use Rattle.std.proofs.lemmas.List.Edits.{sets};
 ghost use Rattle.theory.specs.Words.{order_from};

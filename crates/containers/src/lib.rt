@@ -1,4 +1,6 @@
 // Containers: the records that fill a part, a configuration, an event, the events of a file, and the file as a whole.
+#![tactic(auto)]
+
 ghost use Rattle.std.specs.Prelude.{◌≡◌, true, ◌+◌, ◌≤◌, length};
 ghost use Rattle.theory.specs.Words.{order_from};
 ghost use Rattle.note.specs.Words.{word};

@@ -1,5 +1,7 @@
 // One record or entry of an accepted file, written again from its fields through its writer. Its body follows its kind's rule and the
 // output has room, so no writer refuses, and none of their answers is asked.
+#![tactic(auto)]
+
 ghost use Rattle.std.specs.Prelude.{◌≡◌, ◌+◌, ◌≤◌, length};
 ghost use Rattle.theory.specs.Words.{order_from};
 ghost use Rattle.note.specs.Phonon.{phonon_kind};

@@ -1,6 +1,8 @@
 //! The door: every public call, and nothing else. Each takes any input, has no `requires`, and its contract is an equation with the
 //! note's definitions (a writer's by way of `WriterDid`, its answer and its output; stores/specs/Writes); a walker's three with those of
 //! walk/specs/Steps, of which `walk_yields` says that k steps from opening the yield is the note's `yield_at file k`.
+#![tactic(auto)]
+
 pub use channels::{channel, code};
 pub use fields::zip;
 pub use find::find;

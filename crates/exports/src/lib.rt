@@ -1,5 +1,7 @@
 // The reading calls for C: numbers and lent buffers alone. include/dwejrasq.h documents each. The visitor's call stands in `visiting`, the
 // writers' in `writing`, Rewrite's in `restoring`.
+#![tactic(auto)]
+
 ghost use Rattle.std.specs.Prelude.{◌≡◌, length};
 ghost use Rattle.theory.specs.declared.Order.TheVariants.{Little};
 ghost use Rattle.note.specs.Answers.{given_yield};

@@ -1,5 +1,7 @@
 // The faults that writers alone ask: of a trace's and a history's fields, in word order, with the sizes of the parts handed over. Each answers
 // 0 or the number of the refusal; the other kinds' faults are those that readers ask.
+#![tactic(auto)]
+
 ghost use Rattle.std.specs.Prelude.{◌≡◌, [], ◌∷◌, ◌*◌, eqb};
 ghost use Rattle.theory.specs.Tests.{unless, first};
 ghost use Rattle.note.specs.Trace.{channel_fault, code_fault, delta_fault, count_fault};

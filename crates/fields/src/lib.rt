@@ -1,6 +1,8 @@
 // The fields of a file's structures as numbers: how a word is taken apart, and whether a field keeps its rule, in FORMAT's order.
 // A rule answers 0 or the number of the refusal, of several tests the first that fails; readers and writers ask the same ones. Places and
 // bytes are other crates' matter.
+#![tactic(auto)]
+
 ghost use Rattle.std.specs.Prelude.{◌&&◌, [], ◌∷◌, ◌≡◌, ◌/◌, ◌%◌, ◌^◌, ◌≤◌, leb, get_or};
 ghost use Rattle.theory.specs.Tests.{unless, first, among};
 ghost use Rattle.note.specs.Words.{signed, unsigned};

@@ -1,5 +1,7 @@
 // Find: the first trace of a file, by its event's number and its code. The file is checked first; the search then reads each
 // structure's own words, and no sample.
+#![tactic(auto)]
+
 ghost use Rattle.std.specs.Prelude.{◌≡◌};
 ghost use Rattle.theory.specs.Words.{order_from};
 ghost use Rattle.note.specs.Answers.{accepted, counts, given_find};

@@ -1,4 +1,6 @@
 // A listing's text, in a lent buffer: numbers, lines, Table's answer with its rows.
+#![tactic(auto)]
+
 ghost use Rattle.std.specs.Prelude.{◌≡◌, cond, [], ◌∷◌, ◌++◌, ◌+◌, ◌*◌, ◌≤◌, eqb, length, take, drop};
 ghost use Rattle.io.specs.Counts.{IsPrefixLen};
 ghost use Rattle.note.specs.Listing.{decimal_text, line_text, lines_text};

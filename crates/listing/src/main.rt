@@ -1,6 +1,8 @@
 // The listing program: reads a file from standard input and prints answer, count and place; then, of an accepted file, each row's number and
 // six values. What it prints of the bytes that it read is proved to be the note's `listing_text` of them (`list`). Trusted is what no contract
 // of a descriptor says: that reading gave the file's bytes, up to one more than the limit, and that all of the text was written.
+#![tactic(auto)]
+
 ghost use Rattle.std.specs.Prelude.{◌≡◌, ◌++◌, length, drop};
 ghost use Rattle.io.specs.Counts.{IsPrefixLen};
 ghost use Rattle.note.specs.Listing.{listing_text};

@@ -1,5 +1,7 @@
 // The calls by place with every word little-endian (FORMAT 1.2). Each hands its order on to the call that takes one; a file's own calls
 // (Table, Walker, Find, Rewrite) take the order from the file.
+#![tactic(auto)]
+
 ghost use Rattle.std.specs.Prelude.{◌≡◌, ◌+◌};
 ghost use Rattle.theory.specs.declared.Order.TheVariants.{Little};
 ghost use Rattle.note.specs.Answers.{given_record, given_setting, given_sample, given_writer};

@@ -1,5 +1,7 @@
 // The names program: prints the channel lists in full. For each listed channel of detector number 3: type, channel, analysis name,
 // cold name, and the code that type, number and analysis name lead back to. It asks for more types and channels than are listed.
+#![tactic(auto)]
+
 use libc::STDOUT_FILENO;
 use note::{CodeAnswer, Name};
 

@@ -1,5 +1,6 @@
 // The answers that the calls give, as types; what each must hold is defined in specs/, in the order of FORMAT.
 // There is no function here.
+#![tactic(auto)]
 
 // The numbers that are given back (FORMAT 2.1), as specs/Faults has them.
 /// A lent file or output is over the limit.
@@ -188,7 +189,7 @@ pub enum SettingAnswer {
 }
 
 /// A channel's name: its ASCII bytes stand first, zeros after them.
-#[derive(Drop)]
+#[derive(Clone, Copy)]
 pub struct Name {
     pub bytes: [u8; 4],
     pub length: u32,
@@ -228,7 +229,7 @@ pub enum FindAnswer {
 }
 
 /// What a walker yields: a row, the end, or the file's refusal.
-#[derive(Drop)]
+#[derive(Clone, Copy)]
 pub enum WalkerYield {
     Row {
         kind: u32,

@@ -1,4 +1,6 @@
 // One record: what stands at the front of a part, in its context. Every loop over records takes this step.
+#![tactic(auto)]
+
 ghost use Rattle.std.specs.Prelude.{◌≡◌, length, ◌<◌};
 ghost use Rattle.theory.specs.Words.{order_from};
 ghost use Rattle.theory.specs.Tests.{among};

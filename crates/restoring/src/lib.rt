@@ -1,4 +1,6 @@
 // Rewrite for C, in a library of its own: each writer, called in one place alone, is compiled into the loop over records.
+#![tactic(auto)]
+
 ghost use Rattle.note.specs.Writers.{rewrite_next, rewrite_output};
 ghost use Rattle.telling.specs.Told.{Told};
 

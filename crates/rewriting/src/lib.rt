@@ -1,6 +1,8 @@
 // Rewrite: the fields of an accepted file, read and written again through the writers, the header's writer and the closings' storing halves,
 // from byte 0 on.
 // The file is checked first and the output has room, so nothing refuses behind the first store, and places in the output are the file's.
+#![tactic(auto)]
+
 ghost use Rattle.std.specs.Prelude.{◌≡◌, length};
 ghost use Rattle.std.proofs.lemmas.List.Edits.{sets};
 ghost use Rattle.theory.specs.Words.{order_from};

@@ -1,4 +1,6 @@
 // The rules of the eight kinds: 0, or the number of the first test that fails, in the order of FORMAT 4, 5. Each takes a body's bytes.
+#![tactic(auto)]
+
 ghost use Rattle.std.specs.Prelude.{◌≡◌, ◌+◌, ◌≤◌, ◌<◌, length};
 ghost use Rattle.theory.specs.Words.{order_from};
 ghost use Rattle.note.specs.Phonon.{phonon_fault, phonon_rule};

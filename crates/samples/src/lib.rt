@@ -1,4 +1,6 @@
 // Samples and a sample by number, of the trace at a place of a file. Any file, any place and any number are taken.
+#![tactic(auto)]
+
 ghost use Rattle.std.specs.Prelude.{◌≡◌, ◌+◌, ◌-◌, ◌*◌, ◌/◌, ◌≤◌, length};
 ghost use Rattle.theory.specs.Words.{order_from};
 ghost use Rattle.note.specs.Answers.{given_sample};

@@ -1,5 +1,7 @@
 // What every writer does: it is admitted, or refused before the first store; then words and parts of bytes are stored as the note's files
 // have them.
+#![tactic(auto)]
+
 ghost use Rattle.std.specs.Prelude.{◌≡◌, [], ◌∷◌, ◌+◌, ◌*◌, ◌≤◌, ◌<◌, length};
 ghost use Rattle.std.proofs.lemmas.List.Edits.{sets};
 ghost use Rattle.theory.specs.Words.{num, bytes, ordered, order_from};

@@ -1,4 +1,6 @@
 // Table: the rows of an accepted file, in a lent buffer. The file is checked first; filling then reads each structure's own words.
+#![tactic(auto)]
+
 ghost use Rattle.std.specs.Prelude.{◌≡◌, length};
 ghost use Rattle.theory.specs.Words.{order_from};
 ghost use Rattle.note.specs.Rows.{table_answer, table_buffer};

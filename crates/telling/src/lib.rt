@@ -1,4 +1,6 @@
 // A writer's answer, for C: a number, and two lent numbers.
+#![tactic(auto)]
+
 ghost use Rattle.telling.specs.Told.{Tells};
 
 use note::WriterAnswer;

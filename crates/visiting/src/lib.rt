@@ -1,4 +1,6 @@
 // The visitor for C, in a library of its own: the walk's step, called in one place alone, is compiled into its loop.
+#![tactic(auto)]
+
 ghost use Rattle.std.specs.Prelude.{◌≡◌, length};
 ghost use Rattle.note.specs.Visitor.{visit_answer, visit_buffer};
 

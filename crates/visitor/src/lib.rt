@@ -1,4 +1,6 @@
 // The visitor, for callers who can't hold a walker: it runs a walk over a file and stores its yields, from a number on, as rows.
+#![tactic(auto)]
+
 ghost use Rattle.std.specs.Prelude.{◌≡◌, length};
 ghost use Rattle.note.specs.Visitor.{visit_answer, visit_buffer};
 ghost use Rattle.visitor.specs.Visits.{Stored};

@@ -1,5 +1,7 @@
 // A walk over a file by steps: where it stands is plain numbers beside the lent slice, and any numbers are taken. The file is checked
 // where a walk starts; a step then reads its own structure, and a container's passes over its children by their length words.
+#![tactic(auto)]
+
 ghost use Rattle.std.specs.Prelude.{◌≡◌, ◌+◌, ◌≤◌, length};
 ghost use Rattle.theory.specs.Words.{order_from};
 ghost use Rattle.walk.specs.Steps.{stands, count_in, container_row, stayed, header_step, record_step, container_step, step_in, step_of, start_of, opened_of};
@@ -12,7 +14,7 @@ use words::{is_big, word_at};
 
 /// Where a walk stands: the file's refusal (number 0: accepted) and its place, the next byte, the end of the container that it is in,
 /// that container's row number, the rows so far, and what was yielded last.
-#[derive(Drop)]
+#[derive(Clone, Copy)]
 pub struct Spot {
     pub number: u32,
     pub fault: usize,

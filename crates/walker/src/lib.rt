@@ -1,5 +1,7 @@
 // The walker: the lent file itself, and where a walk over it stands. Its fields are private, so a walker comes from opening a file and
 // from stepping on, and from nothing else.
+#![tactic(auto)]
+
 ghost use Rattle.std.specs.Prelude.{◌≡◌};
 ghost use Rattle.walk.specs.Steps.{step_of, opened_of};
 

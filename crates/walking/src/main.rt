@@ -1,6 +1,8 @@
 // The walking program: walks a file from standard input, of up to 8,192 bytes, by a walker of struct and slice, and prints each yield
 // until two behind the first that is no row: a row's number and six values, the end, or a refusal's number and place. Then it walks the
 // file's first half, and no bytes at all.
+#![tactic(auto)]
+
 ghost use Rattle.std.specs.Prelude.{◌≡◌};
 ghost use Rattle.note.specs.Answers.{given_yield};
 ghost use Rattle.note.specs.Rows.{yield_at};

@@ -1,4 +1,6 @@
 // Words of a slice of bytes, as the note's files have them.
+#![tactic(auto)]
+
 ghost use Rattle.std.specs.Prelude.{◌≡◌, [], ◌∷◌, ◌+◌, ◌≤◌, length};
 ghost use Rattle.theory.specs.Words.{num, order_from};
 ghost use Rattle.note.specs.Words.{word};

@@ -1,6 +1,8 @@
 // The eight record and entry writers. Each record's hands its fields' fault, its kind word, its body's words and the bytes behind them to
 // `write_structure`, the entries', whose fields are all signed, by way of `write_entry`; a history, which has several parts, is stored by
 // `put_history`. All is known before the first store.
+#![tactic(auto)]
+
 ghost use Rattle.std.specs.Prelude.{◌≡◌, [], map, ◌+◌, ◌*◌, ◌%◌, ◌^◌, ◌≤◌, ◌<◌, length};
 ghost use Rattle.std.proofs.lemmas.List.Edits.{sets};
 ghost use Rattle.theory.specs.Words.{order_from};

@@ -1,4 +1,6 @@
 // The writers and the closings for C: numbers, lent arrays and buffers alone. include/dwejrasq.h documents each.
+#![tactic(auto)]
+
 ghost use Rattle.theory.specs.declared.Order.TheVariants.{Little};
 ghost use Rattle.note.specs.Writers.{header_next, header_output, configuration_closed, configuration_output, event_closed, event_output, phonon_draft, charge_draft, administrative_draft, trace_draft, history_draft, gps_draft, trigger_draft, tlb_draft};
 ghost use Rattle.telling.specs.Told.{Told};
