@@ -1,0 +1,14 @@
+-- `writers::write_tlb` meets its contract: the words handed on are the fields'.
+-- The idea: a structure of those words is the kind's own, and computes to it.
+use Rattle.note.specs.Tlb.{tlb_bytes}
+use Rattle.note.specs.Writers.{tlb_draft}
+use Rattle.stores.proofs.WriterLaws.{bytes_unasked}
+use Rattle.stores.proofs.StructureLaws.{structured_bare}
+use Rattle.stores.specs.Structures.{structured}
+use borrow.Author.Rules.{rules}
+use Rattle.writers.proofs.write_tlb.Goals as goal
+
+pub returns : goal.returns
+unfolding structured tlb_draft tlb_bytes
+returns c =
+    bytes_unasked _ c.tlb_fault.ensures (λ z. structured_bare _ _ _) c.write_structure.ensures
