@@ -93,7 +93,7 @@ record_head_numbers alone w = unless-numbered _ (is_kind alone w) 5 refl
 record_late_numbers : (c : Context) (w n : ℕ) → Numbered (record_numbers c) (record_late c w n)
 unfolding is_allowed Numbered
 record_late_numbers entry w n = tt
-record_late_numbers (event seen) w n = unless-numbered _ (is_allowed (event seen) w) 9 refl
+record_late_numbers (event seen) w n = unless-numbered (record_numbers (event seen)) (is_allowed (event seen) w) 9 refl
 record_late_numbers alone w n = tt
 
 record_rule_numbers : (o : Order) (c : Context) (w : ℕ) (b : List ℕ) → record_head c w ≡ 0 → Numbered (record_numbers c) (record_rule o w b)
