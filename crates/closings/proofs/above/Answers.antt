@@ -5,19 +5,10 @@ use mathlib.Core.Path.{◌≡◌}
 use native.Mathlib.Omega.{arith}
 use lib.Bits.{or_shifted}
 use borrow.Author.Rules.{rules}
-use Rattle.closings.proofs.above.Statement.{statement}
-use Rattle.closings.proofs.above.Tie as tie
-use Rattle.closings.proofs.above.Reads as reads
-use Rattle.closings.proofs.above.Lts as lts
+use Rattle.closings.proofs.above.Goals as goal
 
 kept : (n : ℕ) → n ≤ 0xFFFFFFFF → n % 4294967296 ≡ n
 kept n h = omega arith
 
-shl-result : tie.Need-overflow-shl-result
-shl-result c = search rules
-
-returns : tie.Need-returns
+pub returns : goal.returns
 returns c = let (k, fits, low) = c.requires in rw (kept _ fits) (or_shifted c.args.high c.args.k c.args.low low)
-
-pub above-spec : {M : Type 1} → statement M
-above-spec = tie.close (tie.spec shl-result returns)
