@@ -5,8 +5,13 @@
 
 ghost use Rattle.std.specs.Prelude.{◌*◌, ◌≤◌, length};
 
-use libc::{STDIN_FILENO, STDOUT_FILENO};
 use lines::put_table;
+
+// The descriptor of standard input.
+const STDIN: i32 = 0;
+
+// The descriptor of standard output.
+const STDOUT: i32 = 1;
 
 // The most bytes of an answer's text: its first line, and the lines of as many rows as the buffer has.
 const TEXT: usize = 5_631;
@@ -33,7 +38,7 @@ fn lent(asked: usize, rows: &[u32]) -> usize
 // Reads the next case and prints its answer; false where no whole case is there, or it does not fit.
 fn answer_case(file: &mut [u8], rows: &mut [u32]) -> bool {
     let mut head = [0u8; 8];
-    if io::read_full(STDIN_FILENO, &mut head) < 8 {
+    if io::read_full(STDIN, &mut head) < 8 {
         return false;
     }
     let asked = word(head[0], head[1], head[2], head[3]);
@@ -41,14 +46,14 @@ fn answer_case(file: &mut [u8], rows: &mut [u32]) -> bool {
     if file.len() < size {
         return false;
     }
-    if io::read_full(STDIN_FILENO, &mut file[..size]) < size {
+    if io::read_full(STDIN, &mut file[..size]) < size {
         return false;
     }
     let capacity = lent(asked, rows);
     let answer = dwejrasq::table(&file[..size], &mut rows[..6 * capacity]);
     let mut text = [0u8; TEXT];
     let made = put_table(&mut text, answer, rows);
-    io::write_all(STDOUT_FILENO, &text[..made]);
+    io::write_all(STDOUT, &text[..made]);
     true
 }
 

@@ -8,9 +8,14 @@ ghost use Rattle.io.specs.Counts.{IsPrefixLen};
 ghost use Rattle.note.specs.Listing.{listing_text};
 
 use dwejrasq::table;
-use libc::{STDIN_FILENO, STDOUT_FILENO};
 use lines::put_table;
 use note::TableAnswer;
+
+// The descriptor of standard input.
+const STDIN: i32 = 0;
+
+// The descriptor of standard output.
+const STDOUT: i32 = 1;
 
 const LISTING_LIMIT: usize = 16_384;
 
@@ -40,7 +45,7 @@ fn list(file: &[u8], out: &mut [u8; 178_239]) -> usize
 fn main() {
     let mut file = [0u8; 16_385];
     let mut text = [0u8; 178_239];
-    let n = io::read_full(STDIN_FILENO, &mut file);
+    let n = io::read_full(STDIN, &mut file);
     let size = list(&file[..n], &mut text);
-    io::write_all(STDOUT_FILENO, &text[..size]);
+    io::write_all(STDOUT, &text[..size]);
 }

@@ -2,8 +2,10 @@
 // cold name, and the code that type, number and analysis name lead back to. It asks for more types and channels than are listed.
 #![tactic(auto)]
 
-use libc::STDOUT_FILENO;
 use note::{CodeAnswer, Name};
+
+// The descriptor of standard output.
+const STDOUT: i32 = 1;
 
 const MOST_TYPE: u32 = 12;
 
@@ -13,16 +15,16 @@ const DETECTOR: u32 = 3;
 
 // A number and a blank.
 fn print(n: u32) {
-    io::print_decimal(STDOUT_FILENO, n as u64);
-    io::write_all(STDOUT_FILENO, b" ");
+    io::print_decimal(STDOUT, n as u64);
+    io::write_all(STDOUT, b" ");
 }
 
 // A name and a blank.
 fn print_name(name: Name) {
     let bytes = name.bytes;
     let size = io::count(name.length as isize, &bytes);
-    io::write_all(STDOUT_FILENO, &bytes[..size]);
-    io::write_all(STDOUT_FILENO, b" ");
+    io::write_all(STDOUT, &bytes[..size]);
+    io::write_all(STDOUT, b" ");
 }
 
 // The code that a type and an analysis name lead back to, and the line's end.
@@ -31,16 +33,16 @@ fn print_code(detector_type: u32, name: Name) {
     let size = io::count(name.length as isize, &bytes);
     match dwejrasq::code(detector_type, DETECTOR, &bytes[..size]) {
         CodeAnswer::Code { code } => {
-            io::print_decimal(STDOUT_FILENO, code as u64);
+            io::print_decimal(STDOUT, code as u64);
         }
         CodeAnswer::Refused {
             number: _,
             place: _,
         } => {
-            io::write_all(STDOUT_FILENO, b"refused");
+            io::write_all(STDOUT, b"refused");
         }
     }
-    io::write_all(STDOUT_FILENO, b"\n");
+    io::write_all(STDOUT, b"\n");
 }
 
 // The line of a type's channel, where it is listed.

@@ -8,8 +8,13 @@ ghost use Rattle.note.specs.Answers.{given_yield};
 ghost use Rattle.note.specs.Rows.{yield_at};
 ghost use Rattle.walk.specs.Steps.{opened_of, steps_from};
 
-use libc::{STDIN_FILENO, STDOUT_FILENO};
 use note::WalkerYield;
+
+// The descriptor of standard input.
+const STDIN: i32 = 0;
+
+// The descriptor of standard output.
+const STDOUT: i32 = 1;
 
 // A file of 8,192 bytes has at most 1,024 rows; three yields more.
 const MOST_YIELDS: usize = 1_027;
@@ -36,8 +41,8 @@ fn yield_at(file: &[u8], k: usize) -> WalkerYield
 
 // A number and a blank.
 fn print(n: u64) {
-    io::print_decimal(STDOUT_FILENO, n);
-    io::write_all(STDOUT_FILENO, b" ");
+    io::print_decimal(STDOUT, n);
+    io::write_all(STDOUT, b" ");
 }
 
 // The line of a yield; whether it is a row.
@@ -57,19 +62,19 @@ fn print_yield(given: WalkerYield, k: usize) -> bool {
             print(whole as u64);
             print(parent as u64);
             print(one as u64);
-            io::print_decimal(STDOUT_FILENO, two as u64);
-            io::write_all(STDOUT_FILENO, b"\n");
+            io::print_decimal(STDOUT, two as u64);
+            io::write_all(STDOUT, b"\n");
             true
         }
         WalkerYield::End => {
-            io::write_all(STDOUT_FILENO, b"end\n");
+            io::write_all(STDOUT, b"end\n");
             false
         }
         WalkerYield::Refused { number, place } => {
-            io::write_all(STDOUT_FILENO, b"refused ");
+            io::write_all(STDOUT, b"refused ");
             print(number as u64);
-            io::print_decimal(STDOUT_FILENO, place as u64);
-            io::write_all(STDOUT_FILENO, b"\n");
+            io::print_decimal(STDOUT, place as u64);
+            io::write_all(STDOUT, b"\n");
             false
         }
     }
@@ -98,7 +103,7 @@ fn print_front(file: &[u8], size: usize) {
 
 fn main() {
     let mut file = [0u8; 8_192];
-    let n = io::read_full(STDIN_FILENO, &mut file);
+    let n = io::read_full(STDIN, &mut file);
     print_front(&file, n);
     print_front(&file, n / 2);
     print_front(&file, 0);
