@@ -1,0 +1,8 @@
+-- The writer's own contract, of the fields in the array; its answer told in lent numbers.
+use Rattle.writing.specs.Handed.{gps_from}
+use borrow.Author.Rules.{rules}
+use Rattle.writing.proofs.dwj_write_gps.Goals as goal
+
+pub returns : goal.returns
+unfolding gps_from
+returns c = let w = c.write_gps-answer.ensures in (c.told.ensures _ w.0, w.1)
