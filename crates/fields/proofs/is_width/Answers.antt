@@ -8,13 +8,13 @@ use borrow.Author.Tests.{eq-eqb, ne_eqb}
 use Rattle.note.specs.History.{is_width}
 use Rattle.fields.proofs.is_width.Goals as goal
 
-no-times : (trigger : Bool) (times width : ℕ) → times ≡ 0 → eqb width 0 ≡ is_width trigger times width
+no_times : (trigger : Bool) (times width : ℕ) → times ≡ 0 → eqb width 0 ≡ is_width trigger times width
 unfolding is_width
-no-times true times width e = rw (eq-eqb times 0 e)
-no-times false times width e = rw (eq-eqb times 0 e)
+no_times true times width e = rw (eq-eqb times 0 e)
+no_times false times width e = rw (eq-eqb times 0 e)
 
 pub returns-then-times-eq0 : goal.returns-then-times-eq0
-returns-then-times-eq0 c = no-times _ _ _ c.if-times-eq0.true
+returns-then-times-eq0 c = no_times _ _ _ c.if-times-eq0.true
 
 pub returns-then-trigger : goal.returns-then-trigger
 unfolding is_width

@@ -20,11 +20,11 @@ use Rattle.find.proofs.search.Goals.{then-word_at-eq-TRACE+else-word_at-code, el
 use Rattle.find.proofs.search.Goals.{then-word_at-number+else-loop-records-test, else-word_at-number}
 
 -- The event that stands next, where its length word was read: it stays in the rest.
-event-stays : (c : After-word_at) → 8 + c.word_at.result ≤ length c.events.rest.now
-event-stays c = omega (arith, event-fits c.events.invariant.1 c.events-test.true, c.word_at.ensures)
+event_stays : (c : After-word_at) → 8 + c.word_at.result ≤ length c.events.rest.now
+event_stays c = omega (arith, event-fits c.events.invariant.1 c.events-test.true, c.word_at.ensures)
 
-record-stays : (c : After-word_at-in-loop-records-2) → 8 + c.word_at-in-loop-records-2.result ≤ length c.loop-records.records.now
-record-stays c = omega (arith, record_fits c.loop-records.invariant.1 c.loop-records-test.true, c.word_at-in-loop-records-2.ensures)
+record_stays : (c : After-word_at-in-loop-records-2) → 8 + c.word_at-in-loop-records-2.result ≤ length c.loop-records.records.now
+record_stays c = omega (arith, record_fits c.loop-records.invariant.1 c.loop-records-test.true, c.word_at-in-loop-records-2.ensures)
 
 pub events-init : goal.events-init
 events-init c =
@@ -39,7 +39,7 @@ pub word_at-requires-in-events : goal.word_at-requires-in-events
 word_at-requires-in-events c = omega (arith, first_fits c.events.invariant.1 c.events-test.true)
 
 pub slice_bounds-records-end : goal.slice_bounds-records-end
-slice_bounds-records-end c = event-stays (goal.at.slice_bounds-records-end c).After-word_at
+slice_bounds-records-end c = event_stays (goal.at.slice_bounds-records-end c).After-word_at
 
 pub loop-records-init : goal.loop-records-init
 loop-records-init c =
@@ -58,17 +58,17 @@ pub word_at-requires-in-loop-records-2 : goal.word_at-requires-in-loop-records-2
 word_at-requires-in-loop-records-2 c = omega (arith, record_fits c.loop-records.invariant.1 c.loop-records-test.true)
 
 pub slice_bounds-records-count-in-loop-records : goal.slice_bounds-records-count-in-loop-records
-slice_bounds-records-count-in-loop-records c = record-stays c
+slice_bounds-records-count-in-loop-records c = record_stays c
 
 pub slice_bounds-records-start-in-loop-records : goal.slice_bounds-records-start-in-loop-records
-slice_bounds-records-start-in-loop-records c = record-stays c
+slice_bounds-records-start-in-loop-records c = record_stays c
 
 pub overflow_add-place-in-loop-records : goal.overflow_add-place-in-loop-records
 overflow_add-place-in-loop-records c =
-    omega (arith, record-stays (goal.at.overflow_add-place-in-loop-records c).After-word_at-in-loop-records-2, c.loop-records.invariant.1.ends, event-stays (goal.at.overflow_add-place-in-loop-records c).After-word_at, c.events.invariant.1.within)
+    omega (arith, record_stays (goal.at.overflow_add-place-in-loop-records c).After-word_at-in-loop-records-2, c.loop-records.invariant.1.ends, event_stays (goal.at.overflow_add-place-in-loop-records c).After-word_at, c.events.invariant.1.within)
 
 pub loop-records-smaller : goal.loop-records-smaller
-loop-records-smaller c = omega (arith, record-stays (goal.at.loop-records-smaller c).After-word_at-in-loop-records-2)
+loop-records-smaller c = omega (arith, record_stays (goal.at.loop-records-smaller c).After-word_at-in-loop-records-2)
 
 pub loop-records-preserved : goal.loop-records-preserved
 loop-records-preserved c =
@@ -84,16 +84,16 @@ loop-records-preserved c =
     )
 
 pub slice_bounds-rest-count : goal.slice_bounds-rest-count
-slice_bounds-rest-count c = event-stays (goal.at.slice_bounds-rest-count c).After-word_at
+slice_bounds-rest-count c = event_stays (goal.at.slice_bounds-rest-count c).After-word_at
 
 pub slice_bounds-rest-start : goal.slice_bounds-rest-start
-slice_bounds-rest-start c = event-stays (goal.at.slice_bounds-rest-start c).After-word_at
+slice_bounds-rest-start c = event_stays (goal.at.slice_bounds-rest-start c).After-word_at
 
 pub overflow_add-at : goal.overflow_add-at
-overflow_add-at c = omega (arith, event-stays (goal.at.overflow_add-at c).After-word_at, c.events.invariant.1.within)
+overflow_add-at c = omega (arith, event_stays (goal.at.overflow_add-at c).After-word_at, c.events.invariant.1.within)
 
 pub events-smaller : goal.events-smaller
-events-smaller c = omega (arith, event-stays (goal.at.events-smaller c).After-word_at)
+events-smaller c = omega (arith, event_stays (goal.at.events-smaller c).After-word_at)
 
 pub events-preserved : goal.events-preserved
 events-preserved c =

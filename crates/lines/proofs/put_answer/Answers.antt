@@ -19,9 +19,9 @@ first_ends c = (
   c.put_number-behind_number.auto.out,
 )
 
-second-ends : (c : After-put_number-behind_count)
+second_ends : (c : After-put_number-behind_count)
     → (c.put_number-behind_count.result ≤ 32) × (length c.put_number-behind_count.new.out ≡ length c.args.out.now)
-second-ends c =
+second_ends c =
     let first = c.put_number-behind_number in (
       omega (
         arith,
@@ -43,7 +43,7 @@ put_number-behind_count-requires c =
 
 pub put_number-requires : goal.put_number-requires
 put_number-requires c =
-    omega (arith, long_digits c.args.place (omega (arith, c.ranges.place)), c.requires, (second-ends (goal.at.put_number-requires c).After-put_number-behind_count).0, (second-ends (goal.at.put_number-requires c).After-put_number-behind_count).1)
+    omega (arith, long_digits c.args.place (omega (arith, c.ranges.place)), c.requires, (second_ends (goal.at.put_number-requires c).After-put_number-behind_count).0, (second_ends (goal.at.put_number-requires c).After-put_number-behind_count).1)
 
 pub returns : goal.returns
 returns c =
@@ -56,6 +56,6 @@ returns c =
         number-ends c.put_number-behind_count.new.out c.put_number-behind_count.result a.place 10 c.put_number.result c.put_number.new.out
             c.put_number.ensures,
         long_digits a.place (omega (arith, c.ranges.place)),
-        (second-ends (goal.at.returns c).After-put_number-behind_count).0,
+        (second_ends (goal.at.returns c).After-put_number-behind_count).0,
       );
     }

@@ -8,8 +8,8 @@ use borrow.Author.Rules.{rules}
 use Rattle.lines.proofs.put_row.Goals as goal
 use Rattle.lines.proofs.put_row.Goals.{After-put_number-next}
 
-number-ended : (c : After-put_number-next) → (c.put_number-next.result ≤ c.args.at + 21) × (length c.put_number-next.new.out ≡ length c.args.out.now)
-number-ended c =
+number_ended : (c : After-put_number-next) → (c.put_number-next.result ≤ c.args.at + 21) × (length c.put_number-next.new.out ≡ length c.args.out.now)
+number_ended c =
     let a = c.args in (
       omega (
         arith,
@@ -25,12 +25,12 @@ put_number-next-requires c =
 
 pub put_line-requires : goal.put_line-requires
 put_line-requires c =
-    omega (arith, row-part c.args.rows.now c.args.i c.requires.0, (number-ended (goal.at.put_line-requires c).After-put_number-next).0, (number-ended (goal.at.put_line-requires c).After-put_number-next).1, c.requires.1)
+    omega (arith, row-part c.args.rows.now c.args.i c.requires.0, (number_ended (goal.at.put_line-requires c).After-put_number-next).0, (number_ended (goal.at.put_line-requires c).After-put_number-next).1, c.requires.1)
 
 pub returns : goal.returns
 returns c =
     let a = c.args in record {
       put = row_put a.out.now a.at a.rows.now a.i c.put_number-next.result c.put_line.result c.put_number-next.new.out
           c.put_line.new.out c.requires.0 c.put_number-next.ensures c.put_line.ensures.put;
-      upper_bound = omega (arith, row-part a.rows.now a.i c.requires.0, (number-ended (goal.at.returns c).After-put_number-next).0, c.put_line.ensures.upper_bound);
+      upper_bound = omega (arith, row-part a.rows.now a.i c.requires.0, (number_ended (goal.at.returns c).After-put_number-next).0, c.put_line.ensures.upper_bound);
     }

@@ -28,8 +28,8 @@ unfolding history_rule first
 sized c = rw (le-leb _ _ c.if-room-lt16.false, eq-eqb _ _ c.if-room-ne0.false)
 
 -- Where the veto section has passed: it follows its rule.
-veto-passed : (c : Else-veto-ne0) → section_rule ((order_from c.args.big)) false 0 ((c.args.b.now)) ≡ 0
-veto-passed c = sym c.section_rule-veto.ensures ∙ c.if-veto-ne0.false
+veto_passed : (c : Else-veto-ne0) → section_rule ((order_from c.args.big)) false 0 ((c.args.b.now)) ≡ 0
+veto_passed c = sym c.section_rule-veto.ensures ∙ c.if-veto-ne0.false
 
 abbrev asked : (c : Else-trigger-ne0) → Order
 asked c = (order_from c.args.big)
@@ -37,13 +37,13 @@ asked c = (order_from c.args.big)
 abbrev whole : (c : Else-trigger-ne0) → List ℕ
 whole c = (c.args.b.now)
 
-trigger-passed : (c : Else-trigger-ne0) → section_rule (asked c) true c.section_end-middle.result (whole c) ≡ 0
-trigger-passed c = sym c.section_rule-trigger.ensures ∙ c.if-trigger-ne0.false
+trigger_passed : (c : Else-trigger-ne0) → section_rule (asked c) true c.section_end-middle.result (whole c) ≡ 0
+trigger_passed c = sym c.section_rule-trigger.ensures ∙ c.if-trigger-ne0.false
 
-end-asked : (c : Else-trigger-ne0) → history_rule (asked c) (whole c) ≡ first (unless (eqb (length (whole c)) (end_at (asked c) c.section_end-middle.result (whole c))) 6 ∷ [])
+end_asked : (c : Else-trigger-ne0) → history_rule (asked c) (whole c) ≡ first (unless (eqb (length (whole c)) (end_at (asked c) c.section_end-middle.result (whole c))) 6 ∷ [])
 unfolding first history_rule
-end-asked c =
-    rw ((let it : history_rule ((order_from c.args.big)) ((c.args.b.now)) ≡ first (section_rule ((order_from c.args.big)) false 0 ((c.args.b.now)) ∷ section_rule ((order_from c.args.big)) true (end_at ((order_from c.args.big)) 0 ((c.args.b.now))) ((c.args.b.now)) ∷ unless (eqb (length ((c.args.b.now))) (end_at ((order_from c.args.big)) (end_at ((order_from c.args.big)) 0 ((c.args.b.now))) ((c.args.b.now)))) 6 ∷ []) = rw (le-leb _ _ c.if-room-lt16.false, eq-eqb _ _ c.if-room-ne0.false) in it), (let it : section_rule ((order_from c.args.big)) false 0 ((c.args.b.now)) ≡ 0 = sym c.section_rule-veto.ensures ∙ c.if-veto-ne0.false in it), ← c.section_end-middle.ensures, trigger-passed c)
+end_asked c =
+    rw ((let it : history_rule ((order_from c.args.big)) ((c.args.b.now)) ≡ first (section_rule ((order_from c.args.big)) false 0 ((c.args.b.now)) ∷ section_rule ((order_from c.args.big)) true (end_at ((order_from c.args.big)) 0 ((c.args.b.now))) ((c.args.b.now)) ∷ unless (eqb (length ((c.args.b.now))) (end_at ((order_from c.args.big)) (end_at ((order_from c.args.big)) 0 ((c.args.b.now))) ((c.args.b.now)))) 6 ∷ []) = rw (le-leb _ _ c.if-room-lt16.false, eq-eqb _ _ c.if-room-ne0.false) in it), (let it : section_rule ((order_from c.args.big)) false 0 ((c.args.b.now)) ≡ 0 = sym c.section_rule-veto.ensures ∙ c.if-veto-ne0.false in it), ← c.section_end-middle.ensures, trigger_passed c)
 
 pub returns-then-room-lt16 : goal.returns-then-room-lt16
 unfolding history_rule first
@@ -59,20 +59,20 @@ returns-then-veto-ne0 c = rw (sized (goal.at.returns-then-veto-ne0 c).Else-room-
 
 pub section_end-middle-requires : goal.section_end-middle-requires
 section_end-middle-requires c =
-    let e = veto-passed c in
+    let e = veto_passed c in
     (room _ _ 0 _ e, thin _ _ 0 _ e, c.requires)
 
 pub section_rule-trigger-requires : goal.section_rule-trigger-requires
 section_rule-trigger-requires c =
     let short = c.requires in
-    (rw c.section_end-middle.ensures (small _ _ 0 _ (veto-passed (goal.at.section_rule-trigger-requires c).Else-veto-ne0) short), short)
+    (rw c.section_end-middle.ensures (small _ _ 0 _ (veto_passed (goal.at.section_rule-trigger-requires c).Else-veto-ne0) short), short)
 
 pub returns-then-trigger-ne0 : goal.returns-then-trigger-ne0
 unfolding first
 returns-then-trigger-ne0 c =
     rw (
       sized (goal.at.returns-then-trigger-ne0 c).Else-room-ne0,
-      veto-passed (goal.at.returns-then-trigger-ne0 c).Else-veto-ne0,
+      veto_passed (goal.at.returns-then-trigger-ne0 c).Else-veto-ne0,
       ← c.section_end-middle.ensures,
       ← c.section_rule-trigger.ensures,
       positive c.section_rule-trigger.result c.if-trigger-ne0.true,
@@ -80,13 +80,13 @@ returns-then-trigger-ne0 c =
 
 pub section_end-requires : goal.section_end-requires
 section_end-requires c =
-    let e = trigger-passed c in
+    let e = trigger_passed c in
     (room _ _ _ _ e, thin _ _ _ _ e, c.requires)
 
 pub returns-then-room-section_end : goal.returns-then-room-section_end
 unfolding first
-returns-then-room-section_end c = rw (end-asked (goal.at.returns-then-room-section_end c).Else-trigger-ne0, ← c.section_end.ensures, ne_eqb _ _ c.if-room-section_end.true)
+returns-then-room-section_end c = rw (end_asked (goal.at.returns-then-room-section_end c).Else-trigger-ne0, ← c.section_end.ensures, ne_eqb _ _ c.if-room-section_end.true)
 
 pub returns : goal.returns
 unfolding first
-returns c = rw (end-asked (goal.at.returns c).Else-trigger-ne0, ← c.section_end.ensures, eq-eqb _ _ c.if-room-section_end.false)
+returns c = rw (end_asked (goal.at.returns c).Else-trigger-ne0, ← c.section_end.ensures, eq-eqb _ _ c.if-room-section_end.false)

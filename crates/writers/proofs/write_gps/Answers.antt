@@ -16,9 +16,9 @@ use borrow.Author.Rules.{rules}
 use Rattle.writers.proofs.write_gps.Goals as goal
 
 -- A status without a fault is its own lowest four bits.
-status-kept : (f : Gps) → gps_fault f ≡ 0 → f.status % 16 ≡ f.status
+status_kept : (f : Gps) → gps_fault f ≡ 0 → f.status % 16 ≡ f.status
 unfolding gps_fault
-status-kept f fine = omega (arith, leb-true f.status 15 (holds_at _ fine 2 _ 9 refl))
+status_kept f fine = omega (arith, leb-true f.status 15 (holds_at _ fine 2 _ 9 refl))
 
 pub returns : goal.returns
 unfolding structured gps_draft gps_bytes
@@ -27,10 +27,10 @@ returns c =
     let year = c.digits.ensures.0 in
     let day = c.digits-2.ensures.0 in
     let clock : ℕ → ℕ = λ s. s * 268435456 + bcd 2 a.hour * 65536 + bcd 2 a.minute * 256 + bcd 2 a.second in
-    let clock-kept : c.gps_fault-fault.result ≡ 0 → c.gps_clock.result ≡ clock a.status =
-    λ z. c.gps_clock.ensures ∙ ap clock (status-kept _ (sym c.gps_fault-fault.ensures ∙ z)) in
+    let clock_kept : c.gps_fault-fault.result ≡ 0 → c.gps_clock.result ≡ clock a.status =
+    λ z. c.gps_clock.ensures ∙ ap clock (status_kept _ (sym c.gps_fault-fault.ensures ∙ z)) in
     bytes_unasked _ c.gps_fault-fault.ensures
     (λ z.
-    (λ i. structured (order_from a.big) 0x60 ((year i * 65536 + day i) ∷ clock-kept z i ∷ c.digits-3.ensures.0 i ∷ []) [])
+    (λ i. structured (order_from a.big) 0x60 ((year i * 65536 + day i) ∷ clock_kept z i ∷ c.digits-3.ensures.0 i ∷ []) [])
     ∙ structured_bare _ _ _)
     c.write_structure.ensures
