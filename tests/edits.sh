@@ -4,6 +4,7 @@
 # body of the first of these. A goal bears the text of the test before it: where an edit changes a test, 'named: OLD NEW' turns that part of the names
 # in the proof files of these functions, so that their answers are read and what fails is a fact.
 . build/jobs.sh
+. build/crates.sh
 room=$(mktemp -d) || exit 1
 trap 'rm -rf "$room"' EXIT
 
@@ -86,31 +87,6 @@ turned() { # EDIT AT CRATE
     esac
   done <"$1"
   [ $n -gt 0 ] || { echo "$1: no edit"; return 1; }
-}
-
-# The names of crates.txt, in its order: no crate is before one that it uses.
-crates() { sed -n 's/^\([a-z_0-9]*\)[^:#]*:.*/\1/p' crates.txt; }
-
-# What CRATE uses, itself and by way of others, in that order; CRATE last.
-below() { # CRATE
-  awk -v crate="$1" '
-    { sub(/#.*/, "") }
-    /:/ { name = $1; sub(/:.*/, "", name); uses = $0; sub(/^[^:]*:/, "", uses); line[++n] = name; of[name] = uses; wanted[name] = name == crate }
-    END {
-      for (i = n; i; i--) if (wanted[line[i]]) { m = split(of[line[i]], use); for (j = 1; j <= m; j++) wanted[use[j]] = 1 }
-      for (i = 1; i <= n; i++) if (wanted[line[i]]) print line[i]
-    }' crates.txt
-}
-
-# Proves CRATES and what they stand on, where that isn't done (CHECKED: it is): a copy begins with what is kept of it in their folders out/.
-prepared() { # CRATE..
-  local crate wanted
-  [ -z "${CHECKED:-}" ] || return 0
-  wanted=$(for crate in "$@"; do below "$crate"; done | sort -u)
-  checked() { (cd "crates/$1" && rt check --jobs 1) >"$room/said-$1" 2>&1 || { grep -v '^statements ' "$room/said-$1" | tail -n 20; return 1; }; }
-  for crate in $(crates | grep -xF "$wanted"); do started checked "$crate"; done
-  ended
-  [ $state = 0 ]
 }
 
 # FOLDER as it stands, at TO: by links, where these can be made. What rt keeps is never written into but replaced, except what isn't .oantt of
