@@ -36,8 +36,8 @@ named() { # AT CRATE 'OLD NEW' FUNCTION..
   shift 3
   for file in $(for function in "$@"; do ls "${crate}proofs/$function"/*.antt "${crate}proofs"/*/"$function"/*.antt 2>/dev/null; done); do
     [ -f "$at/$file" ] || { mkdir -p "$at/$(dirname "$file")" && cp "$file" "$at/$file"; } || return 1
-    grep -qE -e "-$old([^A-Za-z0-9_-]|\$)" "$at/$file" || continue
-    sed -E "s/-$old([^A-Za-z0-9_-]|\$)/-$new\1/g" "$at/$file" >"$at/edited" && mv "$at/edited" "$at/$file" && count=$((count + 1))
+    grep -qE -e "-$old([^A-Za-z0-9_]|\$)" "$at/$file" || continue
+    sed -E "s/-$old([^A-Za-z0-9_]|\$)/-$new\1/g" "$at/$file" >"$at/edited" && mv "$at/edited" "$at/$file" && count=$((count + 1))
   done
   [ $count -gt 0 ]
 }
