@@ -1,8 +1,7 @@
 # What tests/wrong, tests/enemies and tests/refused share, and read in: edits, put into a copy of the repository, and one check of it.
 # In an edit '#' says what is wrong; 'file:' names a file, 'old:' a line of it, which stands there once, 'new:' the line in its place (both whatever
 # their indentation); 'function:' names the functions whose proofs must refuse it. A line that stands several times in its file is looked for in the
-# body of the first of these. A goal bears the text of the test before it: where an edit changes a test, 'named: OLD NEW' turns that part of the names
-# in the proof files of these functions, so that their answers are read and what fails is a fact.
+# body of the first of these.
 . build/jobs.sh
 . build/crates.sh
 room=$(mktemp -d) || exit 1
@@ -30,18 +29,6 @@ replaced() { # FILE OLD NEW [FUNCTION]
     }' "$1"
 }
 
-# OLD turned into NEW in the names of the proof files of FUNCTIONS.
-named() { # AT CRATE 'OLD NEW' FUNCTION..
-  local at=$1 crate=crates/$2 old=${3% *} new=${3#* } file count=0
-  shift 3
-  for file in $(for function in "$@"; do ls "${crate}proofs/$function"/*.antt "${crate}proofs"/*/"$function"/*.antt 2>/dev/null; done); do
-    [ -f "$at/$file" ] || { mkdir -p "$at/$(dirname "$file")" && cp "$file" "$at/$file"; } || return 1
-    grep -qE -e "-$old([^A-Za-z0-9_]|\$)" "$at/$file" || continue
-    sed -E "s/-$old([^A-Za-z0-9_]|\$)/-$new\1/g" "$at/$file" >"$at/edited" && mv "$at/edited" "$at/$file" && count=$((count + 1))
-  done
-  [ $count -gt 0 ]
-}
-
 # Puts an edit into the copy at AT. Its files are CRATE's, or named with their crate.
 applied() { # EDIT AT [CRATE]
   local edit=$1 at=$2 crate=${3:+$3/} function line file='' old='' new='' result=0
@@ -57,7 +44,6 @@ applied() { # EDIT AT [CRATE]
         new=${line#new: }
         if replaced "$at/$file" "$old" "$new" "${function%% *}" > "$at/edited"; then mv "$at/edited" "$at/$file"
         else echo "$edit: '$old' does not stand once in $file"; result=1; fi ;;
-      'named: '*) named "$at" "$crate" "${line#named: }" $function || { echo "$edit: '${line#named: }': no such name in the proof files of $function"; result=1; } ;;
     esac
   done < "$edit"
   [ -n "$new" ] || { echo "$edit: no edit"; result=1; }
