@@ -17,7 +17,7 @@ NATIVE := target/native
 STATIC := $(NATIVE)/libdwejrasq.a
 SHARED := $(NATIVE)/libdwejrasq.so.$(VERSION)
 # What the library is made of: where none of it has changed, nothing is proved again.
-SOURCES := crates.txt $(shell find crates -type f \( -name '*.rt' -o -name '*.antt' \))
+SOURCES := crates.txt $(shell find crates -name out -prune -o -type f \( -name '*.rt' -o -name '*.antt' \) -print)
 MODULE := $(wildcard python/dwejrasq/*.py) $(wildcard python/dwejrasq/*.html) python/dwejrasq/py.typed
 # What the command and the module need when they run.
 NEEDS := $(shell cat build/users)

@@ -1,8 +1,9 @@
-# What tests/wrong and tests/enemies share, and read in: edits, put into a copy of the repository, and one check of it.
+# What tests/wrong, tests/enemies and tests/refused share, and read in: edits, put into a copy of the repository, and one check of it.
 # In an edit '#' says what is wrong; 'file:' names a file, 'old:' a line of it, which stands there once, 'new:' the line in its place (both whatever
 # their indentation); 'function:' names the functions whose proofs must refuse it. A line that stands several times in its file is looked for in the
 # body of the first of these.
 . build/jobs.sh
+. build/crates.sh
 room=$(mktemp -d) || exit 1
 trap 'rm -rf "$room"' EXIT
 
@@ -49,33 +50,54 @@ applied() { # EDIT AT [CRATE]
   return $result
 }
 
-# Proves what CRATES stand on, where that isn't done.
-prepared() { # CRATE..
-  local crate below
-  below=$(for crate in "$@"; do sed -n "s/^$crate: *//p" crates.txt; done | tr ' ' '\n' | sort -u | grep -vx -e io -e libc)
-  # shellcheck disable=SC2086
-  [ -z "$below" ] || rt check $below > "$room/said" 2>&1 || { tail -n 20 "$room/said"; return 1; }
-  # The name of the folder in which this prover keeps what it has checked: an empty crate shows it.
-  mkdir -p "$room/empty/crates/empty/src" && echo 'empty:' > "$room/empty/crates.txt" && echo '// Empty.' > "$room/empty/crates/empty/src/lib.rt"
-  (cd "$room/empty" && rt dev empty > /dev/null 2>&1)
-  kept=$(ls "$room/empty/target/inc/empty")
+# Puts a must-fail edit of CRATE into the copy at AT, as rt does: each old text stands once in its file, as a part of a line.
+turned() { # EDIT AT CRATE
+  local line file='' old='' new='' n=0
+  while IFS= read -r line; do
+    case $line in
+      'file: '*)
+        file=crates/$3/${line#file: }
+        [ -f "$2/$file" ] || { mkdir -p "$2/$(dirname "$file")" && cp "$file" "$2/$file"; } || { echo "$1: no file $file"; return 1; } ;;
+      'old: '*) old=${line#old: } ;;
+      'new:'*)
+        new=${line#new:}
+        OLD=$old NEW=${new# } awk '
+          {
+            text = $0
+            while (at = index(text, ENVIRON["OLD"])) { n++; printf "%s%s", substr(text, 1, at - 1), ENVIRON["NEW"]; text = substr(text, at + length(ENVIRON["OLD"])) }
+            print text
+          }
+          END { exit n != 1 }' "$2/$file" >"$2/edited" || { echo "$1: '$old' does not stand once in $file"; return 1; }
+        mv "$2/edited" "$2/$file"
+        n=$((n + 1)) ;;
+    esac
+  done <"$1"
+  [ $n -gt 0 ] || { echo "$1: no edit"; return 1; }
 }
 
-# A copy of the repository at AT, to check CRATE in. What stands before FIRST in crates.txt is this repository's own, code and proofs, and isn't
-# to be edited; the rest, up to CRATE, has no proof. What was proved of CRATE lies where `rt dev` keeps it: what no edit reaches isn't checked again.
+# FOLDER as it stands, at TO: by links, where these can be made. What rt keeps is never written into but replaced, except what isn't .oantt of
+# out/incremental: that is copied.
+linked() { # FOLDER TO
+  cp -al "$1" "$2" 2>/dev/null || { rm -rf "$2" && cp -r "$1" "$2"; return; }
+  case $2 in
+    */incremental) find "$2" -type f ! -name '*.oantt' -exec sh -c 'for file; do cp -p "$file" "$file.copy" && mv "$file.copy" "$file" || exit 1; done' _ {} + ;;
+  esac
+}
+
+# A copy at AT of CRATE and of what it uses, to check CRATE in. What stands before FIRST in crates.txt comes with its proof and isn't to be edited;
+# of the rest the check begins with what was proved of it here, so that what no edit reaches isn't checked again.
 copied() { # AT FIRST CRATE
-  local at=$1 first=$2 crate=$3 c own='' known
-  mkdir -p "$at/crates" "$at/target/rlib" "$at/target/stamp" "$at/target/inc/$crate" && cp crates.txt "$at"/ || return 1
-  for c in $(sed -n 's/^\([a-z]*\):.*/\1/p' crates.txt); do
+  local at=$1 first=$2 crate=$3 c own='' part needed
+  needed=$(below "$crate")
+  mkdir -p "$at/crates" && sed 's/#.*//' crates.txt | grep -E "^($(tr '\n' '|' <<<"$needed" | sed 's/|*$//'))( [a-z]+)*:" >"$at/crates.txt" || return 1
+  for c in $(crates); do
     [ "$c" != "$first" ] || own=1
-    if [ -n "$own" ]; then
-      cp -r "crates/$c" "$at/crates/" || return 1
-    elif [ -d "target/rlib/$c.rlib" ]; then
-      ln -s "$PWD/crates/$c" "$at/crates/" && ln -s "$PWD/target/rlib/$c.rlib" "$at/target/rlib/" || return 1
-      cp "target/stamp/$c" "$at/target/stamp/" || return 1
-    fi
-    [ "$c" != "$crate" ] || break
+    grep -qxF "$c" <<<"$needed" || continue
+    mkdir -p "$at/crates/$c/out" || return 1
+    for part in src specs proofs; do [ ! -d "crates/$c/$part" ] || cp -r "crates/$c/$part" "$at/crates/$c/" || return 1; done
+    for part in rlib incremental; do
+      if [ "$part" = rlib ] && [ -n "$own" ] || [ "$part" = incremental ] && [ -z "$own" ]; then continue; fi
+      [ ! -d "crates/$c/out/$part" ] || linked "crates/$c/out/$part" "$at/crates/$c/out/$part" || return 1
+    done
   done
-  known=target/rlib/$crate.rlib/toolchain/checked
-  if [ -n "$kept" ] && [ -d "$known" ]; then cp -r "$known" "$at/target/inc/$crate/$kept"; fi
 }

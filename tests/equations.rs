@@ -9,18 +9,17 @@ const NAMES_IN_A_CASE: usize = 50;
 
 const HEADER: &str = "\
 -- Generated: what the outside implementation answers, as equations.
-use Prim.Native.Nat.{ℕ}
-use mathlib.Core.Path.{_≡_, refl}
-use mathlib.Core.List.{List, [], _∷_, _++_}
-use lib.IntN.{pos, negsuc}
-use lib.Ieee.{binary64, div, ofInt, ofBits}
-use Rattle·theory.specs.declared.Order.the-variants.{Little}
-use Rattle·note.specs.Words.{words}
-use Rattle·note.specs.Answers.{Given, whole, float, accepted, refused}
-use Rattle·note.specs.Channels.{ascii, nameOf, channel_answer, code_answer}
-use Rattle·note.specs.Listing.{listing}
-use Rattle·note.specs.Calls.{record_at, setting_at, sample_at, find_at}
-use Rattle·note.proofs.Computing.{computing}
+use Rattle.std.specs.Prelude.{ℕ, ◌≡◌, List, [], ◌∷◌, ◌++◌, pos, negsuc}
+use Rattle.std.specs.Float.{binary64}
+use Rattle.std.specs.Float.Ieee.{div, of_int, of_bits}
+use mathlib.Core.Path.{refl}
+use Rattle.theory.specs.declared.Order.TheVariants.{Little}
+use Rattle.note.specs.Words.{words}
+use Rattle.note.specs.Answers.{Given, whole, float, accepted, refused}
+use Rattle.note.specs.Channels.{ascii, name_of, channel_answer, code_answer}
+use Rattle.note.specs.Listing.{listing}
+use Rattle.note.specs.Calls.{record_at, setting_at, sample_at, find_at}
+use Rattle.note.proofs.Computing.{computing}
 ";
 
 /// One file with its answers, as they were printed.
@@ -78,7 +77,7 @@ fn refused(number: &str, place: &str) -> String {
 
 /// The answer for a code: 0 with the names, or the refusal's number with nothing.
 fn channel(number: &str, kind: &str, detector: &str, analysis: &str, cold: &str) -> String {
-    let name = |n: &str| format!("nameOf (ascii \"{}\")", n);
+    let name = |n: &str| format!("name_of (ascii \"{}\")", n);
     format!(
         "record {{ number = {}; place = 0; «detector_type» = {}; detector = {}; analysis = {}; cold = {} }}",
         number,
@@ -113,7 +112,7 @@ fn equation(line: &[String], name: &str) -> String {
             let fields: Vec<String> = line[3..]
                 .iter()
                 .enumerate()
-                .map(|(i, f)| if is_float(&line[3], i) { format!("float (ofBits binary64 {})", f) } else { value(f) })
+                .map(|(i, f)| if is_float(&line[3], i) { format!("float (of_bits binary64 {})", f) } else { value(f) })
                 .collect();
             format!("(setting_at Little {} {} ≡ {})", name, line[1], accepted(&fields))
         }
@@ -147,7 +146,7 @@ fn declaration(number: usize, case: &Case) -> String {
     let proofs = vec!["refl"; equations.len()].join(", ");
     let proof = if equations.len() == 1 { proofs } else { format!("({})", proofs) };
     format!(
-        "\n-- {}\nabbrev {} : List ℕ\n{} = {}\n\nsame{} : {}\nunfolding computing div ofInt ofBits\nsame{} = {}\n",
+        "\n-- {}\nabbrev {} : List ℕ\n{} = {}\n\nsame{} : {}\nunfolding computing div of_int of_bits\nsame{} = {}\n",
         case.name,
         name,
         name,

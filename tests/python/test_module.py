@@ -92,12 +92,14 @@ def listed(tmp_path_factory: pytest.TempPathFactory) -> Callable[[bytes], tuple[
     found = shutil.which("rt")
     if found is None:
         pytest.skip("the toolchain isn't on this machine")
-    kit = Path(os.environ.get("RATTLE_HOME", Path(found).resolve().parents[1])) / "on" / os.uname().machine / "toolchain"
+    kit = Path(os.environ.get("RATTLE_HOME", Path(found).resolve().parents[1])) / "toolchain"
     program = tmp_path_factory.mktemp("listing") / "program"
-    shutil.copy(TREE / "target/bin/listing", program)
-    command = [str(kit / "lib/ld-linux-x86-64.so.2"), "--library-path", str(kit / "lib"), str(program)]
+    # ./list has rt prove and build it, where that isn't done.
+    subprocess.run([TREE / "list", TREE / "examples/p14.raw"], capture_output=True, check=True)
+    shutil.copy(TREE / "crates/listing/out/listing", program)
+    command = [str(program)]
     if (kit / "bin/qemu-x86_64").exists():
-        command.insert(0, str(kit / "bin/qemu-x86_64"))
+        command = [str(kit / "bin/qemu-x86_64"), str(kit / "lib/ld-linux-x86-64.so.2"), "--library-path", str(kit / "lib"), str(program)]
 
     def ask(data: bytes) -> tuple[int, int, int, Rows]:
         said = subprocess.run(command, input=data, capture_output=True, check=True, timeout=60).stdout
