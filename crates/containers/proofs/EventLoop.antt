@@ -56,7 +56,8 @@ event-shows o at rest e h r =
       read = r;
       kind-is = shown.kind-is;
       size =
-          length-is o too_short short-some (stateless event_word_rule) (stateless event_late) (inside (λ s. event unseen) (records o)) tt at rest e h r;
+          length-is o too_short short-some (stateless event_word_rule) (stateless event_late)
+          (inside (λ s. event unseen) (records o)) tt at rest e h r;
       fits = shown.fits;
       contents =
           ap (read_records o (event unseen) (at + 8)) (cut (word o 4 rest) rest)

@@ -28,7 +28,8 @@ use Rattle.containers.proofs.EventLoop.{holding_good, holding_bad, few}
 -- Events have no more rows than bytes.
 pub few_rows_lem : (o : Order) (es : List Container) → rows_of_events es ≤ length (events_bytes o es)
 few_rows_lem o [] = omega arith
-few_rows_lem o (e ∷ es) = omega (arith, length-append (container_bytes o e) (events_bytes o es), container_size_lem o e, few o e.body, few_rows_lem o es)
+few_rows_lem o (e ∷ es) =
+    omega (arith, length-append (container_bytes o e) (events_bytes o es), container_size_lem o e, few o e.body, few_rows_lem o es)
 
 -- Over the limit; and within it what the parts give.
 pub over : (bs : List ℕ) → file_limit < length bs → Count.Bad 1 0 ≡ file_rows (read_file bs)

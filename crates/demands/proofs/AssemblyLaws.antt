@@ -164,7 +164,8 @@ pub record Stood (o : Order) (head : ℕ → ℕ) (late : ℕ → ℕ → ℕ) (
 module _ (o : Order) (head : ℕ → ℕ) (late : ℕ → ℕ → ℕ) (c : Context) (word : ℕ)
     (closed : List ℕ → ℕ → ℕ → Res ℕ) (output : List ℕ → ℕ → ℕ → List ℕ)
     (checked : (out : List ℕ) (place end next : ℕ) → closed out place end ≡ ok next → Checked o head late c out place end next word)
-    (is : (old : List ℕ) (place end : ℕ) → output old place end ≡ output_after (closed old place end) old place (closing_bytes o word place end)) where
+    (is : (old : List ℕ) (place end : ℕ)
+    → output old place end ≡ output_after (closed old place end) old place (closing_bytes o word place end)) where
   -- A closing over pieces that were laid behind eight free bytes.
   closed-stands : (b filled : Built) (ps : List Piece) (next : ℕ) → AllFitting ps → Lays (contents_from b) filled (pieces_bytes o ps)
       → closed filled.out b.next filled.next ≡ ok next

@@ -33,7 +33,17 @@ use Rattle.demands.proofs.Follows.{file_sound}
 use Rattle.demands.proofs.FaultLaws.{length_front}
 use Rattle.demands.proofs.OutputLaws.{structure_apart}
 use Rattle.demands.proofs.RowLaws.{record_size_lem, children_total, container_size_lem, child_kind}
-use Rattle.demands.proofs.RowLaws.{configuration_row, event_row, next_row, next_place, record_rows, event_rows, header_node, nodes_before, rows_behind}
+use Rattle.demands.proofs.RowLaws.{
+  configuration_row,
+  event_row,
+  next_row,
+  next_place,
+  record_rows,
+  event_rows,
+  header_node,
+  nodes_before,
+  rows_behind,
+}
 use Rattle.demands.proofs.RecordLaws.{found_from, reads_record, reads_none, reads_container, event_mark_lem, no_kind, no_configuration, no_header}
 use Rattle.demands.proofs.PieceLaws.{shown}
 
@@ -110,7 +120,11 @@ module _ (o : Order) (bs : List ℕ) (limit : length bs ≤ file_limit) (all : L
       let later : List ℕ = records_bytes o rs ++ rest in
       let shape : bs ≡ before ++ (record_bytes o r ++ later) =
       e ∙ ap (λ (x : List ℕ). before ++ x) (append_assoc (record_bytes o r) (records_bytes o rs) rest) in
-      let size : at + record_size r ≡ length (before ++ record_bytes o r) = omega (arith, length-append before (record_bytes o r), record_size_lem o r) in
+      let size : at + record_size r ≡ length (before ++ record_bytes o r) = omega (
+        arith,
+        length-append before (record_bytes o r),
+        record_size_lem o r,
+      ) in
       let found : record_found o bs at ≡ ok r =
       subst (λ (m : ℕ). record_found o bs m ≡ ok r) (sym ea)
       (found_from o bs before (record_bytes o r ++ later) (ok r) limit shape (reads_record o c r (length before) later v.0)) in

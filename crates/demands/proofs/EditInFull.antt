@@ -26,7 +26,17 @@ use Rattle.demands.proofs.RowLaws.{byte_has_one_row}
 use Rattle.demands.proofs.PartLaws.{samples_stay, lists_stay, trace_lists}
 use Rattle.demands.proofs.SpotLaws.{place_of, traces_found}
 use Rattle.demands.proofs.EditLaws.{Edit, old, new, i, at, read-old, read-new, edited-rows, trace-old, other_row}
-use Rattle.demands.proofs.EditLaws.{same-fields, same_setting, other_sample, held-before, held_after, held-differs, part-before, part_after, bytes_after}
+use Rattle.demands.proofs.EditLaws.{
+  same-fields,
+  same_setting,
+  other_sample,
+  held-before,
+  held_after,
+  held-differs,
+  part-before,
+  part_after,
+  bytes_after,
+}
 
 module _ {o : Order} {bs : List ℕ} {v : ℕ} {c : Container} {p : Spot} {t : Record} {j m x : ℕ}
     (d : Edit bs (o, (v, (c, plug p t))) p t j m x) where
@@ -56,7 +66,8 @@ module _ {o : Order} {bs : List ℕ} {v : ℕ} {c : Container} {p : Spot} {t : R
             subst (λ (z : ℕ). sample_at o bs start (byte_at o z / 2 + 1) ≡ accepted (counts (two z ∷ []))) (sym same-offset)
             (held-before d j d.below refl);
         becomes =
-            subst (λ (z : ℕ). sample_at o bs' start (byte_at o z / 2 + 1) ≡ accepted (counts (replaced (byte_at o z) x (two z) ∷ []))) (sym same-offset)
+            subst (λ (z : ℕ). sample_at o bs' start (byte_at o z / 2 + 1) ≡ accepted (counts (replaced (byte_at o z) x (two z) ∷ [])))
+            (sym same-offset)
             (held_after d j d.below refl);
         differs = λ differs.
             subst (λ (z : ℕ). replaced (byte_at o z) x (two z) ≢ two z) (sym same-offset)

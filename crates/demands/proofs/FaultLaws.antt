@@ -17,12 +17,34 @@ use Rattle.theory.specs.Tests.{Res, ok, bad, need, bind, unless}
 use Rattle.theory.proofs.WordLaws.{Bytes-part, Bytes-right, length-put, word_fits}
 use Rattle.theory.proofs.TestLaws.{ok-bad, bad_inj, need_pass, equal_passed, most_passes, first-at}
 use Rattle.theory.proofs.Items.{steps, seq_refused, seq_refuses}
-use Rattle.theory.proofs.StructureLaws.{stateless, BodyFault, refused, structure-past, restore_two, inside, pair, pair-refused, pair-refuses, words-refused}
+use Rattle.theory.proofs.StructureLaws.{
+  stateless,
+  BodyFault,
+  refused,
+  structure-past,
+  restore_two,
+  inside,
+  pair,
+  pair-refused,
+  pair-refuses,
+  words-refused,
+}
 use Rattle.note.specs.Limits.{file_limit}
 use Rattle.note.specs.Words.{words}
 use Rattle.note.specs.Records.{Record, Context, entry, event, unseen, record_head, record_late, record_rule, next_context, records_bytes, read_record}
 use Rattle.note.specs.Events.{Container, container_bytes, events_bytes, event_mark, event_word_rule, event_late}
-use Rattle.note.specs.Files.{Parts, File, order_of, order_in, configuration_word, configuration_rule, configuration_late, header_bytes, file_mark, version_rule}
+use Rattle.note.specs.Files.{
+  Parts,
+  File,
+  order_of,
+  order_in,
+  configuration_word,
+  configuration_rule,
+  configuration_late,
+  header_bytes,
+  file_mark,
+  version_rule,
+}
 use Rattle.note.specs.Files.{version_of, configuration_of, events_of, file_bytes, read_header, read_parts, read_file}
 use Rattle.demands.specs.Valid.{ValidRecords, Valid}
 use Rattle.demands.specs.FirstFault.{Cut, ValidHeader, front, past, Itself}
@@ -244,7 +266,8 @@ module _ (bs : List ℕ) (c p : ℕ) where
       (within-cut (order_of bs) configuration_rule configuration_late entry bs (header_bytes (order_of bs) v) c p rest is w))
       w.fault
 
-  event-fault : (f : File) (rest : List ℕ) → Valid f → 1 ≤ length rest → bs ≡ file_bytes f ++ rest → InEvent (order_in f) f rest c p → FirstFault bs c p
+  event-fault : (f : File) (rest : List ℕ) → Valid f → 1 ≤ length rest → bs ≡ file_bytes f ++ rest → InEvent (order_in f) f rest c p
+      → FirstFault bs c p
   event-fault f rest v left is (inl (here, own)) =
       at-event f rest v (omega arith)
       (record { splits = is ∙ ap (λ (r : List ℕ). file_bytes f ++ r) (sym (append-nil rest)); place = here })
@@ -255,7 +278,8 @@ module _ (bs : List ℕ) (c p : ℕ) where
       w.fault
 
   -- Each refuses the file.
-  configuration-refuses : (v : ℕ) (rest : List ℕ) → ValidHeader v → bs ≡ header_bytes (order_of bs) v ++ rest → InConfiguration (order_of bs) v rest c p
+  configuration-refuses : (v : ℕ) (rest : List ℕ) → ValidHeader v → bs ≡ header_bytes (order_of bs) v ++ rest
+      → InConfiguration (order_of bs) v rest c p
       → (parts (order_of bs)).read tt 0 bs ≡ bad c p
   configuration-refuses v rest hv is e =
       let refuses : (configuration_item (order_of bs)).read tt 8 rest ≡ bad c p =

@@ -121,7 +121,8 @@ module _ (o : Order) (head : ℕ → ℕ) (late : ℕ → ℕ → ℕ) (c : Cont
   unfolding container_assembled
   container_granted b ps h f v r =
       let rs : List Record = map (record_of o) ps in
-      let size : length (container_bytes o (container_of o word ps)) ≡ 8 + length (records_bytes o rs) = container_size_lem o (container_of o word ps) in
+      let size : length (container_bytes o (container_of o word ps)) ≡ 8 + length (records_bytes o rs) = container_size_lem o
+      (container_of o word ps) in
       let (filled, e) = records-granted o (contents_from b) ps h f (record { limit = r.limit; room = omega (arith, r.room) }) in
       let old : List ℕ = filled.out in
       let place : ℕ = b.next in
@@ -158,7 +159,8 @@ event-granted o b e h f v r =
     container_granted o event_word_rule event_late (event unseen) (event_word e.class e.category e.type) _ _
     (λ out place end. event_grants o out place end e.class e.category e.type f.word) b e.records h f.records v r
 
-events-granted : (o : Order) (b : Built) (es : List EventPieces) → EventsFitting es → EventsFaultless o es → Oks (event_item o) tt (map (event_of o) es)
+events-granted : (o : Order) (b : Built) (es : List EventPieces) → EventsFitting es → EventsFaultless o es
+    → Oks (event_item o) tt (map (event_of o) es)
     → Room b (event_pieces_bytes o es) → Answers (events_assembled o b es)
 unfolding events_assembled
 events-granted o b [] h f v r = (b, refl)

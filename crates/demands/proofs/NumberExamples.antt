@@ -76,7 +76,8 @@ pub file_numbers_given :
     × (map read_file (words Little (0x01020304 ∷ 0x01000200 ∷ []) ∷ words Little (0x01020304 ∷ 0x01000200 ∷ 0 ∷ 0 ∷ []) ∷ [])
     ≡ at 8 configuration_numbers)
     × (map (λ bs. number (read_file bs)) (
-    file_with (0 ∷ []) ∷ file_with (0 ∷ 0 ∷ []) ∷ configured 8 (0x00010001 ∷ 0 ∷ []) ∷ file_with (0xA9801000 ∷ 0 ∷ []) ∷ file_with (0xA9800007 ∷ 0 ∷ []) ∷
+    file_with (0 ∷ []) ∷ file_with (0 ∷ 0 ∷ []) ∷ configured 8 (0x00010001 ∷ 0 ∷ []) ∷ file_with (0xA9801000 ∷ 0 ∷ [])
+    ∷ file_with (0xA9800007 ∷ 0 ∷ []) ∷
     file_with (0xA9800000 ∷ 0 ∷ []) ∷ configured 40 unnamed ∷ file_with (0xA9800000 ∷ 88 ∷ (dated ++ unsampled)) ∷ []) ≡ rest_numbers)
 unfolding computing
 file_numbers_given = (refl, refl, refl)

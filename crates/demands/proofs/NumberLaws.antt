@@ -235,7 +235,8 @@ module _ (o : Order) (out : List ℕ) (place end : ℕ) where
       let P : ℕ → ℕ → Type 0 = ContainerNumbers place own (record_numbers context) in
       let r : Res (List Record) = read_records o context (place + 8) (contents_of out place end) in
       bind_gives P r (λ rs. ok end)
-      (gives_wider (From (place + 8) (record_numbers context)) P r (λ c p h. inside h) (records_give o context (place + 8) (contents_of out place end)))
+      (gives_wider (From (place + 8) (record_numbers context)) P r (λ c p h. inside h)
+      (records_give o context (place + 8) (contents_of out place end)))
       (λ rs. tt)
 
   pub configuration_closing_numbers_lem : (c p : ℕ) → configuration_closed o out place end ≡ bad c p

@@ -143,7 +143,8 @@ container_gives o head late c own two heads lates at bs =
     let P : ℕ → ℕ → Type 0 = ContainerNumbers at own (record_numbers c) in
     structure_gives o (stateless head) (stateless late) (λ s at bs. read_records o c (at + 8) bs) P own two tt heads lates at bs
     (λ n h. itself (h, refl))
-    (λ w part h. gives_wider (From (at + 8) (record_numbers c)) P (read_records o c (at + 8) part) (λ n p e. inside e) (records_give o c (at + 8) part))
+    (λ w part h. gives_wider (From (at + 8) (record_numbers c)) P (read_records o c (at + 8) part) (λ n p e. inside e)
+    (records_give o c (at + 8) part))
 
 configuration_gives : (o : Order) (at : ℕ) (bs : List ℕ)
     → Gives (ContainerNumbers at configuration_numbers (record_numbers entry)) (read_configuration o at bs)

@@ -51,7 +51,8 @@ pub file-length : (f : File) → length (file_bytes f)
 file-length f =
     omega (
       arith,
-      length-append (header_bytes (order_in f) (version_of f)) (container_bytes (order_in f) (configuration_of f) ++ events_bytes (order_in f) (events_of f)),
+      length-append (header_bytes (order_in f) (version_of f))
+          (container_bytes (order_in f) (configuration_of f) ++ events_bytes (order_in f) (events_of f)),
       length-append (container_bytes (order_in f) (configuration_of f)) (events_bytes (order_in f) (events_of f)),
       (header_item (order_in f)).sizes (version_of f),
       container_size_lem (order_in f) (configuration_of f),

@@ -159,13 +159,15 @@ piece_writes o (history f) h =
     (Bytes-append (section_bytes o f.veto) _ (section_bytes_lem o f.veto h.0) (section_bytes_lem o f.trigger h.1))
     (λ e. (history_read_back o f e).0)
 piece_writes o (gps f) h = writes o gps_kind (gps_bytes o f) _ refl refl (omega arith) (Bytes-puts o 4 _) (λ e. (gps_read_back o f e).0)
-piece_writes o (trigger f) h = writes o trigger_kind (trigger_bytes o f) _ refl refl (omega arith) (Bytes-puts o 4 _) (λ e. (trigger_read_back o f h).0)
+piece_writes o (trigger f) h =
+    writes o trigger_kind (trigger_bytes o f) _ refl refl (omega arith) (Bytes-puts o 4 _) (λ e. (trigger_read_back o f h).0)
 piece_writes o (tlb f) h = writes o tlb_kind (tlb_bytes o f) _ refl refl (omega arith) (Bytes-puts o 4 _) (λ e. (tlb_read_back o f h e).0)
 
 -- ---- their fields
 
 -- A section's part of the answer, from the section that stands at p of the body.
-section_answer_lem : (o : Order) (from p : ℕ) (b : List ℕ) (s : Section) → section_of o p b ≡ s → section_values o from p b ≡ section_answer (from + p) s
+section_answer_lem : (o : Order) (from p : ℕ) (b : List ℕ) (s : Section) → section_of o p b ≡ s
+    → section_values o from p b ≡ section_answer (from + p) s
 unfolding section_values section_of width_at
 section_answer_lem o from p b s e =
     let counted : word o p b ≡ s.count = ap (λ (x : Section). x.count) e in
@@ -206,7 +208,8 @@ module _ (o : Order) (place : ℕ) (f : History) (e : history_fault f ≡ 0) whe
       (section_answer_lem o (place + 8) (trigger_at o b) b f.trigger trigger-is ∙ ap (λ (n : ℕ). section_answer n f.trigger) trigger-place)
 
 -- The fields of the body of fields are the fields.
-fields_are : (o : Order) (place : ℕ) (p : Piece) → PieceFits p → (draft_of o p).fault ≡ 0 → record_given o place (ok (record_of o p)) ≡ answer_of place p
+fields_are : (o : Order) (place : ℕ) (p : Piece) → PieceFits p → (draft_of o p).fault ≡ 0
+    → record_given o place (ok (record_of o p)) ≡ answer_of place p
 unfolding draft_of record_of PieceFits answer_of kind_of
     phonon_draft charge_draft administrative_draft trace_draft history_draft gps_draft trigger_draft tlb_draft
 fields_are o place (phonon f) h e = ap (λ (g : Phonon). answer_of place (phonon g)) (phonon_read_back o f h e).1

@@ -252,7 +252,8 @@ module _ {o : Order} {number code : ℕ} {answer : List ℕ} {at : ℕ} {bs : Li
         let size : container_size o front-event.item ≡ n = ap (λ (x : ℕ). 8 + x) shown_event.size in
         ap₂ (λ (w : ℕ) (r : Res (List Container)). first_match number code (traces_in o w (at + 8) rs ++ traces_read o (at + n) r))
         (sym number_is) behind-event
-        ∙ ap (λ (x : ℕ). first_match number code (traces_in o (event_number o rs) (at + 8) rs ++ traces_from o (at + x) front-event.others)) (sym size)
+        ∙ ap (λ (x : ℕ). first_match number code (traces_in o (event_number o rs) (at + 8) rs ++ traces_from o (at + x) front-event.others))
+        (sym size)
         ∙ ap (λ (es : List Container). first_match number code (traces_from o at es)) (sym front-event.splits)
         ∙ i.still
 

@@ -34,7 +34,8 @@ bytes_of_words n ns = (refl, refl)
 -- A word by its bytes, wherever it stands and in either order: the byte that counts m-th, from the lowest up, stands at `byte_at`.
 pub word-by-bytes : (o : Order) (p : ℕ) (bs : List ℕ) → p + 4 ≤ length bs
     → word o p bs
-    ≡ get_or bs (p + byte_at o 0) 0 + 256 * (get_or bs (p + byte_at o 1) 0 + 256 * (get_or bs (p + byte_at o 2) 0 + 256 * get_or bs (p + byte_at o 3) 0))
+    ≡ get_or bs (p + byte_at o 0) 0 + 256 *
+    (get_or bs (p + byte_at o 1) 0 + 256 * (get_or bs (p + byte_at o 2) 0 + 256 * get_or bs (p + byte_at o 3) 0))
 unfolding word_at
 word-by-bytes o p bs l = spelled o (drop p bs) (omega (arith, length-drop p bs)) ∙ rw (at 0, at 1, at 2, at 3)
   where

@@ -46,7 +46,8 @@ module _ (class category type : ℕ) (e : event_fault class category type ≡ 0)
       first_passes _ (equal_passes 5 mark, ((λ i. event_fault (is i) (ic i) (it i)) ∙ e, tt))
 
 -- A row's first value, the low half of an event's word, has all three.
-pub low_half_keeps : (w : ℕ) → (class_of (w % 65536) ≡ class_of w) × (category_of (w % 65536) ≡ category_of w) × (event_type_of (w % 65536) ≡ event_type_of w)
+pub low_half_keeps : (w : ℕ) → (class_of (w % 65536) ≡ class_of w) × (category_of (w % 65536) ≡ category_of w)
+    × (event_type_of (w % 65536) ≡ event_type_of w)
 low_half_keeps w = (omega arith, omega arith, omega arith)
 
 pub event_restored : (w : ℕ) → event_word_rule w ≡ 0

@@ -171,6 +171,7 @@ tlb_from ns = record {
   tower6 = at ns 5;
 }
 
-pub tlb_read_back : (o : Order) → (f : Tlb) → AllFit 4 (tlb_words f) → tlb_fault f ≡ 0 → (tlb_rule o (tlb_bytes o f) ≡ 0) × (tlb_of o (tlb_bytes o f) ≡ f)
+pub tlb_read_back : (o : Order) → (f : Tlb) → AllFit 4 (tlb_words f) → tlb_fault f ≡ 0 → (tlb_rule o (tlb_bytes o f) ≡ 0)
+    × (tlb_of o (tlb_bytes o f) ≡ f)
 unfolding tlb_rule tlb_bytes tlb_of words_at
 tlb_read_back o f h e = read_back o (λ ns. tlb_fault (tlb_from ns) ∷ []) tlb_from (tlb_words f) h (e, tt)

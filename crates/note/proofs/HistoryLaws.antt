@@ -182,7 +182,8 @@ history-faultless o b e =
     )
 
 -- What a writer accepts is read back: its body passes the rule, and its fields are those that were written.
-pub history_read_back : (o : Order) (f : History) → history_fault f ≡ 0 → (history_rule o (history_bytes o f) ≡ 0) × (history_of o (history_bytes o f) ≡ f)
+pub history_read_back : (o : Order) (f : History) → history_fault f ≡ 0 → (history_rule o (history_bytes o f) ≡ 0)
+    × (history_of o (history_bytes o f) ≡ f)
 unfolding history_fault history_rule history_bytes history_of
 history_read_back o f e =
     let b : List ℕ = history_bytes o f in

@@ -156,7 +156,8 @@ name-bytes (a ∷ b ∷ c ∷ d ∷ rest) = refl
 
 pub history-answer : (veto_times veto_times_at veto_width veto_masks_at trigger_times trigger_times_at trigger_width trigger_masks_at : ℕ)
     → given_record (Record.History veto_times veto_times_at veto_width veto_masks_at trigger_times trigger_times_at trigger_width trigger_masks_at)
-    ≡ accepted (counts (8 ∷ veto_times ∷ veto_times_at ∷ veto_width ∷ veto_masks_at ∷ trigger_times ∷ trigger_times_at ∷ trigger_width ∷ trigger_masks_at ∷ []))
+    ≡ accepted (counts (8 ∷ veto_times ∷ veto_times_at ∷ veto_width ∷ veto_masks_at ∷ trigger_times ∷ trigger_times_at ∷ trigger_width
+    ∷ trigger_masks_at ∷ []))
 unfolding given_record
 history-answer a b c d e f g h = refl
 

@@ -16,7 +16,18 @@ use Rattle.note.specs.Records.{Record, Seen, Context, entry, event, alone, unsee
 use Rattle.note.specs.Events.{read_event}
 use Rattle.note.specs.Files.{version_rule, read_header, read_configuration}
 use Rattle.note.specs.Rules.{PhononAsked, ChargeAsked, AdministrativeAsked, TraceAsked, HistoryAsked, GpsAsked, TriggerAsked, TlbAsked, RuleAsked}
-use Rattle.note.specs.Readings.{seen_after, body_of, RecordAsked, record_read, VersionParts, HeaderAsked, contents_read, ConfigurationAsked, EventParts, EventOwnAsked}
+use Rattle.note.specs.Readings.{
+  seen_after,
+  body_of,
+  RecordAsked,
+  record_read,
+  VersionParts,
+  HeaderAsked,
+  contents_read,
+  ConfigurationAsked,
+  EventParts,
+  EventOwnAsked,
+}
 use Rattle.note.proofs.BoolLaws.{Tells, le_tells, eq_tells}
 use Rattle.note.proofs.AskedLaws.{Gives, no_more, asked, asked_where, gives_alone, gate, last_gate, answers}
 use Rattle.note.proofs.RuleLaws.{phonon_rule_exact, charge_rule_exact, administrative_rule_exact, trace_rule_exact}
@@ -141,7 +152,8 @@ record_alone_answers o =
 
 -- ---- the header and the containers
 
-pub header_answers : (o : Order) (at : ℕ) (bs : List ℕ) (daq_major daq_minor major minor : ℕ) → VersionParts (word o 4 bs) daq_major daq_minor major minor
+pub header_answers : (o : Order) (at : ℕ) (bs : List ℕ) (daq_major daq_minor major minor : ℕ)
+    → VersionParts (word o 4 bs) daq_major daq_minor major minor
     → Answers (read_header o at bs) at (HeaderAsked o major minor bs) (ok (word o 4 bs))
 unfolding read_header
 header_answers o at bs daq_major daq_minor major minor p =

@@ -22,7 +22,8 @@ tlb_words f = f.tower1 ∷ f.tower2 ∷ f.tower3 ∷ f.tower4 ∷ f.tower5 ∷ f
 
 -- FORMAT 5.6: the fields of a body, and the body of fields.
 unfoldable pub tlb_of : Order → List ℕ → Tlb
-tlb_of o b = record { tower1 = word o 0 b; tower2 = word o 4 b; tower3 = word o 8 b; tower4 = word o 12 b; tower5 = word o 16 b; tower6 = word o 20 b }
+tlb_of o b =
+    record { tower1 = word o 0 b; tower2 = word o 4 b; tower3 = word o 8 b; tower4 = word o 12 b; tower5 = word o 16 b; tower6 = word o 20 b }
 
 unfoldable pub tlb_bytes : Order → Tlb → List ℕ
 tlb_bytes o f = words o (tlb_words f)

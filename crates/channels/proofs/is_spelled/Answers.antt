@@ -28,17 +28,22 @@ loop-i-init c = (omega arith, refl)
 
 pub returns-then-rest-eq0 : goal.returns-then-rest-eq0
 returns-then-rest-eq0 c =
-    told (goal.at.returns-then-rest-eq0 c).At-loop-i (no_letters c.loop-i.rest (name (goal.at.returns-then-rest-eq0 c).At-loop-i) c.loop-i.i (omega arith) c.if-rest-eq0.true)
+    told (goal.at.returns-then-rest-eq0 c).At-loop-i
+    (no_letters c.loop-i.rest (name (goal.at.returns-then-rest-eq0 c).At-loop-i) c.loop-i.i (omega arith) c.if-rest-eq0.true)
 
 pub returns-then-lowest-name : goal.returns-then-lowest-name
 returns-then-lowest-name c =
-    told (goal.at.returns-then-lowest-name c).At-loop-i (other_letter c.loop-i.rest (name (goal.at.returns-then-lowest-name c).At-loop-i) c.loop-i.i (omega arith) c.if-rest-eq0.false
+    told (goal.at.returns-then-lowest-name c).At-loop-i
+    (other_letter c.loop-i.rest (name (goal.at.returns-then-lowest-name c).At-loop-i) c.loop-i.i (omega arith) c.if-rest-eq0.false
     (λ e. c.if-lowest-name.true (c.lowest.ensures ∙ e)))
 
 pub loop-i-preserved : goal.loop-i-preserved
 loop-i-preserved c =
-    let same = sym c.lowest.ensures ∙ c.if-lowest-name.false in
-    (omega arith, c.loop-i.invariant.1 ∙ next_letter c.loop-i.rest (name (goal.at.loop-i-preserved c).At-loop-i) c.loop-i.i (omega arith) c.if-rest-eq0.false same)
+    let same = sym c.lowest.ensures ∙ c.if-lowest-name.false in (
+      omega arith,
+      c.loop-i.invariant.1 ∙ next_letter c.loop-i.rest (name (goal.at.loop-i-preserved c).At-loop-i) c.loop-i.i
+          (omega arith) c.if-rest-eq0.false same,
+    )
 
 pub returns : goal.returns
 returns c =

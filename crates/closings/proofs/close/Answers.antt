@@ -18,7 +18,8 @@ call out place end fault least word context =
 
 -- Where the end was answered: there is room.
 room : (c : In-Next) → HasRoom (length c.args.out.now) c.args.place c.args.end
-room c = let a = c.args in (told (order_from a.big) (call a.out.now a.place a.end a.fault a.least a.word a.context) c.bounded.ensures c.in-Next.is).room
+room c = let a = c.args in (told (order_from a.big) (call a.out.now a.place a.end a.fault a.least a.word a.context) c.bounded.ensures
+    c.in-Next.is).room
 
 pub overflow_add-from : goal.overflow_add-from
 overflow_add-from c = omega (arith, room c)
@@ -51,12 +52,14 @@ pub returns-in-Bad : goal.returns-in-Bad
 returns-in-Bad c =
     let a = c.args in
     let (answer, output) =
-    contents_refuse (order_from a.big) (call a.out.now a.place a.end a.fault a.least a.word a.context) c.bounded.ensures c.in-Next.is c.records_in.ensures c.in-Bad.is in
+    contents_refuse (order_from a.big) (call a.out.now a.place a.end a.fault a.least a.word a.context) c.bounded.ensures c.in-Next.is
+    c.records_in.ensures c.in-Bad.is in
     record { answer = answer; output = output }
 
 pub returns-in-Good : goal.returns-in-Good
 returns-in-Good c =
     let a = c.args in
     let (answer, output) =
-    shuts (order_from a.big) (call a.out.now a.place a.end a.fault a.least a.word a.context) c.bounded.ensures c.in-Next.is c.records_in.ensures c.in-Good.is c.put_head.ensures in
+    shuts (order_from a.big) (call a.out.now a.place a.end a.fault a.least a.word a.context) c.bounded.ensures c.in-Next.is c.records_in.ensures
+    c.in-Good.is c.put_head.ensures in
     record { answer = answer; output = output }

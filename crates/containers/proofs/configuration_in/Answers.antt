@@ -25,12 +25,17 @@ order c = order_from c.args.big
 allowed : (c : Else-word-ne-CONFIGURATION) → configuration_rule (word (order c) 0 (part c)) ≡ 0
 allowed c = rw (← c.word_at-word.ensures, eq-eqb _ _ c.if-word-ne-CONFIGURATION.false)
 
-begun : (c : Else-room-length) → Begun ((order_from c.args.big)) configuration_rule configuration_late ((c.args.part.now)) c.word_at-word.result c.word_at-length.result
+begun : (c : Else-room-length) → Begun (order_from c.args.big) configuration_rule configuration_late
+    c.args.part.now c.word_at-word.result c.word_at-length.result
 begun c = record {
-  bytes = Bytes-from ((c.args.part.now)) (λ i l. omega (arith, c.type_inv.part i));
+  bytes = Bytes-from c.args.part.now (λ i l. omega (arith, c.type_inv.part i));
   room = c.if-room-lt-FRONT.false;
   kind-is = c.word_at-word.ensures;
-  allowed = (let it : configuration_rule (word ((order_from c.args.big)) 0 ((c.args.part.now))) ≡ 0 = rw (← c.word_at-word.ensures, eq-eqb _ _ c.if-word-ne-CONFIGURATION.false) in it);
+  allowed =
+      (let it : configuration_rule (word (order_from c.args.big) 0 c.args.part.now) ≡ 0 = rw (
+        ← c.word_at-word.ensures,
+        eq-eqb _ _ c.if-word-ne-CONFIGURATION.false,
+      ) in it);
   length-is = c.word_at-length.ensures;
   fits = c.if-room-length.false;
   placed = refl;
@@ -50,7 +55,9 @@ returns-then-word-ne-CONFIGURATION c =
 pub returns-then-room-length : goal.returns-then-room-length
 unfolding read_configuration
 returns-then-room-length c =
-    long _ configuration_rule configuration_late entry c.args.at (part (goal.at.returns-then-room-length c).Else-word-ne-CONFIGURATION) c.if-room-lt-FRONT.false (allowed (goal.at.returns-then-room-length c).Else-word-ne-CONFIGURATION)
+    long _ configuration_rule configuration_late entry c.args.at
+    (part (goal.at.returns-then-room-length c).Else-word-ne-CONFIGURATION) c.if-room-lt-FRONT.false
+    (allowed (goal.at.returns-then-room-length c).Else-word-ne-CONFIGURATION)
     _ c.word_at-length.ensures c.if-room-length.true
 
 pub returns-in-Good : goal.returns-in-Good

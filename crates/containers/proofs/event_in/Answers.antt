@@ -26,21 +26,24 @@ allowed c = ap event_word_rule (sym c.word_at-word.ensures) ∙ sym c.event_word
 abbrev size : (c : Else-length-lt1) → ℕ
 size c = c.word_at-length.result
 
-begun : (c : Else-length-lt1) → Begun ((order_from c.args.big)) event_word_rule event_late ((c.args.part.now)) c.word_at-word.result (size c)
+begun : (c : Else-length-lt1) → Begun (order_from c.args.big) event_word_rule event_late c.args.part.now c.word_at-word.result (size c)
 begun c = record {
-  bytes = Bytes-from ((c.args.part.now)) (λ i l. omega (arith, c.type_inv.part i));
+  bytes = Bytes-from c.args.part.now (λ i l. omega (arith, c.type_inv.part i));
   room = c.if-room-lt-FRONT.false;
   kind-is = c.word_at-word.ensures;
-  allowed = (let it : event_word_rule (word ((order_from c.args.big)) 0 ((c.args.part.now))) ≡ 0 = ap event_word_rule (sym c.word_at-word.ensures) ∙ sym c.event_word_rule-fault.ensures ∙ c.if-fault-ne0.false in it);
+  allowed =
+      (let it : event_word_rule (word (order_from c.args.big) 0 c.args.part.now) ≡ 0 = ap event_word_rule (sym c.word_at-word.ensures)
+      ∙ sym c.event_word_rule-fault.ensures ∙ c.if-fault-ne0.false in it);
   length-is = c.word_at-length.ensures;
   fits = c.if-room-length.false;
   placed = rw (le-leb _ _ c.if-length-lt1.false);
 }
 
-contents : (c : After-records_in) → (c.records_in.result ≡ contents_answer ((order_from c.args.big)) (event unseen) c.args.at ((c.args.part.now)) ((c.word_at-length.result)))
+contents : (c : After-records_in) → (c.records_in.result ≡ contents_answer (order_from c.args.big) (event unseen) c.args.at c.args.part.now
+    c.word_at-length.result)
 contents c =
     c.records_in.ensures
-    ∙ ap (λ (x : Context). contents_answer ((order_from c.args.big)) x c.args.at ((c.args.part.now)) ((c.word_at-length.result))) c.fresh.ensures
+    ∙ ap (λ (x : Context). contents_answer (order_from c.args.big) x c.args.at c.args.part.now c.word_at-length.result) c.fresh.ensures
 
 pub returns-then-room-lt-FRONT : goal.returns-then-room-lt-FRONT
 unfolding read_event
@@ -56,13 +59,15 @@ returns-then-fault-ne0 c =
 pub returns-then-room-length : goal.returns-then-room-length
 unfolding read_event
 returns-then-room-length c =
-    long _ event_word_rule event_late (event unseen) c.args.at (part (goal.at.returns-then-room-length c).Else-fault-ne0) c.if-room-lt-FRONT.false (allowed (goal.at.returns-then-room-length c).Else-fault-ne0)
+    long _ event_word_rule event_late (event unseen) c.args.at (part (goal.at.returns-then-room-length c).Else-fault-ne0) c.if-room-lt-FRONT.false
+    (allowed (goal.at.returns-then-room-length c).Else-fault-ne0)
     _ c.word_at-length.ensures c.if-room-length.true
 
 pub returns-then-length-lt1 : goal.returns-then-length-lt1
 unfolding read_event
 returns-then-length-lt1 c =
-    late_fault _ event_word_rule event_late (event unseen) c.args.at (part (goal.at.returns-then-length-lt1 c).Else-fault-ne0) c.if-room-lt-FRONT.false (allowed (goal.at.returns-then-length-lt1 c).Else-fault-ne0)
+    late_fault _ event_word_rule event_late (event unseen) c.args.at
+    (part (goal.at.returns-then-length-lt1 c).Else-fault-ne0) c.if-room-lt-FRONT.false (allowed (goal.at.returns-then-length-lt1 c).Else-fault-ne0)
     _ c.word_at-length.ensures c.if-room-length.false 9 (rw (lt-leb _ _ c.if-length-lt1.true)) (λ e. omega arith)
 
 pub returns-in-Good : goal.returns-in-Good

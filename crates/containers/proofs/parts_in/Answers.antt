@@ -20,9 +20,9 @@ abbrev order : (c : Else-room-lt-FRONT) → Order
 order c = order_from c.args.big
 
 -- Behind the header: each of its tests has passed.
-headed : (c : Else-word_at-ne-FORMAT) → Headed ((order_from c.args.big)) ((c.args.file.now))
+headed : (c : Else-word_at-ne-FORMAT) → Headed (order_from c.args.big) c.args.file.now
 headed c = record {
-  bytes = Bytes-from ((c.args.file.now)) (λ i l. omega (arith, c.type_inv.file i));
+  bytes = Bytes-from c.args.file.now (λ i l. omega (arith, c.type_inv.file i));
   within = c.requires;
   room = c.if-room-lt-FRONT.false;
   marked = sym c.word_at.ensures ∙ c.if-word_at-ne-FILE_MARK.false;
@@ -35,16 +35,16 @@ size c = c.in-Good.length
 abbrev entries : (c : In-Good) → ℕ
 entries c = c.in-Good.count
 
-configuration : (c : In-Good) → Configured ((order_from c.args.big)) ((c.args.file.now)) (size c) (entries c)
-configuration c = configured ((let it : Headed ((order_from c.args.big)) ((c.args.file.now)) = record {
-  bytes = Bytes-from ((c.args.file.now)) (λ i l. omega (arith, c.type_inv.file i));
+configuration : (c : In-Good) → Configured (order_from c.args.big) c.args.file.now (size c) (entries c)
+configuration c = configured ((let it : Headed (order_from c.args.big) c.args.file.now = record {
+  bytes = Bytes-from c.args.file.now (λ i l. omega (arith, c.type_inv.file i));
   within = c.requires;
   room = c.if-room-lt-FRONT.false;
   marked = sym c.word_at.ensures ∙ c.if-word_at-ne-FILE_MARK.false;
   formatted = ap (λ (v : ℕ). v % 65536) (sym c.word_at-2.ensures) ∙ c.if-word_at-ne-FORMAT.false;
 } in it)) _ _ _ (sym c.in-Good.is ∙ c.configuration_in.ensures)
 
-counted : (c : In-Good-events_in) → (Good c.in-Good-events_in.rows ≡ events_answer ((order_from c.args.big)) ((c.args.file.now)) ((c.in-Good.length)))
+counted : (c : In-Good-events_in) → (Good c.in-Good-events_in.rows ≡ events_answer (order_from c.args.big) c.args.file.now c.in-Good.length)
 counted c = sym c.in-Good-events_in.is ∙ c.events_in.ensures
 
 pub returns-then-room-lt-FRONT : goal.returns-then-room-lt-FRONT
@@ -52,11 +52,13 @@ returns-then-room-lt-FRONT c = short _ c.args.file.now c.if-room-lt-FRONT.true
 
 pub returns-then-word_at-ne-FILE_MARK : goal.returns-then-word_at-ne-FILE_MARK
 returns-then-word_at-ne-FILE_MARK c =
-    unmarked _ (file (goal.at.returns-then-word_at-ne-FILE_MARK c).Else-room-lt-FRONT) c.if-room-lt-FRONT.false _ c.word_at.ensures c.if-word_at-ne-FILE_MARK.true
+    unmarked _ (file (goal.at.returns-then-word_at-ne-FILE_MARK c).Else-room-lt-FRONT) c.if-room-lt-FRONT.false _ c.word_at.ensures
+    c.if-word_at-ne-FILE_MARK.true
 
 pub returns-then-word_at-ne-FORMAT : goal.returns-then-word_at-ne-FORMAT
 returns-then-word_at-ne-FORMAT c =
-    other_format _ (file (goal.at.returns-then-word_at-ne-FORMAT c).Else-room-lt-FRONT) c.if-room-lt-FRONT.false _ c.word_at.ensures c.if-word_at-ne-FILE_MARK.false
+    other_format _ (file (goal.at.returns-then-word_at-ne-FORMAT c).Else-room-lt-FRONT) c.if-room-lt-FRONT.false _ c.word_at.ensures
+    c.if-word_at-ne-FILE_MARK.false
     _ c.word_at-2.ensures c.if-word_at-ne-FORMAT.true
 
 pub overflow_add-from : goal.overflow_add-from

@@ -11,7 +11,8 @@ use Rattle.containers.proofs.records_in.Goals as goal
 use Rattle.containers.proofs.records_in.Goals.{At-loop-more, In-Good}
 
 -- What was counted so far, in a run.
-counted : (c : At-loop-more) → Counting (order_from c.args.big) (context_of c.args.context) c.args.from c.args.part.now (context_of c.loop-more.state) c.loop-more.at c.loop-more.rest.now c.loop-more.count
+counted : (c : At-loop-more) → Counting (order_from c.args.big) (context_of c.args.context) c.args.from c.args.part.now
+    (context_of c.loop-more.state) c.loop-more.at c.loop-more.rest.now c.loop-more.count
 counted c = c.loop-more.invariant.counts _ c.loop-rest.invariant
 
 -- The known step over it stays in the rest.

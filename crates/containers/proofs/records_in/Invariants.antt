@@ -8,7 +8,8 @@ use Rattle.containers.proofs.records_in.Given as goal
 
 abbrev pub invariant-loop-more : goal.invariant-loop-more
 invariant-loop-more l =
-    Run (order_from l.big) l.from l.part (context_of l.initial.state) l.initial.at l.initial.rest l.initial.count l.known (context_of l.state) l.at l.rest l.count l.more
+    Run (order_from l.big) l.from l.part (context_of l.initial.state) l.initial.at l.initial.rest l.initial.count l.known
+    (context_of l.state) l.at l.rest l.count l.more
 
 abbrev pub decreases-loop-more : goal.decreases-loop-more
 decreases-loop-more l = length l.rest

@@ -16,10 +16,12 @@ use Rattle.copies.proofs.copy_history.Goals as goal
 use Rattle.copies.proofs.copy_history.Goals.{After-width_at-trigger}
 
 -- Where the three places are known: what they are, and that they lie in order.
-cuts : (c : After-width_at-trigger) → Cuts (order_from c.args.big) c.args.body.now c.width_at-veto.result c.section_end-middle.result c.width_at-trigger.result
+cuts : (c : After-width_at-trigger) → Cuts (order_from c.args.big) c.args.body.now c.width_at-veto.result c.section_end-middle.result
+    c.width_at-trigger.result
 cuts c = record { veto-is = c.width_at-veto.ensures; middle-is = c.section_end-middle.ensures; trigger-is = c.width_at-trigger.ensures }
 
-placed : (c : After-width_at-trigger) → (4 ≤ c.width_at-veto.result) × (c.width_at-veto.result + 4 ≤ c.section_end-middle.result) × (c.section_end-middle.result + 4 ≤ c.width_at-trigger.result) × (c.width_at-trigger.result + 4 ≤ length c.args.body.now)
+placed : (c : After-width_at-trigger) → (4 ≤ c.width_at-veto.result) × (c.width_at-veto.result + 4 ≤ c.section_end-middle.result)
+    × (c.section_end-middle.result + 4 ≤ c.width_at-trigger.result) × (c.width_at-trigger.result + 4 ≤ length c.args.body.now)
 placed c = in_order c.requires.1.follows (cuts c)
 
 pub section_end-middle-requires : goal.section_end-middle-requires

@@ -14,11 +14,14 @@ use Rattle.copies.proofs.copy_record.Goals as goal
 use Rattle.copies.proofs.copy_record.Goals.{After-slice_known-1}
 
 -- In the arm of a kind word: what is asked of the record is asked of that word's kind.
-own_kind : (c : After-slice_known-1) {w : ℕ} → c.args.word ≡ w → (let a = c.args in (least w ≤ length a.body.now) × Copyable (order_from a.big) (kind_of w) a.body.now (length a.out.now) a.place)
+own_kind : (c : After-slice_known-1) {w : ℕ} → c.args.word ≡ w → (let a = c.args in
+    (least w ≤ length a.body.now) × Copyable (order_from a.big) (kind_of w) a.body.now (length a.out.now) a.place)
 own_kind c e = asked _ e _ _ _ c.requires
 
 -- And what a copy of that kind leaves is what a copy of the record leaves.
-any_kind : (c : After-slice_known-1) {w : ℕ} → c.args.word ≡ w → {new : List ℕ} → (let a = c.args in Copied (order_from a.big) (kind_of w) a.body.now a.out.now a.place new → Copied (order_from a.big) (kind_of a.word) a.body.now a.out.now a.place new)
+any_kind : (c : After-slice_known-1) {w : ℕ} → c.args.word ≡ w → {new : List ℕ} → (let a = c.args in
+    Copied (order_from a.big) (kind_of w) a.body.now a.out.now a.place new
+    → Copied (order_from a.big) (kind_of a.word) a.body.now a.out.now a.place new)
 any_kind c e = left _ e c.args.body.now _ _ _
 
 pub copy_phonon-requires : goal.copy_phonon-requires

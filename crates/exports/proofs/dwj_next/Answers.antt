@@ -6,4 +6,5 @@ use Rattle.exports.proofs.dwj_next.Goals as goal
 pub returns : goal.returns
 unfolding numbers_of spot_of
 returns c =
-    rw (← c.step-at.ensures, ← c.last.ensures) (record { number = c.tell.ensures.number; walker = refl; row = c.tell.ensures.row; refusal = c.tell.ensures.refusal })
+    rw (← c.step-at.ensures, ← c.last.ensures)
+    (record { number = c.tell.ensures.number; walker = refl; row = c.tell.ensures.row; refusal = c.tell.ensures.refusal })

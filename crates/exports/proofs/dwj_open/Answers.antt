@@ -6,4 +6,5 @@ use Rattle.exports.proofs.dwj_open.Goals as goal
 pub returns : goal.returns
 unfolding numbers_of
 returns c =
-    rw (← c.opened-at.ensures, ← c.last.ensures) (record { number = c.tell.ensures.number; walker = refl; row = c.tell.ensures.row; refusal = c.tell.ensures.refusal })
+    rw (← c.opened-at.ensures, ← c.last.ensures)
+    (record { number = c.tell.ensures.number; walker = refl; row = c.tell.ensures.row; refusal = c.tell.ensures.refusal })

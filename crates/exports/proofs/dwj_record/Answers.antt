@@ -72,49 +72,138 @@ pub returns-in-Phonon : goal.returns-in-Phonon
 unfolding number_of place_after wholes_in wholes_after given_record
 returns-in-Phonon c =
     rw (← c.«record».ensures, c.in-Phonon.is)
-    (record { number = refl; values = told (replicate 11 signed) (c.in-Phonon.code, (c.in-Phonon.tower, (c.in-Phonon.gain, (c.in-Phonon.qet_bias, (c.in-Phonon.squid_bias, (c.in-Phonon.lockpoint, (c.in-Phonon.rtf_offset, (c.in-Phonon.variable_gain, (c.in-Phonon.delta_t, (c.in-Phonon.t0, (c.in-Phonon.trace_length, tt))))))))))) (search rules) _; refusal = refl })
+    (record {
+      number = refl;
+      values = told (replicate 11 signed) (
+        c.in-Phonon.code,
+        (
+          c.in-Phonon.tower,
+          (
+            c.in-Phonon.gain,
+            (
+              c.in-Phonon.qet_bias,
+              (
+                c.in-Phonon.squid_bias,
+                (
+                  c.in-Phonon.lockpoint,
+                  (c.in-Phonon.rtf_offset, (c.in-Phonon.variable_gain, (c.in-Phonon.delta_t, (c.in-Phonon.t0, (c.in-Phonon.trace_length, tt))))),
+                ),
+              ),
+            ),
+          ),
+        ),
+      )
+          (search rules) _;
+      refusal = refl;
+    })
 
 pub returns-in-Charge : goal.returns-in-Charge
 unfolding number_of place_after wholes_in wholes_after given_record
 returns-in-Charge c =
     rw (← c.«record».ensures, c.in-Charge.is)
-    (record { number = refl; values = told (replicate 8 signed) (c.in-Charge.code, (c.in-Charge.tower, (c.in-Charge.gain, (c.in-Charge.bias, (c.in-Charge.rtf_offset, (c.in-Charge.delta_t, (c.in-Charge.t0, (c.in-Charge.trace_length, tt)))))))) (search rules) _; refusal = refl })
+    (record {
+      number = refl;
+      values = told (replicate 8 signed) (
+        c.in-Charge.code,
+        (
+          c.in-Charge.tower,
+          (
+            c.in-Charge.gain,
+            (c.in-Charge.bias, (c.in-Charge.rtf_offset, (c.in-Charge.delta_t, (c.in-Charge.t0, (c.in-Charge.trace_length, tt))))),
+          ),
+        ),
+      ) (search rules) _;
+      refusal = refl;
+    })
 
 pub returns-in-Administrative : goal.returns-in-Administrative
 unfolding number_of place_after wholes_in wholes_after given_record
 returns-in-Administrative c =
     rw (← c.«record».ensures, c.in-Administrative.is)
-    (record { number = refl; values = told (replicate 6 count) (c.in-Administrative.date, (c.in-Administrative.clock, (c.in-Administrative.number, (c.in-Administrative.time, (c.in-Administrative.since, (c.in-Administrative.live, tt)))))) (search rules) _; refusal = refl })
+    (record {
+      number = refl;
+      values = told (replicate 6 count) (
+        c.in-Administrative.date,
+        (
+          c.in-Administrative.clock,
+          (
+            c.in-Administrative.number,
+            (c.in-Administrative.time, (c.in-Administrative.since, (c.in-Administrative.live, tt))),
+          ),
+        ),
+      ) (search rules) _;
+      refusal = refl;
+    })
 
 pub returns-in-Trace : goal.returns-in-Trace
 unfolding number_of place_after wholes_in wholes_after given_record
 returns-in-Trace c =
     rw (← c.«record».ensures, c.in-Trace.is)
-    (record { number = refl; values = told (count ∷ count ∷ count ∷ signed ∷ count ∷ count ∷ []) (c.in-Trace.address, (c.in-Trace.channel, (c.in-Trace.code, (c.in-Trace.t0, (c.in-Trace.delta_t, (c.in-Trace.n, tt)))))) (search rules) _; refusal = refl })
+    (record {
+      number = refl;
+      values = told (count ∷ count ∷ count ∷ signed ∷ count ∷ count
+          ∷ []) (c.in-Trace.address, (c.in-Trace.channel, (c.in-Trace.code, (c.in-Trace.t0, (c.in-Trace.delta_t, (c.in-Trace.n, tt))))))
+          (search rules) _;
+      refusal = refl;
+    })
 
 pub returns-in-History : goal.returns-in-History
 unfolding number_of place_after wholes_in wholes_after given_record
 returns-in-History c =
     rw (← c.«record».ensures, c.in-History.is)
-    (record { number = refl; values = told (replicate 8 count) (c.in-History.veto_times, (c.in-History.veto_times_at, (c.in-History.veto_width, (c.in-History.veto_masks_at, (c.in-History.trigger_times, (c.in-History.trigger_times_at, (c.in-History.trigger_width, (c.in-History.trigger_masks_at, tt)))))))) (search rules) _; refusal = refl })
+    (record {
+      number = refl;
+      values = told (replicate 8 count) (
+        c.in-History.veto_times,
+        (
+          c.in-History.veto_times_at,
+          (
+            c.in-History.veto_width,
+            (
+              c.in-History.veto_masks_at,
+              (c.in-History.trigger_times, (c.in-History.trigger_times_at, (c.in-History.trigger_width, (c.in-History.trigger_masks_at, tt)))),
+            ),
+          ),
+        ),
+      )
+          (search rules) _;
+      refusal = refl;
+    })
 
 pub returns-in-Gps : goal.returns-in-Gps
 unfolding number_of place_after wholes_in wholes_after given_record
 returns-in-Gps c =
     rw (← c.«record».ensures, c.in-Gps.is)
-    (record { number = refl; values = told (replicate 7 count) (c.in-Gps.year, (c.in-Gps.day, (c.in-Gps.status, (c.in-Gps.hour, (c.in-Gps.minute, (c.in-Gps.second, (c.in-Gps.tenths, tt))))))) (search rules) _; refusal = refl })
+    (record {
+      number = refl;
+      values = told (replicate 7 count)
+          (c.in-Gps.year, (c.in-Gps.day, (c.in-Gps.status, (c.in-Gps.hour, (c.in-Gps.minute, (c.in-Gps.second, (c.in-Gps.tenths, tt)))))))
+          (search rules) _;
+      refusal = refl;
+    })
 
 pub returns-in-Trigger : goal.returns-in-Trigger
 unfolding number_of place_after wholes_in wholes_after given_record
 returns-in-Trigger c =
     rw (← c.«record».ensures, c.in-Trigger.is)
-    (record { number = refl; values = told (replicate 6 count) (c.in-Trigger.mask1, (c.in-Trigger.mask2, (c.in-Trigger.mask3, (c.in-Trigger.mask4, (c.in-Trigger.mask5, (c.in-Trigger.mask6, tt)))))) (search rules) _; refusal = refl })
+    (record {
+      number = refl;
+      values = told (replicate 6 count)
+          (c.in-Trigger.mask1, (c.in-Trigger.mask2, (c.in-Trigger.mask3, (c.in-Trigger.mask4, (c.in-Trigger.mask5, (c.in-Trigger.mask6, tt))))))
+          (search rules) _;
+      refusal = refl;
+    })
 
 pub returns-in-Tlb : goal.returns-in-Tlb
 unfolding number_of place_after wholes_in wholes_after given_record
 returns-in-Tlb c =
     rw (← c.«record».ensures, c.in-Tlb.is)
-    (record { number = refl; values = told (replicate 6 count) (c.in-Tlb.tower1, (c.in-Tlb.tower2, (c.in-Tlb.tower3, (c.in-Tlb.tower4, (c.in-Tlb.tower5, (c.in-Tlb.tower6, tt)))))) (search rules) _; refusal = refl })
+    (record {
+      number = refl;
+      values = told (replicate 6 count)
+          (c.in-Tlb.tower1, (c.in-Tlb.tower2, (c.in-Tlb.tower3, (c.in-Tlb.tower4, (c.in-Tlb.tower5, (c.in-Tlb.tower6, tt)))))) (search rules) _;
+      refusal = refl;
+    })
 
 pub returns-in-Refused : goal.returns-in-Refused
 unfolding number_of place_after wholes_in wholes_after given_record

@@ -13,4 +13,5 @@ overflow_add-offset c = omega (arith, place-within Little _ _ c.samples-n.ensure
 
 pub returns : goal.returns
 returns c =
-    let given = c.samples-n.ensures.bytes in record { offset = starts_at_place Little _ _ given c.if-n-eq0.false; size = part_length Little _ _ given }
+    let given = c.samples-n.ensures.bytes in
+    record { offset = starts_at_place Little _ _ given c.if-n-eq0.false; size = part_length Little _ _ given }

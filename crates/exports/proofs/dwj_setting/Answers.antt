@@ -56,14 +56,57 @@ unfolding number_of place_after wholes_in wholes_after floats_in floats_after gi
 returns-in-Phonon c =
     let fields = signed ∷ signed ∷ float ∷ float ∷ float ∷ float ∷ replicate 5 signed in
     rw (← c.setting.ensures, c.in-Phonon.is)
-    (record { number = refl; whole = told fields (c.in-Phonon.code, (c.in-Phonon.tower, (c.in-Phonon.gain, (c.in-Phonon.qet_bias, (c.in-Phonon.squid_bias, (c.in-Phonon.lockpoint, (c.in-Phonon.rtf_offset, (c.in-Phonon.variable_gain, (c.in-Phonon.delta_t, (c.in-Phonon.t0, (c.in-Phonon.trace_length, tt))))))))))) (search rules) _; units = refl; refusal = refl })
+    (record {
+      number = refl;
+      whole = told fields (
+        c.in-Phonon.code,
+        (
+          c.in-Phonon.tower,
+          (
+            c.in-Phonon.gain,
+            (
+              c.in-Phonon.qet_bias,
+              (
+                c.in-Phonon.squid_bias,
+                (
+                  c.in-Phonon.lockpoint,
+                  (
+                    c.in-Phonon.rtf_offset,
+                    (c.in-Phonon.variable_gain, (c.in-Phonon.delta_t, (c.in-Phonon.t0, (c.in-Phonon.trace_length, tt)))),
+                  ),
+                ),
+              ),
+            ),
+          ),
+        ),
+      ) (search rules) _;
+      units = refl;
+      refusal = refl;
+    })
 
 pub returns-in-Charge : goal.returns-in-Charge
 unfolding number_of place_after wholes_in wholes_after floats_in floats_after given_setting
 returns-in-Charge c =
     let fields = signed ∷ signed ∷ float ∷ replicate 5 signed in
     rw (← c.setting.ensures, c.in-Charge.is)
-    (record { number = refl; whole = told fields (c.in-Charge.code, (c.in-Charge.tower, (c.in-Charge.gain, (c.in-Charge.bias, (c.in-Charge.rtf_offset, (c.in-Charge.delta_t, (c.in-Charge.t0, (c.in-Charge.trace_length, tt)))))))) (search rules) _; units = refl; refusal = refl })
+    (record {
+      number = refl;
+      whole = told fields (
+        c.in-Charge.code,
+        (
+          c.in-Charge.tower,
+          (
+            c.in-Charge.gain,
+            (
+              c.in-Charge.bias,
+              (c.in-Charge.rtf_offset, (c.in-Charge.delta_t, (c.in-Charge.t0, (c.in-Charge.trace_length, tt)))),
+            ),
+          ),
+        ),
+      ) (search rules) _;
+      units = refl;
+      refusal = refl;
+    })
 
 pub returns-in-Refused : goal.returns-in-Refused
 unfolding number_of place_after wholes_in wholes_after floats_in floats_after given_setting

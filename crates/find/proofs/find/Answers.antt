@@ -21,8 +21,8 @@ accepted c =
     (sym c.in-Good.is ∙ c.check.ensures)
 
 -- Where its order was asked.
-ordered : (c : After-is_big-big) → CheckedIn (order_from c.is_big-big.result) ((c.args.file.now))
-ordered c = checked_in ((let it : Checked ((c.args.file.now)) = checked (Bytes-from ((c.args.file.now)) (λ i l. omega (arith, c.type_inv.file i)))
+ordered : (c : After-is_big-big) → CheckedIn (order_from c.is_big-big.result) c.args.file.now
+ordered c = checked_in ((let it : Checked c.args.file.now = checked (Bytes-from c.args.file.now (λ i l. omega (arith, c.type_inv.file i)))
     (sym c.in-Good.is ∙ c.check.ensures) in it)) c.is_big-big.ensures
 
 pub word_at-requires : goal.word_at-requires

@@ -59,7 +59,13 @@ slice_bounds-records-start-in-loop-records c = record_stays c
 
 pub overflow_add-place-in-loop-records : goal.overflow_add-place-in-loop-records
 overflow_add-place-in-loop-records c =
-    omega (arith, record_stays (goal.at.overflow_add-place-in-loop-records c).After-word_at-in-loop-records-2, c.loop-records.invariant.1.ends, event_stays (goal.at.overflow_add-place-in-loop-records c).After-word_at, c.events.invariant.1.within)
+    omega (
+      arith,
+      record_stays (goal.at.overflow_add-place-in-loop-records c).After-word_at-in-loop-records-2,
+      c.loop-records.invariant.1.ends,
+      event_stays (goal.at.overflow_add-place-in-loop-records c).After-word_at,
+      c.events.invariant.1.within,
+    )
 
 pub loop-records-smaller : goal.loop-records-smaller
 loop-records-smaller c = omega (arith, record_stays (goal.at.loop-records-smaller c).After-word_at-in-loop-records-2)

@@ -21,7 +21,8 @@ sought o number code from part = first_match number code (traces_read o from (re
 abbrev pub invariant-loop-records : goal.invariant-loop-records
 invariant-loop-records l =
     (let o = order_from l.big in
-    (l.found ≡ Nothing) × Looking o l.number l.code (sought o l.number l.code l.from l.part) (l.at + l.size) (later_traces o l.size l.at l.rest) l.place l.records)
+    (l.found ≡ Nothing) × Looking o l.number l.code (sought o l.number l.code l.from l.part) (l.at + l.size)
+    (later_traces o l.size l.at l.rest) l.place l.records)
 
 abbrev pub decreases-loop-records : goal.decreases-loop-records
 decreases-loop-records l = length l.records

@@ -33,4 +33,5 @@ overflow_add-result-2 c = omega (arith, long (goal.at.overflow_add-result-2 c).A
 pub returns : goal.returns
 returns c =
     let a = c.args in
-    number_put a.out.now a.at c.decimal-k.result a.n a.behind _ _ (spelled (goal.at.returns c).After-decimal-k) (long (goal.at.returns c).After-decimal-k) c.put_part.ensures
+    number_put a.out.now a.at c.decimal-k.result a.n a.behind _ _ (spelled (goal.at.returns c).After-decimal-k)
+    (long (goal.at.returns c).After-decimal-k) c.put_part.ensures

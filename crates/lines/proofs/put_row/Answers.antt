@@ -24,12 +24,24 @@ put_number-next-requires c =
 
 pub put_line-requires : goal.put_line-requires
 put_line-requires c =
-    omega (arith, row-part c.args.rows.now c.args.i c.requires.0, (number_ended (goal.at.put_line-requires c).After-put_number-next).0, (number_ended (goal.at.put_line-requires c).After-put_number-next).1, c.requires.1)
+    omega (
+      arith,
+      row-part c.args.rows.now c.args.i c.requires.0,
+      (number_ended (goal.at.put_line-requires c).After-put_number-next).0,
+      (number_ended (goal.at.put_line-requires c).After-put_number-next).1,
+      c.requires.1,
+    )
 
 pub returns : goal.returns
 returns c =
     let a = c.args in record {
       put = row_put a.out.now a.at a.rows.now a.i c.put_number-next.result c.put_line.result c.put_number-next.new.out
           c.put_line.new.out c.requires.0 c.put_number-next.ensures c.put_line.ensures.put;
-      upper_bound = omega (arith, row-part a.rows.now a.i c.requires.0, (number_ended (goal.at.returns c).After-put_number-next).0, c.put_line.ensures.upper_bound);
+      upper_bound =
+          omega (
+            arith,
+            row-part a.rows.now a.i c.requires.0,
+            (number_ended (goal.at.returns c).After-put_number-next).0,
+            c.put_line.ensures.upper_bound,
+          );
     }

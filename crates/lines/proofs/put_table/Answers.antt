@@ -12,7 +12,8 @@ use Rattle.lines.proofs.put_table.Goals.{Else-not-has_room}
 has : (c : Else-not-has_room) → has_room c.listed_rows-listed.result (length c.args.rows.now) (length c.args.out.now) ≡ true
 has c = sym c.has_room.ensures ∙ c.if-not-has_room.false
 
-room : (c : Else-not-has_room) → (let n = c.listed_rows-listed.result in let a = c.args in (n * 6 ≤ length a.rows.now) × (63 + n * 87 ≤ length a.out.now))
+room : (c : Else-not-has_room) → (let n = c.listed_rows-listed.result in let a = c.args in
+    (n * 6 ≤ length a.rows.now) × (63 + n * 87 ≤ length a.out.now))
 room c = let a = c.args in room_shown c.listed_rows-listed.result (length a.rows.now) (length a.out.now) (has c)
 
 pub returns-then-not-has_room : goal.returns-then-not-has_room
@@ -37,7 +38,12 @@ returns c =
     let listed = c.listed_rows-listed in
     let one = c.put_answer-next in
     let more = c.put_rows in
-    let end : more.result ≤ length a.out.now = omega (arith, (room (goal.at.returns c).Else-not-has_room).1, one.ensures.upper_bound, more.ensures.upper_bound) in
+    let end : more.result ≤ length a.out.now = omega (
+      arith,
+      (room (goal.at.returns c).Else-not-has_room).1,
+      one.ensures.upper_bound,
+      more.ensures.upper_bound,
+    ) in
     let (value, (out_after, prefix_len)) =
     both_put a.out.now a.rows.now a.answer listed.result one.result more.result one.new.out more.new.out listed.ensures
     (has (goal.at.returns c).Else-not-has_room) end one.ensures.put more.ensures.put in

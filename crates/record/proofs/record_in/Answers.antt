@@ -30,9 +30,10 @@ named c = record {
   known = sym c.is_kind.ensures ∙ c.if-not-is_kind.false;
 }
 
-sized : (c : Else-room-length) → Sized ((order_from c.args.big)) ((context_of c.args.context)) ((c.args.part.now)) ((c.word_at-word.result)) c.word_at-length.result
+sized : (c : Else-room-length) → Sized (order_from c.args.big) (context_of c.args.context) c.args.part.now
+    c.word_at-word.result c.word_at-length.result
 sized c = record {
-  named = (let it : Named ((order_from c.args.big)) ((context_of c.args.context)) ((c.args.part.now)) ((c.word_at-word.result)) = record {
+  named = (let it : Named (order_from c.args.big) (context_of c.args.context) c.args.part.now c.word_at-word.result = record {
     room = c.if-room-lt-FRONT.false;
     kind-is = c.word_at-word.ensures;
     known = sym c.is_kind.ensures ∙ c.if-not-is_kind.false;
@@ -42,7 +43,7 @@ sized c = record {
 }
 
 -- Where the record may stand.
-allowed : (c : Else-not-is_allowed) → is_allowed ((context_of c.args.context)) ((c.word_at-word.result)) ≡ true
+allowed : (c : Else-not-is_allowed) → is_allowed (context_of c.args.context) c.word_at-word.result ≡ true
 allowed c = sym c.is_allowed.ensures ∙ c.if-not-is_allowed.false
 
 pub returns-then-room-lt-FRONT : goal.returns-then-room-lt-FRONT
@@ -58,11 +59,13 @@ pub returns-then-room-length : goal.returns-then-room-length
 returns-then-room-length c = long (named (goal.at.returns-then-room-length c).Else-not-is_kind) _ _ c.word_at-length.ensures c.if-room-length.true
 
 pub returns-then-not-is_allowed : goal.returns-then-not-is_allowed
-returns-then-not-is_allowed c = misplaced (sized (goal.at.returns-then-not-is_allowed c).Else-room-length) _ (sym c.is_allowed.ensures ∙ c.if-not-is_allowed.true)
+returns-then-not-is_allowed c =
+    misplaced (sized (goal.at.returns-then-not-is_allowed c).Else-room-length) _ (sym c.is_allowed.ensures ∙ c.if-not-is_allowed.true)
 
 pub returns-then-fault-ne0 : goal.returns-then-fault-ne0
 returns-then-fault-ne0 c =
-    fault (sized (goal.at.returns-then-fault-ne0 c).Else-room-length) _ (allowed (goal.at.returns-then-fault-ne0 c).Else-not-is_allowed) _ c.rule-fault.ensures c.if-fault-ne0.true
+    fault (sized (goal.at.returns-then-fault-ne0 c).Else-room-length) _
+    (allowed (goal.at.returns-then-fault-ne0 c).Else-not-is_allowed) _ c.rule-fault.ensures c.if-fault-ne0.true
 
 pub returns : goal.returns
 returns c =

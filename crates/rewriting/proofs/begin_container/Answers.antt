@@ -10,7 +10,8 @@ use Rattle.rewriting.proofs.begin_container.Goals as goal
 use Rattle.rewriting.proofs.begin_container.Goals.{After-event_type_of-event_type}
 
 -- Where the word was taken apart: it is an event's.
-apart : (c : After-event_type_of-event_type) → (let class = c.class_of-class.result in let category = c.category_of-category.result in let type = c.event_type_of-event_type.result in (event_fault class category type ≡ 0) × (event_word class category type ≡ c.args.word))
+apart : (c : After-event_type_of-event_type) → (let class = c.class_of-class.result in let category = c.category_of-category.result in
+    let type = c.event_type_of-event_type.result in (event_fault class category type ≡ 0) × (event_word class category type ≡ c.args.word))
 apart c =
     event_begins _ _ _ _ c.class_of-class.ensures c.category_of-category.ensures c.event_type_of-event_type.ensures
     c.requires.word c.if-word-eq-CONFIGURATION.false
@@ -28,4 +29,5 @@ pub returns : goal.returns
 returns c =
     let a = c.args in
     c.begin_event.ensures
-    ∙ ap (λ (w : ℕ). sets a.out.now a.place (closing_bytes (order_from a.big) w a.place a.end)) (apart (goal.at.returns c).After-event_type_of-event_type).1
+    ∙ ap (λ (w : ℕ). sets a.out.now a.place (closing_bytes (order_from a.big) w a.place a.end))
+    (apart (goal.at.returns c).After-event_type_of-event_type).1

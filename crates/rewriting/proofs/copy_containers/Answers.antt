@@ -12,7 +12,9 @@ use Rattle.rewriting.proofs.copy_containers.Goals as goal
 use Rattle.rewriting.proofs.copy_containers.Goals.{After-word_at, In-loop-rest}
 
 -- Where a container's two words were read: they are the next container's, which fits what is left and ends within the limit.
-found : (c : After-word_at) → (let a = c.args in let l = c.loop-rest in Found (container_item (order_from a.big)) (order_from a.big) a.out.now a.place a.part.now l.out l.rest.now l.at c.word_at-word.result c.word_at.result)
+found : (c : After-word_at) → (let a = c.args in let l = c.loop-rest in
+    Found (container_item (order_from a.big))
+    (order_from a.big) a.out.now a.place a.part.now l.out l.rest.now l.at c.word_at-word.result c.word_at.result)
 found c =
     record { so_far = c.loop-rest.invariant; more = c.loop-rest-test.true; kind-is = c.word_at-word.ensures; length-is = c.word_at.ensures }
 

@@ -24,7 +24,8 @@ enough c = words_fit _ _ c.args.out.now (held c) c.requires
 header : (c : After-write_header) → Laid c.args.out.now c.write_header.new.out 0 8 (header_bytes (order_from c.args.big) c.requires.parts.0)
 header c =
     let version = c.word_at-version in
-    header_copied _ _ _ ((let it : Bytes c.args.file.now = Bytes-from c.args.file.now (λ i l. omega (arith, c.type_inv.file i)) in it)) c.requires _ _ _ version.ensures
+    header_copied _ _ _ ((let it : Bytes c.args.file.now = Bytes-from c.args.file.now (λ i l. omega (arith, c.type_inv.file i)) in
+    it)) c.requires _ _ _ version.ensures
     (and_mask (version.result / 16777216) 8) (and_mask (version.result / 65536) 8) _ c.write_header.ensures.output
 
 pub word_at-version-requires : goal.word_at-version-requires
@@ -44,8 +45,10 @@ slice_bounds-copy_containers-start c = omega (arith, enough (goal.at.slice_bound
 
 pub copy_containers-requires : goal.copy_containers-requires
 copy_containers-requires c =
-    containers_ready _ _ _ (held (goal.at.copy_containers-requires c).After-slice_known-1) c.requires _ (header (goal.at.copy_containers-requires c).After-write_header)
+    containers_ready _ _ _ (held (goal.at.copy_containers-requires c).After-slice_known-1) c.requires _
+    (header (goal.at.copy_containers-requires c).After-write_header)
 
 pub returns : goal.returns
 returns c =
-    file_copied _ _ _ (held (goal.at.returns c).After-slice_known-1) c.requires _ (header (goal.at.returns c).After-write_header) _ c.copy_containers.ensures
+    file_copied _ _ _ (held (goal.at.returns c).After-slice_known-1) c.requires _
+    (header (goal.at.returns c).After-write_header) _ c.copy_containers.ensures

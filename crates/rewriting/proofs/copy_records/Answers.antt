@@ -16,7 +16,9 @@ sized : (c : After-word_at) → (8 + c.word_at.result ≤ length c.loop-rest.res
 sized c = record_fits c.loop-rest.invariant c.loop-rest-test.true _ c.word_at.ensures
 
 -- Where both its words were read: they are the next record's.
-found : (c : After-word_at-in-loop-rest) → (let a = c.args in let l = c.loop-rest in Found (record_item (order_from a.big)) (order_from a.big) a.out.now a.place a.part.now l.out l.rest.now l.at c.word_at-in-loop-rest.result c.word_at.result)
+found : (c : After-word_at-in-loop-rest) → (let a = c.args in let l = c.loop-rest in
+    Found (record_item (order_from a.big))
+    (order_from a.big) a.out.now a.place a.part.now l.out l.rest.now l.at c.word_at-in-loop-rest.result c.word_at.result)
 found c =
     record { so_far = c.loop-rest.invariant; more = c.loop-rest-test.true; kind-is = c.word_at-in-loop-rest.ensures; length-is = c.word_at.ensures }
 

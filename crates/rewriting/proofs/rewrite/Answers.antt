@@ -16,7 +16,9 @@ held c = Bytes-from c.args.file.now (λ i l. omega (arith, c.type_inv.file i))
 
 -- Where the file was accepted.
 accepted : (c : In-Good) → Checked c.args.file.now
-accepted c = checked ((let it : Bytes c.args.file.now = Bytes-from c.args.file.now (λ i l. omega (arith, c.type_inv.file i)) in it)) (sym c.in-Good.is ∙ c.check.ensures)
+accepted c =
+    checked ((let it : Bytes c.args.file.now = Bytes-from c.args.file.now (λ i l. omega (arith, c.type_inv.file i)) in
+    it)) (sym c.in-Good.is ∙ c.check.ensures)
 
 pub returns-then-out-gt-FILE_LIMIT : goal.returns-then-out-gt-FILE_LIMIT
 unfolding given_writer
@@ -26,7 +28,8 @@ returns-then-out-gt-FILE_LIMIT c =
 pub returns-then-out-file : goal.returns-then-out-file
 unfolding given_writer
 returns-then-out-file c =
-    let (answer, output) = no_room (accepted (goal.at.returns-then-out-file c).In-Good) _ c.if-out-gt-FILE_LIMIT.false c.if-out-file.true in record { answer = answer; output = output }
+    let (answer, output) = no_room (accepted (goal.at.returns-then-out-file c).In-Good) _ c.if-out-gt-FILE_LIMIT.false c.if-out-file.true in
+    record { answer = answer; output = output }
 
 pub copy_file-requires : goal.copy_file-requires
 copy_file-requires c =
@@ -35,9 +38,11 @@ copy_file-requires c =
 pub returns-in-Bad : goal.returns-in-Bad
 unfolding given_writer
 returns-in-Bad c =
-    let (answer, output) = file-refuses _ _ c.if-out-gt-FILE_LIMIT.false _ _ (sym c.in-Bad.is ∙ c.check.ensures) in record { answer = answer; output = output }
+    let (answer, output) = file-refuses _ _ c.if-out-gt-FILE_LIMIT.false _ _ (sym c.in-Bad.is ∙ c.check.ensures) in
+    record { answer = answer; output = output }
 
 pub returns-else-out-file : goal.returns-else-out-file
 unfolding given_writer
 returns-else-out-file c =
-    let (answer, output) = rewrites (accepted (goal.at.returns-else-out-file c).In-Good) _ c.if-out-gt-FILE_LIMIT.false c.if-out-file.false _ c.copy_file.ensures in record { answer = answer; output = output }
+    let (answer, output) = rewrites (accepted (goal.at.returns-else-out-file c).In-Good) _ c.if-out-gt-FILE_LIMIT.false c.if-out-file.false _
+    c.copy_file.ensures in record { answer = answer; output = output }

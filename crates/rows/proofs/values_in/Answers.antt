@@ -17,7 +17,8 @@ follows : (c : Then-s-eq-HISTORY_ROW) → history_rule (order_from c.args.big) c
 follows c = history-follows _ _ _ c.value_places-s.ensures c.requires.0 c.if-s-eq-HISTORY_ROW.true
 
 -- Where it isn't: both words lie in the body.
-inside : (c : Else-s-eq-HISTORY_ROW) → (c.value_places-s.result.one + 4 ≤ length c.args.b.now) × (c.value_places-s.result.two + 4 ≤ length c.args.b.now)
+inside : (c : Else-s-eq-HISTORY_ROW) → (c.value_places-s.result.one + 4 ≤ length c.args.b.now)
+    × (c.value_places-s.result.two + 4 ≤ length c.args.b.now)
 inside c = others-room _ _ _ c.value_places-s.ensures c.requires.0 c.if-s-eq-HISTORY_ROW.false
 
 pub section_end-middle-requires : goal.section_end-middle-requires
@@ -29,7 +30,8 @@ pub word_at-requires : goal.word_at-requires
 word_at-requires c = omega (arith, trigger-count _ _ (follows (goal.at.word_at-requires c).Then-s-eq-HISTORY_ROW))
 
 pub word_at-requires-then-s-eq-HISTORY_ROW : goal.word_at-requires-then-s-eq-HISTORY_ROW
-word_at-requires-then-s-eq-HISTORY_ROW c = rw c.section_end-middle.ensures (trigger-count _ _ (follows (goal.at.word_at-requires-then-s-eq-HISTORY_ROW c).Then-s-eq-HISTORY_ROW))
+word_at-requires-then-s-eq-HISTORY_ROW c =
+    rw c.section_end-middle.ensures (trigger-count _ _ (follows (goal.at.word_at-requires-then-s-eq-HISTORY_ROW c).Then-s-eq-HISTORY_ROW))
 
 pub returns-then-s-eq-HISTORY_ROW : goal.returns-then-s-eq-HISTORY_ROW
 returns-then-s-eq-HISTORY_ROW c =

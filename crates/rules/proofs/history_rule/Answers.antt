@@ -22,27 +22,40 @@ body c = c.args.b.now
 abbrev order : (c : Else-room-ne0) → Order
 order c = order_from c.args.big
 
-sized : (c : Else-room-ne0) → history_rule (order c) (body c) ≡ first (section_rule (order c) false 0 (body c) ∷ section_rule (order c) true (end_at (order c) 0 (body c)) (body c) ∷ unless (eqb (length (body c)) (end_at (order c) (end_at (order c) 0 (body c)) (body c))) 6 ∷ [])
+sized : (c : Else-room-ne0) → history_rule (order c) (body c) ≡ first (section_rule (order c) false 0 (body c)
+    ∷ section_rule (order c) true (end_at (order c) 0 (body c)) (body c)
+    ∷ unless (eqb (length (body c)) (end_at (order c) (end_at (order c) 0 (body c)) (body c))) 6 ∷ [])
 unfolding history_rule first
 sized c = rw (le-leb _ _ c.if-room-lt16.false, eq-eqb _ _ c.if-room-ne0.false)
 
 -- Where the veto section has passed: it follows its rule.
-veto_passed : (c : Else-veto-ne0) → section_rule ((order_from c.args.big)) false 0 ((c.args.b.now)) ≡ 0
+veto_passed : (c : Else-veto-ne0) → section_rule (order_from c.args.big) false 0 c.args.b.now ≡ 0
 veto_passed c = sym c.section_rule-veto.ensures ∙ c.if-veto-ne0.false
 
 abbrev asked : (c : Else-trigger-ne0) → Order
 asked c = (order_from c.args.big)
 
 abbrev whole : (c : Else-trigger-ne0) → List ℕ
-whole c = (c.args.b.now)
+whole c = c.args.b.now
 
 trigger_passed : (c : Else-trigger-ne0) → section_rule (asked c) true c.section_end-middle.result (whole c) ≡ 0
 trigger_passed c = sym c.section_rule-trigger.ensures ∙ c.if-trigger-ne0.false
 
-end_asked : (c : Else-trigger-ne0) → history_rule (asked c) (whole c) ≡ first (unless (eqb (length (whole c)) (end_at (asked c) c.section_end-middle.result (whole c))) 6 ∷ [])
+end_asked : (c : Else-trigger-ne0) → history_rule (asked c) (whole c) ≡ first
+    (unless (eqb (length (whole c)) (end_at (asked c) c.section_end-middle.result (whole c))) 6 ∷ [])
 unfolding first history_rule
 end_asked c =
-    rw ((let it : history_rule ((order_from c.args.big)) ((c.args.b.now)) ≡ first (section_rule ((order_from c.args.big)) false 0 ((c.args.b.now)) ∷ section_rule ((order_from c.args.big)) true (end_at ((order_from c.args.big)) 0 ((c.args.b.now))) ((c.args.b.now)) ∷ unless (eqb (length ((c.args.b.now))) (end_at ((order_from c.args.big)) (end_at ((order_from c.args.big)) 0 ((c.args.b.now))) ((c.args.b.now)))) 6 ∷ []) = rw (le-leb _ _ c.if-room-lt16.false, eq-eqb _ _ c.if-room-ne0.false) in it), (let it : section_rule ((order_from c.args.big)) false 0 ((c.args.b.now)) ≡ 0 = sym c.section_rule-veto.ensures ∙ c.if-veto-ne0.false in it), ← c.section_end-middle.ensures, trigger_passed c)
+    rw (
+      (let it : history_rule (order_from c.args.big) c.args.b.now ≡ first (section_rule (order_from c.args.big) false 0 c.args.b.now
+          ∷ section_rule (order_from c.args.big) true (end_at (order_from c.args.big) 0 c.args.b.now) c.args.b.now
+          ∷ unless (eqb (length c.args.b.now) (end_at (order_from c.args.big) (end_at (order_from c.args.big) 0 c.args.b.now)
+          c.args.b.now)) 6 ∷ []) = rw (le-leb _ _ c.if-room-lt16.false, eq-eqb _ _ c.if-room-ne0.false) in
+          it),
+      (let it : section_rule (order_from c.args.big) false 0 c.args.b.now ≡ 0 = sym c.section_rule-veto.ensures
+          ∙ c.if-veto-ne0.false in it),
+      ← c.section_end-middle.ensures,
+      trigger_passed c,
+    )
 
 pub returns-then-room-lt16 : goal.returns-then-room-lt16
 unfolding history_rule first
@@ -54,7 +67,8 @@ returns-then-room-ne0 c = rw (le-leb _ _ c.if-room-lt16.false, ne_eqb _ _ c.if-r
 
 pub returns-then-veto-ne0 : goal.returns-then-veto-ne0
 unfolding first
-returns-then-veto-ne0 c = rw (sized (goal.at.returns-then-veto-ne0 c).Else-room-ne0, ← c.section_rule-veto.ensures, positive c.section_rule-veto.result c.if-veto-ne0.true)
+returns-then-veto-ne0 c =
+    rw (sized (goal.at.returns-then-veto-ne0 c).Else-room-ne0, ← c.section_rule-veto.ensures, positive c.section_rule-veto.result c.if-veto-ne0.true)
 
 pub section_end-middle-requires : goal.section_end-middle-requires
 section_end-middle-requires c =
@@ -84,7 +98,8 @@ section_end-requires c =
 
 pub returns-then-room-section_end : goal.returns-then-room-section_end
 unfolding first
-returns-then-room-section_end c = rw (end_asked (goal.at.returns-then-room-section_end c).Else-trigger-ne0, ← c.section_end.ensures, ne_eqb _ _ c.if-room-section_end.true)
+returns-then-room-section_end c =
+    rw (end_asked (goal.at.returns-then-room-section_end c).Else-trigger-ne0, ← c.section_end.ensures, ne_eqb _ _ c.if-room-section_end.true)
 
 pub returns : goal.returns
 unfolding first

@@ -12,7 +12,9 @@ found : (c : In-Good) → Found (order_from c.args.big) c.args.file.now c.args.p
 found c = good-found c.in-Good.is c.record_found.ensures
 
 trace : (c : Else-word-ne-TRACE) → (let a = c.args in Found (order_from a.big) a.file.now a.place 0x11 c.in-Good.length)
-trace c = trace-found ((let it : Found (order_from c.args.big) c.args.file.now c.args.place c.in-Good.word c.in-Good.length = good-found c.in-Good.is c.record_found.ensures in it)) c.if-word-ne-TRACE.false
+trace c =
+    trace-found ((let it : Found (order_from c.args.big) c.args.file.now c.args.place c.in-Good.word c.in-Good.length = good-found c.in-Good.is
+    c.record_found.ensures in it)) c.if-word-ne-TRACE.false
 
 pub returns-then-word-ne-TRACE : goal.returns-then-word-ne-TRACE
 unfolding given_sample
@@ -48,7 +50,8 @@ sample_of-requires c =
 pub returns-else-number-length : goal.returns-else-number-length
 unfolding given_sample
 returns-else-number-length c =
-    sample_given_lem (trace (goal.at.returns-else-number-length c).Else-word-ne-TRACE) _ c.if-number-lt1.false c.if-number-length.false c.sample_of.ensures
+    sample_given_lem (trace (goal.at.returns-else-number-length c).Else-word-ne-TRACE) _ c.if-number-lt1.false c.if-number-length.false
+    c.sample_of.ensures
 
 pub returns-in-Bad : goal.returns-in-Bad
 unfolding given_sample sample_at

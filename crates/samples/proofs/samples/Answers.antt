@@ -10,7 +10,9 @@ found : (c : In-Good) → Found (order_from c.args.big) c.args.file.now c.args.p
 found c = good-found c.in-Good.is c.record_found.ensures
 
 trace : (c : Then-word-eq-TRACE) → (let a = c.args in Found (order_from a.big) a.file.now a.place 0x11 c.in-Good.length)
-trace c = trace-found ((let it : Found (order_from c.args.big) c.args.file.now c.args.place c.in-Good.word c.in-Good.length = good-found c.in-Good.is c.record_found.ensures in it)) c.if-word-eq-TRACE.true
+trace c =
+    trace-found ((let it : Found (order_from c.args.big) c.args.file.now c.args.place c.in-Good.word c.in-Good.length = good-found c.in-Good.is
+    c.record_found.ensures in it)) c.if-word-eq-TRACE.true
 
 pub overflow_add-result : goal.overflow_add-result
 overflow_add-result c = omega (arith, trace c)
@@ -31,7 +33,8 @@ pub slice_bounds-result-end : goal.slice_bounds-result-end
 slice_bounds-result-end c = (trace c).fits
 
 pub returns-then-word-eq-TRACE : goal.returns-then-word-eq-TRACE
-returns-then-word-eq-TRACE c = let g = trace (goal.at.returns-then-word-eq-TRACE c).Then-word-eq-TRACE in record { bytes = part-given g; own = rw (part-found g) }
+returns-then-word-eq-TRACE c = let g = trace (goal.at.returns-then-word-eq-TRACE c).Then-word-eq-TRACE in
+    record { bytes = part-given g; own = rw (part-found g) }
 
 pub returns-else-word-eq-TRACE : goal.returns-else-word-eq-TRACE
 returns-else-word-eq-TRACE c =

@@ -9,7 +9,8 @@ use Rattle.note.specs.Words.{words}
 use Rattle.stores.proofs.put_words.Given as goal
 
 abbrev pub invariant-loop-i : goal.invariant-loop-i
-invariant-loop-i l = (l.i ≤ length l.ws) × (length l.out ≡ length l.initial.out) × (l.out ≡ sets l.initial.out l.at (words (order_from l.big) (take l.i l.ws)))
+invariant-loop-i l =
+    (l.i ≤ length l.ws) × (length l.out ≡ length l.initial.out) × (l.out ≡ sets l.initial.out l.at (words (order_from l.big) (take l.i l.ws)))
 
 abbrev pub decreases-loop-i : goal.decreases-loop-i
 decreases-loop-i l = length l.ws - l.i

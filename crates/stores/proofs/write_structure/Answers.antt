@@ -13,14 +13,24 @@ use Rattle.stores.proofs.write_structure.Goals as goal
 use Rattle.stores.proofs.write_structure.Goals.{After-admitted, In-Next}
 
 -- `admitted` was asked the structure's fault and size.
-admitted : (c : After-admitted) → (let a = c.args in Admitted a.out.now a.place (structure_draft (order_from a.big) a.fault a.word a.ws.now a.bytes.now) c.admitted.result)
+admitted : (c : After-admitted) → (let a = c.args in
+    Admitted a.out.now a.place (structure_draft (order_from a.big) a.fault a.word a.ws.now a.bytes.now) c.admitted.result)
 admitted c = record { fault = _; size = _; fault-is = refl; size_is = λ z. structured-size _ _ _ _; said = c.admitted.ensures }
 
 -- Where the next place was answered: the limit, and room for the structure.
-room : (c : In-Next) → (let a = c.args in (length a.out.now ≤ file_limit) × (a.place + (8 + (4 * length a.ws.now + length a.bytes.now)) ≤ length a.out.now))
+room : (c : In-Next) → (let a = c.args in
+    (length a.out.now ≤ file_limit) × (a.place + (8 + (4 * length a.ws.now + length a.bytes.now)) ≤ length a.out.now))
 room c =
     let a = c.args in
-    let (limit, fits) = has_room ((let it : (let a = c.args in Admitted a.out.now a.place (structure_draft (order_from a.big) a.fault a.word a.ws.now a.bytes.now) c.admitted.result) = record { fault = _; size = _; fault-is = refl; size_is = λ z. structured-size _ _ _ _; said = c.admitted.ensures } in it)) c.in-Next.is in
+    let (limit, fits) = has_room ((let it : (let a = c.args in
+    Admitted a.out.now a.place (structure_draft (order_from a.big) a.fault a.word a.ws.now a.bytes.now) c.admitted.result) = record {
+      fault =
+          _;
+      size = _;
+      fault-is = refl;
+      size_is = λ z. structured-size _ _ _ _;
+      said = c.admitted.ensures;
+    } in it)) c.in-Next.is in
     (limit, omega (arith, fits, structured-size (order_from a.big) a.word a.ws.now a.bytes.now))
 
 pub slice_bounds-put_structure-count : goal.slice_bounds-put_structure-count

@@ -17,16 +17,23 @@ held c = Bytes-from c.args.file.now (λ i l. omega (arith, c.type_inv.file i))
 
 -- Where the length word was read: the configuration fits the file, which is within the limit.
 whole : (c : After-word_at) → (16 + c.word_at.result ≤ length c.args.file.now) × (length c.args.file.now ≤ file_limit)
-whole c = sized c.requires ((let it : Bytes c.args.file.now = Bytes-from c.args.file.now (λ i l. omega (arith, c.type_inv.file i)) in it)) _ c.word_at.ensures
+whole c = sized c.requires ((let it : Bytes c.args.file.now = Bytes-from c.args.file.now (λ i l. omega (arith, c.type_inv.file i)) in
+    it)) _ c.word_at.ensures
 
 -- Where the header's row was stored: what the buffer holds.
 begun : (c : After-put_row) → (let a = c.args in Begun (order_from a.big) a.file.now a.rows.now c.word_at.result c.put_row.new.rows)
 begun c =
-    begin ((let it : Bytes c.args.file.now = Bytes-from c.args.file.now (λ i l. omega (arith, c.type_inv.file i)) in it)) c.requires _ c.word_at.ensures _ c.word_at-2.ensures _ c.put_row.ensures
+    begin ((let it : Bytes c.args.file.now = Bytes-from c.args.file.now (λ i l. omega (arith, c.type_inv.file i)) in
+    it)) c.requires _ c.word_at.ensures _ c.word_at-2.ensures _ c.put_row.ensures
 
 -- Where the entries' rows were stored: how many they are, and the buffer as long as before.
-rows : (c : After-fill_records-next) → (2 ≤ c.fill_records-next.result) × (c.fill_records-next.result ≤ 2 + c.word_at.result) × (length c.fill_records-next.new.rows ≡ length c.args.rows.now)
-rows c = next_row ((let it : (let a = c.args in Begun (order_from a.big) a.file.now a.rows.now c.word_at.result c.put_row.new.rows) = begin ((let it : Bytes c.args.file.now = Bytes-from c.args.file.now (λ i l. omega (arith, c.type_inv.file i)) in it)) c.requires _ c.word_at.ensures _ c.word_at-2.ensures _ c.put_row.ensures in it)) _ _ c.fill_records-next.ensures
+rows : (c : After-fill_records-next) → (2 ≤ c.fill_records-next.result) × (c.fill_records-next.result ≤ 2 + c.word_at.result)
+    × (length c.fill_records-next.new.rows ≡ length c.args.rows.now)
+rows c =
+    next_row ((let it : (let a = c.args in
+    Begun (order_from a.big) a.file.now a.rows.now c.word_at.result c.put_row.new.rows) = begin
+    ((let it : Bytes c.args.file.now = Bytes-from c.args.file.now (λ i l. omega (arith, c.type_inv.file i)) in
+    it)) c.requires _ c.word_at.ensures _ c.word_at-2.ensures _ c.put_row.ensures in it)) _ _ c.fill_records-next.ensures
 
 pub word_at-requires : goal.word_at-requires
 word_at-requires c = let (fits, limit) = sized c.requires (held c) _ refl in omega (arith, fits)

@@ -21,7 +21,9 @@ whole : (c : After-word_at) → (8 + c.word_at.result ≤ length c.loop-rest.res
 whole c = sized c.loop-rest.invariant c.requires c.loop-rest-test.true _ c.word_at.ensures
 
 -- Where its records were filled: its own row's index lies below the next, which is no more than the place behind it, and its row fits.
-rows : (c : After-fill_records-next) → (c.loop-rest.n + 1 ≤ c.fill_records-next.result) × (c.fill_records-next.result ≤ c.loop-rest.at + (8 + c.word_at.result)) × (c.loop-rest.n * row_width + row_width ≤ length c.fill_records-next.new.rows)
+rows : (c : After-fill_records-next) → (c.loop-rest.n + 1 ≤ c.fill_records-next.result)
+    × (c.fill_records-next.result ≤ c.loop-rest.at + (8 + c.word_at.result))
+    × (c.loop-rest.n * row_width + row_width ≤ length c.fill_records-next.new.rows)
 rows c =
     next_row c.loop-rest.invariant c.requires c.loop-rest-test.true _ c.word_at.ensures _ _ c.fill_records-next.ensures
 
@@ -41,7 +43,8 @@ pub overflow_add-n : goal.overflow_add-n
 overflow_add-n c = omega (arith, whole (goal.at.overflow_add-n c).After-word_at, few (goal.at.overflow_add-n c).In-loop-rest)
 
 pub overflow_add-n-in-loop-rest : goal.overflow_add-n-in-loop-rest
-overflow_add-n-in-loop-rest c = omega (arith, whole (goal.at.overflow_add-n-in-loop-rest c).After-word_at, few (goal.at.overflow_add-n-in-loop-rest c).In-loop-rest)
+overflow_add-n-in-loop-rest c =
+    omega (arith, whole (goal.at.overflow_add-n-in-loop-rest c).After-word_at, few (goal.at.overflow_add-n-in-loop-rest c).In-loop-rest)
 
 pub overflow_cast-n : goal.overflow_cast-n
 overflow_cast-n c = omega (arith, whole (goal.at.overflow_cast-n c).After-word_at, few (goal.at.overflow_cast-n c).In-loop-rest)

@@ -13,7 +13,8 @@ counted c = sym c.in-Good.is ∙ c.check.ensures
 
 pub returns-then-rows-count : goal.returns-then-rows-count
 returns-then-rows-count c =
-    let (answer, buffer) = too_few _ _ _ (counted (goal.at.returns-then-rows-count c).In-Good) c.if-rows-count.true in record { answer = answer; buffer = buffer }
+    let (answer, buffer) = too_few _ _ _ (counted (goal.at.returns-then-rows-count c).In-Good) c.if-rows-count.true in
+    record { answer = answer; buffer = buffer }
 
 pub fill-requires : goal.fill-requires
 fill-requires c =
@@ -25,4 +26,5 @@ returns-in-Bad c =
 
 pub returns-else-rows-count : goal.returns-else-rows-count
 returns-else-rows-count c =
-    let (answer, buffer) = filled _ _ _ (counted (goal.at.returns-else-rows-count c).In-Good) c.if-rows-count.false _ c.fill.ensures in record { answer = answer; buffer = buffer }
+    let (answer, buffer) = filled _ _ _ (counted (goal.at.returns-else-rows-count c).In-Good) c.if-rows-count.false _ c.fill.ensures in
+    record { answer = answer; buffer = buffer }

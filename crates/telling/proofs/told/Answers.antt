@@ -9,7 +9,7 @@ abbrev lent : (c : Start) → Before
 lent c = record { next = c.args.next.now; refusal = c.args.refusal.now }
 
 pub returns-in-Next : goal.returns-in-Next
-returns-in-Next c = tells_next ((let it : Before = record { next = c.args.next.now; refusal = c.args.refusal.now } in it)) c.in-Next.is
+returns-in-Next c = tells_next (let it : Before = record { next = c.args.next.now; refusal = c.args.refusal.now } in it) c.in-Next.is
 
 pub returns-in-Refused : goal.returns-in-Refused
-returns-in-Refused c = tells_refusal ((let it : Before = record { next = c.args.next.now; refusal = c.args.refusal.now } in it)) c.in-Refused.is
+returns-in-Refused c = tells_refusal (let it : Before = record { next = c.args.next.now; refusal = c.args.refusal.now } in it) c.in-Refused.is

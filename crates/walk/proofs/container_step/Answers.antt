@@ -14,7 +14,11 @@ here : (c : Else-not-stands) → stands (order_from c.args.big) c.args.part.now 
 here c = sym c.stands.ensures ∙ c.if-not-stands.false
 
 found : (c : After-word_at) → Found (order_from c.args.big) c.args.part.now c.word_at.result
-found c = record { is-here = (let it : stands (order_from c.args.big) c.args.part.now ≡ true = sym c.stands.ensures ∙ c.if-not-stands.false in it); length-is = c.word_at.ensures }
+found c = record {
+  is-here = (let it : stands (order_from c.args.big) c.args.part.now ≡ true = sym c.stands.ensures ∙ c.if-not-stands.false in
+      it);
+  length-is = c.word_at.ensures;
+}
 
 pub returns-then-not-stands : goal.returns-then-not-stands
 returns-then-not-stands c = c.stayed.ensures ∙ container_none _ _ _ (sym c.stands.ensures ∙ c.if-not-stands.true)
@@ -33,7 +37,12 @@ word_at-requires-2 c = omega (arith, (standing _ _ (here (goal.at.word_at-requir
 
 pub overflow_cast-count : goal.overflow_cast-count
 overflow_cast-count c =
-    omega (arith, fits (found (goal.at.overflow_cast-count c).After-word_at), few_children (found (goal.at.overflow_cast-count c).After-word_at) _ c.count_in-count.ensures, c.requires.0)
+    omega (
+      arith,
+      fits (found (goal.at.overflow_cast-count c).After-word_at),
+      few_children (found (goal.at.overflow_cast-count c).After-word_at) _ c.count_in-count.ensures,
+      c.requires.0,
+    )
 
 pub returns : goal.returns
 returns c =

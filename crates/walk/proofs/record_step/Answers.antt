@@ -17,9 +17,14 @@ here : (c : Else-not-stands) → stands (order_from c.args.big) c.args.part.now 
 here c = sym c.stands.ensures ∙ c.if-not-stands.false
 
 found : (c : After-word_at) → Found (order_from c.args.big) c.args.part.now c.word_at.result
-found c = record { is-here = (let it : stands (order_from c.args.big) c.args.part.now ≡ true = sym c.stands.ensures ∙ c.if-not-stands.false in it); length-is = c.word_at.ensures }
+found c = record {
+  is-here = (let it : stands (order_from c.args.big) c.args.part.now ≡ true = sym c.stands.ensures ∙ c.if-not-stands.false in
+      it);
+  length-is = c.word_at.ensures;
+}
 
-filled : (c : Else-not-has_values) → (let a = c.args in has_values (order_from a.big) c.word_at-word.result (cut_body c.word_at.result a.part.now) ≡ true)
+filled : (c : Else-not-has_values) → (let a = c.args in
+    has_values (order_from a.big) c.word_at-word.result (cut_body c.word_at.result a.part.now) ≡ true)
 filled c = sym c.has_values.ensures ∙ c.if-not-has_values.false
 
 pub returns-then-not-stands : goal.returns-then-not-stands
@@ -37,7 +42,8 @@ slice_bounds-has_values-end c = fits (found c)
 pub returns-then-not-has_values : goal.returns-then-not-has_values
 returns-then-not-has_values c =
     c.stayed-then-not-has_values.ensures
-    ∙ record_empty (found (goal.at.returns-then-not-has_values c).After-word_at) _ _ c.word_at-word.ensures (sym c.has_values.ensures ∙ c.if-not-has_values.true)
+    ∙ record_empty (found (goal.at.returns-then-not-has_values c).After-word_at) _ _ c.word_at-word.ensures (sym c.has_values.ensures
+    ∙ c.if-not-has_values.true)
 
 pub slice_bounds-values_in-end : goal.slice_bounds-values_in-end
 slice_bounds-values_in-end c = fits (found (goal.at.slice_bounds-values_in-end c).After-word_at)
@@ -51,4 +57,5 @@ overflow_cast-result-2 c =
 
 pub returns : goal.returns
 returns c =
-    record_here (found (goal.at.returns c).After-word_at) _ _ c.word_at-word.ensures (filled (goal.at.returns c).Else-not-has_values) _ c.values_in-v.ensures
+    record_here (found (goal.at.returns c).After-word_at) _ _ c.word_at-word.ensures
+    (filled (goal.at.returns c).Else-not-has_values) _ c.values_in-v.ensures

@@ -17,8 +17,8 @@ fields c =
 
 pub returns : goal.returns
 returns c =
-    history-stored _ ((let a = c.args in
+    history-stored _ (let a = c.args in
     record {
       veto = record { count = a.veto_count; times = a.veto_times.now; width = a.veto_width; masks = a.veto_masks.now };
       trigger = record { count = a.trigger_count; times = a.trigger_times.now; width = a.trigger_width; masks = a.trigger_masks.now };
-    })) c.args.part.now _ refl c.put_words.ensures c.put_section.ensures c.put_section-2.ensures
+    }) c.args.part.now _ refl c.put_words.ensures c.put_section.ensures c.put_section-2.ensures

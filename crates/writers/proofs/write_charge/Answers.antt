@@ -27,5 +27,9 @@ unfolding structured charge_draft charge_bytes
 returns c =
     let code = handed_on c.args.code c.ranges.code c.from_signed.ensures in
     bytes_unasked _ (c.charge_fault.ensures ∙ ap charge_fault code)
-    (λ z. ap (λ (ws : List ℕ). structured (order_from c.args.big) 0x00010002 ws []) (words_kept ((let a = c.args in a.code ∷ a.tower ∷ a.gain ∷ a.bias ∷ a.rtf_offset ∷ a.delta_t ∷ a.t0 ∷ a.trace_length ∷ [])) ((let it : AllSigned ((let a = c.args in a.code ∷ a.tower ∷ a.gain ∷ a.bias ∷ a.rtf_offset ∷ a.delta_t ∷ a.t0 ∷ a.trace_length ∷ [])) = let h = c.ranges in (h.code, (h.tower, (h.gain, (h.bias, (h.rtf_offset, (h.delta_t, (h.t0, (h.trace_length, tt)))))))) in it))) ∙ structured_bare _ _ _)
+    (λ z. ap (λ (ws : List ℕ). structured (order_from c.args.big) 0x00010002 ws []) (words_kept (let a = c.args in
+    a.code ∷ a.tower ∷ a.gain ∷ a.bias ∷ a.rtf_offset ∷ a.delta_t ∷ a.t0 ∷ a.trace_length ∷ [])
+    ((let it : AllSigned (let a = c.args in
+    a.code ∷ a.tower ∷ a.gain ∷ a.bias ∷ a.rtf_offset ∷ a.delta_t ∷ a.t0 ∷ a.trace_length ∷ []) = let h = c.ranges in
+    (h.code, (h.tower, (h.gain, (h.bias, (h.rtf_offset, (h.delta_t, (h.t0, (h.trace_length, tt)))))))) in it))) ∙ structured_bare _ _ _)
     c.write_entry.ensures

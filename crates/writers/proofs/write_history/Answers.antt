@@ -24,67 +24,67 @@ fields c =
     }
 
 -- `admitted` was asked the history's fault and, where it has none, its size.
-admitted : (c : After-admitted) → (let a = c.args in Admitted a.out.now a.place (history_draft (order_from a.big) ((let a = c.args in
+admitted : (c : After-admitted) → (let a = c.args in Admitted a.out.now a.place (history_draft (order_from a.big) (let a = c.args in
     record {
       veto = record { count = a.veto_count; times = a.veto_times.now; width = a.veto_width; masks = a.veto_masks.now };
       trigger = record { count = a.trigger_count; times = a.trigger_times.now; width = a.trigger_width; masks = a.trigger_masks.now };
-    }))) c.admitted.result)
+    })) c.admitted.result)
 unfolding history_draft
 admitted c = record {
   fault = _;
   size = _;
   fault-is = c.history_fault-fault.ensures;
-  size_is = λ z. history-size _ ((let a = c.args in
+  size_is = λ z. history-size _ (let a = c.args in
       record {
         veto = record { count = a.veto_count; times = a.veto_times.now; width = a.veto_width; masks = a.veto_masks.now };
         trigger = record { count = a.trigger_count; times = a.trigger_times.now; width = a.trigger_width; masks = a.trigger_masks.now };
-      })) ∙ sym (c.history_size-size.ensures z);
+      }) ∙ sym (c.history_size-size.ensures z);
   said = c.admitted.ensures;
 }
 
 -- Where the next place was answered: the limit, and room for the parts.
-room : (c : In-Next) → ((length c.args.out.now ≤ file_limit) × (c.args.place + (24 + parts_size ((let a = c.args in
+room : (c : In-Next) → ((length c.args.out.now ≤ file_limit) × (c.args.place + (24 + parts_size (let a = c.args in
     record {
       veto = record { count = a.veto_count; times = a.veto_times.now; width = a.veto_width; masks = a.veto_masks.now };
       trigger = record { count = a.trigger_count; times = a.trigger_times.now; width = a.trigger_width; masks = a.trigger_masks.now };
-    }))) ≤ length c.args.out.now))
+    })) ≤ length c.args.out.now))
 unfolding history_draft
 room c =
-    let (limit, fits) = has_room ((let it : (let a = c.args in Admitted a.out.now a.place (history_draft (order_from a.big) ((let a = c.args in
+    let (limit, fits) = has_room ((let it : (let a = c.args in Admitted a.out.now a.place (history_draft (order_from a.big) (let a = c.args in
     record {
       veto = record { count = a.veto_count; times = a.veto_times.now; width = a.veto_width; masks = a.veto_masks.now };
       trigger = record { count = a.trigger_count; times = a.trigger_times.now; width = a.trigger_width; masks = a.trigger_masks.now };
-    }))) c.admitted.result) = record {
+    })) c.admitted.result) = record {
       fault = _;
       size = _;
       fault-is = c.history_fault-fault.ensures;
-      size_is = λ z. history-size _ ((let a = c.args in
+      size_is = λ z. history-size _ (let a = c.args in
           record {
             veto = record { count = a.veto_count; times = a.veto_times.now; width = a.veto_width; masks = a.veto_masks.now };
             trigger = record { count = a.trigger_count; times = a.trigger_times.now; width = a.trigger_width; masks = a.trigger_masks.now };
-          })) ∙ sym (c.history_size-size.ensures z);
+          }) ∙ sym (c.history_size-size.ensures z);
       said = c.admitted.ensures;
     } in it)) c.in-Next.is in (
       limit,
       omega (
         arith,
         fits,
-        history-size (order_from c.args.big) ((let a = c.args in
+        history-size (order_from c.args.big) (let a = c.args in
             record {
               veto = record { count = a.veto_count; times = a.veto_times.now; width = a.veto_width; masks = a.veto_masks.now };
               trigger = record { count = a.trigger_count; times = a.trigger_times.now; width = a.trigger_width; masks = a.trigger_masks.now };
-            })),
+            }),
       ),
     )
 
 pub history_size-size-requires : goal.history_size-size-requires
 history_size-size-requires c =
     let l : length c.args.veto_masks.now < 0x8000000000000000 = search rules in
-    λ z. size_fits ((let a = c.args in
+    λ z. size_fits (let a = c.args in
     record {
       veto = record { count = a.veto_count; times = a.veto_times.now; width = a.veto_width; masks = a.veto_masks.now };
       trigger = record { count = a.trigger_count; times = a.trigger_times.now; width = a.trigger_width; masks = a.trigger_masks.now };
-    })) (sym c.history_fault-fault.ensures ∙ z) l
+    }) (sym c.history_fault-fault.ensures ∙ z) l
 
 pub slice_bounds-put_history-count : goal.slice_bounds-put_history-count
 slice_bounds-put_history-count c = omega (arith, (room c).1)

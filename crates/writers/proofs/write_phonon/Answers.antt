@@ -33,11 +33,12 @@ unfolding structured phonon_draft phonon_bytes
 returns c =
     let code = handed_on c.args.code c.ranges.code c.from_signed.ensures in
     bytes_unasked _ (c.phonon_fault.ensures ∙ ap phonon_fault code)
-    (λ z. ap (λ (ws : List ℕ). structured (order_from c.args.big) 0x00010001 ws []) (words_kept ((let a = c.args in
+    (λ z. ap (λ (ws : List ℕ). structured (order_from c.args.big) 0x00010001 ws []) (words_kept (let a = c.args in
     a.code ∷ a.tower ∷ a.gain ∷ a.qet_bias ∷ a.squid_bias ∷ a.lockpoint ∷ a.rtf_offset ∷ a.variable_gain ∷ a.delta_t ∷ a.t0
-    ∷ a.trace_length ∷ [])) ((let it : AllSigned ((let a = c.args in
+    ∷ a.trace_length ∷ []) ((let it : AllSigned (let a = c.args in
     a.code ∷ a.tower ∷ a.gain ∷ a.qet_bias ∷ a.squid_bias ∷ a.lockpoint ∷ a.rtf_offset ∷ a.variable_gain ∷ a.delta_t ∷ a.t0
-    ∷ a.trace_length ∷ [])) = let h = c.ranges in
+    ∷ a.trace_length ∷ []) = let h = c.ranges in
     let last : AllSigned (c.args.delta_t ∷ c.args.t0 ∷ c.args.trace_length ∷ []) = (h.delta_t, (h.t0, (h.trace_length, tt))) in
-    (h.code, (h.tower, (h.gain, (h.qet_bias, (h.squid_bias, (h.lockpoint, (h.rtf_offset, (h.variable_gain, last)))))))) in it))) ∙ structured_bare _ _ _)
+    (h.code, (h.tower, (h.gain, (h.qet_bias, (h.squid_bias, (h.lockpoint, (h.rtf_offset, (h.variable_gain, last)))))))) in it)))
+    ∙ structured_bare _ _ _)
     c.write_entry.ensures
