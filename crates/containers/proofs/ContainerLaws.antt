@@ -20,7 +20,6 @@ use Rattle.demands.proofs.Bundles.{records, same-records}
 use Rattle.demands.proofs.ClosingLaws.{reader}
 use Rattle.record.proofs.StepLaws.{cut_body, cut}
 use Rattle.containers.specs.declared.Count.{Count}
-use Rattle.containers.specs.declared.Count.TheVariants as Count
 use Rattle.containers.specs.declared.Holding.TheVariants.{Good, Bad}
 use Rattle.containers.specs.Counts.{count_of, record_count, container_step}
 use Rattle.note.specs.Faults.{too_short}

@@ -19,9 +19,7 @@ use Rattle.note.specs.Files.{read_header, read_configuration, read_parts, order_
 use Rattle.demands.proofs.Bundles.{events, same-events}
 use Rattle.demands.proofs.RowLaws.{container_size_lem}
 use Rattle.containers.specs.declared.Count.{Count}
-use Rattle.containers.specs.declared.Count.TheVariants as Count
 use Rattle.containers.specs.declared.Holding.{Holding}
-use Rattle.containers.specs.declared.Holding.TheVariants as Holding
 use Rattle.containers.specs.Counts.{count_of, container_step, rows_of_events, event_rows, part_rows, file_rows}
 use Rattle.containers.proofs.RecordLoop.{behind_of, left, length-behind, Bytes-behind}
 use Rattle.containers.proofs.ContainerLaws.{count-good, count-bad, sized}

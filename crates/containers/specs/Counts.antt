@@ -7,9 +7,7 @@ use Rattle.note.specs.Records.{Record, records_bytes}
 use Rattle.note.specs.Events.{Container}
 use Rattle.note.specs.Files.{Parts, File}
 use Rattle.containers.specs.declared.Count.{Count}
-use Rattle.containers.specs.declared.Count.TheVariants as Count
 use Rattle.containers.specs.declared.Holding.{Holding}
-use Rattle.containers.specs.declared.Holding.TheVariants as Holding
 
 -- What was read, measured in records or in rows; or the refusal.
 unfoldable pub count_of : {A : Type 0} → (A → ℕ) → Res A → Count

@@ -24,7 +24,7 @@ use Rattle.note.specs.Events.{Container, container_bytes, events_bytes}
 use Rattle.note.specs.Files.{File, order_in, version_of, configuration_of, events_of, file_mark, header_bytes, read_file}
 use Rattle.note.specs.Rows.{child_of, children_of, event_node, nodes_of, rows_of, is_box}
 use Rattle.note.specs.Calls.{record_found, record_given, record_at}
-use Rattle.demands.specs.Valid.{ValidRecord, ValidRecords, ValidEvents, Valid}
+use Rattle.demands.specs.Valid.{ValidRecord, ValidRecords, ValidEvents}
 use Rattle.demands.specs.FirstFault.{front}
 use Rattle.demands.specs.RowRecords.{container_records, events_records, row_records, found_as}
 use Rattle.demands.specs.RowContents.{PieceRow, RowRead}

@@ -15,7 +15,7 @@ use Rattle.note.specs.Records.{Record, Context, entry, event, unseen, records_by
 use Rattle.note.specs.Events.{event_word_rule, event_late, read_event}
 use Rattle.note.specs.Files.{configuration_rule, configuration_late, read_configuration}
 use Rattle.demands.specs.Valid.{ValidRecords}
-use Rattle.demands.specs.FirstFault.{past, Itself}
+use Rattle.demands.specs.FirstFault.{Itself}
 use Rattle.demands.specs.Contents.{ContentsFault}
 use Rattle.demands.proofs.Bundles.{record_item, records, same_record, same-records, records-valid, records-ok}
 use Rattle.demands.proofs.FaultLaws.{record_fault_here, steps-past}

@@ -12,7 +12,7 @@ use lib.Seq.{length-take-le}
 use lib.Dec.{leb}
 use borrow.Author.Tests.{lt-leb, leb-true, leb-false}
 use Rattle.theory.specs.declared.Order.{Order}
-use Rattle.theory.specs.Words.{Bytes, word_at, put, puts, bytes, Fits}
+use Rattle.theory.specs.Words.{Bytes, word_at, put, puts, Fits}
 use Rattle.theory.specs.Tests.{Res, ok, bad, need, bind, unless}
 use Rattle.theory.proofs.WordLaws.{Bytes-part, Bytes-right, length-put, word_fits}
 use Rattle.theory.proofs.TestLaws.{ok-bad, bad_inj, need_pass, equal_passed, most_passes, first-at}

@@ -15,9 +15,9 @@ use Rattle.theory.specs.Structures.{Structure, read_structure, read_sequence}
 use Rattle.theory.proofs.StructureLaws.{stateless, read_in}
 use Rattle.theory.proofs.TestLaws.{Numbered, unless-numbered, unless-zero, numbered_wider, among_wider}
 use Rattle.note.specs.Limits.{file_limit}
-use Rattle.note.specs.Records.{Record, Context, entry, event, alone, unseen, is_kind, is_allowed, entry_kinds}
+use Rattle.note.specs.Records.{Context, entry, event, alone, unseen, is_kind, is_allowed, entry_kinds}
 use Rattle.note.specs.Records.{record_head, record_late, record_rule, next_context, record_size, behind, read_record, read_records}
-use Rattle.note.specs.Events.{Container, container_size, event_word_rule, event_late, read_event, read_events}
+use Rattle.note.specs.Events.{container_size, event_word_rule, event_late, read_event, read_events}
 use Rattle.note.specs.Files.{order_of, file_mark, format, version_rule, configuration_word, configuration_rule, configuration_late}
 use Rattle.note.specs.Files.{Parts, File, read_header, read_configuration, read_parts, read_file}
 use Rattle.note.proofs.BoolLaws.{among_tells, up_to, one-up-to}

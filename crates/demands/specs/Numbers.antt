@@ -2,7 +2,7 @@
 -- gives (proofs/NumberExamples.antt). 1 stands in none: it is given for a buffer over the limit (Refusals) and nowhere else.
 use Rattle.std.specs.Prelude.{ℕ, ◌+◌, ◌*◌, ◌≤◌, ◌<◌, ◌≡◌, true, List, [], ◌∷◌, length}
 use Rattle.theory.specs.Tests.{ok, among}
-use Rattle.note.specs.Limits.{file_limit, row_width}
+use Rattle.note.specs.Limits.{row_width}
 use Rattle.note.specs.Records.{Context, entry, event, alone}
 use Rattle.note.specs.Files.{File, read_file}
 use Rattle.note.specs.Rows.{rows_of}

@@ -5,7 +5,7 @@ use Prim.Native.Char.{Char, code}
 use Prim.Native.String as Str
 use Prim.Native.String.{String}
 use mathlib.Core.Path.{◌≡◌, refl, sym, ◌∙◌, subst}
-use mathlib.Core.Logic.{inl, inr, ◌≢◌, by_cases}
+use mathlib.Core.Logic.{inl, inr, by_cases}
 use mathlib.Core.Bool.{Bool, true, false, cond, ◌&&◌, false≢true, and-eq-true_iff}
 use mathlib.Core.List.{List, [], ◌∷◌}
 use mathlib.Core.Option.{Option, some, none}

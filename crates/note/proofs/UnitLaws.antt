@@ -1,6 +1,6 @@
 -- Working units: a x100 word as a float is its hundredth rounded once, exact at multiples of 25, and zero is plus zero.
 -- The idea: the cast of a 32-bit number is exact, so the division is the only rounding; 100 is 25 times a power of two.
-use Prim.Native.Nat.{ℕ, suc, ◌*◌, ◌-◌, ◌^◌, ◌<◌, ◌≤◌}
+use Prim.Native.Nat.{ℕ, suc, ◌*◌, ◌^◌, ◌<◌, ◌≤◌}
 use mathlib.Core.Path.{◌≡◌, refl, ap, ◌∙◌}
 use mathlib.Core.Bool.{Bool, true, false}
 use native.Mathlib.Omega.{arith}

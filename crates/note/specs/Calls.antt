@@ -7,7 +7,6 @@ use Rattle.theory.specs.declared.Order.{Order}
 use Rattle.theory.specs.Tests.{Res, ok, bad, need, unless}
 use Rattle.note.specs.Faults.{too_large, wrong_kind, wrong_count}
 use Rattle.note.specs.Limits.{file_limit}
-use Rattle.note.specs.Words.{word}
 use Rattle.note.specs.Answers.{Value, whole, float, Given, accepted, refused, count, counts, wholes}
 use Rattle.note.specs.Phonon.{Phonon, phonon_kind, phonon_of}
 use Rattle.note.specs.Charge.{Charge, charge_kind, charge_of}

@@ -1,7 +1,7 @@
 -- An event: a first word that tells its class, category and type, a length word, and records. What its records must be is asked while they are read
 -- (Records), so here are the first word and the one rule that is the event's own: it isn't empty. A configuration has the same form, and so
 -- containers of both sorts are defined here.
-use Rattle.std.specs.Prelude.{ℕ, ◌+◌, ◌*◌, ◌/◌, ◌%◌, not, List, [], ◌∷◌, leb, eqb, length}
+use Rattle.std.specs.Prelude.{ℕ, ◌+◌, ◌*◌, ◌/◌, ◌%◌, not, List, [], ◌∷◌, leb, eqb}
 use Rattle.theory.specs.declared.Order.{Order}
 use Rattle.theory.specs.Tests.{Res, unless, first, among}
 use Rattle.theory.specs.Structures.{Structure, read_structure, structure_bytes, structure_size, read_each, sequence_bytes}

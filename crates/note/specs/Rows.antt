@@ -1,6 +1,6 @@
 -- The rows of a file, and the calls that give all of them: Table and the walker. Rows are the file's structures laid out from row 1 and byte 0
 -- (theory/specs/Layout). Each call is said of `rows_of`, so that both give the same rows.
-use Rattle.std.specs.Prelude.{ℕ, ◌+◌, ◌*◌, ◌%◌, Bool, cond, ◌||◌, List, [], ◌∷◌, ◌++◌, map, leb, eqb, ltb, length, drop}
+use Rattle.std.specs.Prelude.{ℕ, ◌*◌, ◌%◌, Bool, cond, ◌||◌, List, [], ◌∷◌, ◌++◌, map, leb, eqb, ltb, length, drop}
 use Rattle.theory.specs.declared.Order.{Order}
 use Rattle.theory.specs.Tests.{Res, ok, bad}
 use Rattle.theory.specs.Layout.{Row, Child, Node, single, box, rows, row}

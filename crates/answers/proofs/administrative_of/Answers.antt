@@ -2,7 +2,6 @@
 use Prim.Native.Nat.{ℕ}
 use mathlib.Core.List.{List, ◌∷◌}
 use mathlib.Core.Path.{ap}
-use borrow.Author.Rules.{rules}
 use Rattle.note.specs.Administrative.{administrative_of}
 use Rattle.note.specs.Answers.{accepted, count, counts, given_record}
 use Rattle.answers.proofs.administrative_of.Goals as goal

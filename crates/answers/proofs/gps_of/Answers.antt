@@ -1,5 +1,4 @@
 -- `answers::gps_of` meets its contract. Each number is what the digits of its word write, a shift being a division by a power of two.
-use borrow.Author.Rules.{rules}
 use Rattle.note.specs.Answers.{given_record}
 use Rattle.note.specs.Gps.{gps_of}
 use Rattle.answers.proofs.gps_of.Goals as goal

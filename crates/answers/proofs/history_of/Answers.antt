@@ -1,7 +1,6 @@
 -- `answers::history_of` meets its contract. A body that follows its rule has both sections, each with room for its width.
 -- The two sections' numbers, one behind the other, are the answer's values.
 use native.Mathlib.Omega.{arith}
-use borrow.Author.Rules.{rules}
 use Rattle.note.specs.Answers.{given_record}
 use Rattle.rules.proofs.RoomLaws.{veto-follows, trigger-follows}
 use Rattle.rules.proofs.SectionLaws.{room, thin}

@@ -1,6 +1,5 @@
 -- `answers::phonon_setting` meets its contract. Each field is the signed word at its offset or its hundredth, as the definition has it.
 -- What the answer holds of a signed word is that word again.
-use borrow.Author.Rules.{rules}
 use Rattle.note.specs.Answers.{given_setting}
 use Rattle.note.specs.Calls.{phonon_setting}
 use Rattle.note.specs.Phonon.{phonon_of}

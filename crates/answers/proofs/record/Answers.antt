@@ -1,6 +1,5 @@
 -- `answers::record` meets its contract. The step says what was found; its body follows the kind's rule and ends within the file.
 -- The answer is the body's, or the step's refusal.
-use borrow.Author.Rules.{rules}
 use Rattle.theory.specs.Words.{order_from}
 use Rattle.note.specs.Answers.{given_record}
 use Rattle.note.specs.Calls.{record_given, record_at}

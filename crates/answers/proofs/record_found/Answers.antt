@@ -1,5 +1,4 @@
 -- `answers::record_found` meets its contract. Each way out is one law of FoundLaws, handed the tests on the way.
-use borrow.Author.Rules.{rules}
 use Rattle.answers.proofs.FoundLaws.{over, past, inside}
 use Rattle.record.specs.Steps.{context_of}
 use Rattle.answers.proofs.record_found.Goals as goal

@@ -2,7 +2,6 @@
 -- The four numbers are then the definition's, word for word.
 use native.Mathlib.Omega.{arith}
 use Rattle.note.specs.History.{width_at, width_of, section_values}
-use borrow.Author.Rules.{rules}
 use Rattle.answers.proofs.section_of.Goals as goal
 
 pub word_at-count-requires : goal.word_at-count-requires

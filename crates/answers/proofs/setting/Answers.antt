@@ -1,6 +1,5 @@
 -- `answers::setting` meets its contract. The step says what was found; its body follows the kind's rule.
 -- The answer is the body's setting, or the step's refusal.
-use borrow.Author.Rules.{rules}
 use Rattle.theory.specs.Words.{order_from}
 use Rattle.note.specs.Answers.{given_setting}
 use Rattle.note.specs.Calls.{setting_given, setting_at}

@@ -1,5 +1,4 @@
 -- `answers::trace_of` meets its contract. Each field is the word at its offset, as the definition has it; t0 is kept as a signed word.
-use borrow.Author.Rules.{rules}
 use Rattle.note.specs.Answers.{given_record}
 use Rattle.note.specs.Trace.{trace_of}
 use Rattle.answers.proofs.SignedLaws.{kept}

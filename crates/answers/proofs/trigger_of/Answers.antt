@@ -2,7 +2,6 @@
 use Prim.Native.Nat.{ℕ}
 use mathlib.Core.List.{List, ◌∷◌}
 use mathlib.Core.Path.{ap}
-use borrow.Author.Rules.{rules}
 use Rattle.note.specs.Answers.{accepted, count, counts, given_record}
 use Rattle.note.specs.Trigger.{trigger_of}
 use Rattle.answers.proofs.trigger_of.Goals as goal

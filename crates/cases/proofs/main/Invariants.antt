@@ -1,7 +1,6 @@
 -- The buffers keep their lengths, and each case takes one from the number of cases that are left.
 use mathlib.Core.Path.{◌≡◌}
 use lib.ListN.{length}
-use borrow.Author.Rules.{rules}
 use Rattle.cases.proofs.main.Given as goal
 
 abbrev pub invariant-loop-left : goal.invariant-loop-left

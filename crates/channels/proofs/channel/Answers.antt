@@ -1,7 +1,6 @@
 -- `channel` meets its contract.
 -- The idea: a channel that is not listed has the number 0 for its name, and any other number gives back its name.
 use mathlib.Core.Path.{sym, ◌∙◌}
-use borrow.Author.Rules.{rules}
 use Rattle.channels.proofs.NameLaws.{unlisted, listed}
 use Rattle.channels.proofs.channel.Goals as goal
 

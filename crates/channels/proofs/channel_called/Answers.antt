@@ -1,10 +1,8 @@
-use Prim.Native.Nat.{ℕ, ◌≤◌, ◌<◌, ◌-◌}
 use mathlib.Core.Path.{◌≡◌, ◌∙◌}
-use mathlib.Core.Bool.{false}
 use native.Mathlib.Omega.{arith}
 use borrow.Author.Rules.{rules}
 use borrow.Author.Count.{below_none, below_more}
-use Rattle.channels.proofs.SearchLaws.{has_name, search_found, search_ended}
+use Rattle.channels.proofs.SearchLaws.{search_found, search_ended}
 use Rattle.channels.proofs.channel_called.Goals as goal
 
 pub loop-channel-init : goal.loop-channel-init

@@ -1,12 +1,9 @@
 -- `channel_called` meets its contract. The loop's invariant: no channel that was passed has the name.
 -- The measure is how many channels are left.
 use Prim.Native.Nat.{ℕ, ◌≤◌, ◌<◌, ◌-◌}
-use mathlib.Core.Path.{◌≡◌, ◌∙◌}
+use mathlib.Core.Path.{◌≡◌}
 use mathlib.Core.Bool.{false}
-use native.Mathlib.Omega.{arith}
-use borrow.Author.Rules.{rules}
-use borrow.Author.Count.{below_none, below_more}
-use Rattle.channels.proofs.SearchLaws.{has_name, search_found, search_ended}
+use Rattle.channels.proofs.SearchLaws.{has_name}
 use Rattle.channels.proofs.channel_called.Given as goal
 
 abbrev pub invariant-loop-channel : goal.invariant-loop-channel

@@ -2,7 +2,6 @@
 -- The idea: each of its three ways out is one law of the search. The type of a listed name is at most 11, so the code fits.
 use Prim.Native.Nat.{◌≤◌}
 use native.Mathlib.Omega.{arith}
-use borrow.Author.Rules.{rules}
 use Rattle.channels.proofs.SearchLaws.{past_detectors, no_channel_lem, type-listed, code-made}
 use Rattle.channels.proofs.code.Goals as goal
 use Rattle.channels.proofs.code.Goals.{Else-channel-gt-LAST_CHANNEL}

@@ -1,7 +1,6 @@
 -- `cold_name` meets its contract.
 -- The idea: the code's table is the one that antt computes from the lists, and of that one a law says what is looked up.
 use mathlib.Core.Path.{◌∙◌}
-use borrow.Author.Rules.{rules}
 use Rattle.note.proofs.Computing.{computing}
 use Rattle.channels.proofs.TableLaws.{cold_table}
 use Rattle.channels.proofs.cold_name.Goals as goal

@@ -1,6 +1,5 @@
 -- `group` meets its contract.
 -- The idea: the digit at the channel's place is that channel's group, and past channel 11 nothing is listed.
-use borrow.Author.Rules.{rules}
 use Rattle.note.specs.Channels.{type_of, channel_number}
 use Rattle.channels.proofs.GroupLaws.{group_past, group_is}
 use Rattle.channels.proofs.group.Goals as goal

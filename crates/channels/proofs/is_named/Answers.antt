@@ -1,6 +1,5 @@
 -- `is_named` meets its contract.
 -- The idea: the digit of the code's channel says it, which is one law of the groups.
-use borrow.Author.Rules.{rules}
 use Rattle.channels.proofs.GroupLaws.{named_by_group}
 use Rattle.channels.proofs.is_named.Goals as goal
 

@@ -1,6 +1,5 @@
 -- `is_phonon` meets its contract.
 -- The idea: the digit of the code's channel says it, which is one law of the groups.
-use borrow.Author.Rules.{rules}
 use Rattle.channels.proofs.GroupLaws.{phonon_by_group}
 use Rattle.channels.proofs.is_phonon.Goals as goal
 

@@ -1,10 +1,9 @@
-use Prim.Native.Nat.{ℕ, ◌≤◌, ◌-◌}
+use Prim.Native.Nat.{ℕ}
 use mathlib.Core.Path.{◌≡◌, refl, sym, ◌∙◌}
 use mathlib.Core.Bool.{Bool}
 use mathlib.Core.List.{List}
 use native.Mathlib.Omega.{arith}
-use lib.ListN.{length, drop}
-use borrow.Author.Rules.{rules}
+use lib.ListN.{drop}
 use Rattle.channels.specs.Tables.{are_letters, is_spelled}
 use Rattle.channels.proofs.NameLaws.{never_spelled, decides, at_end, no_letters, other_letter, next_letter}
 use Rattle.channels.proofs.is_spelled.Goals as goal

@@ -2,7 +2,6 @@
 -- The idea: each of its three ways out is one law of the definition, and what the calls ensure joins to the last.
 use native.Mathlib.Omega.{arith}
 use Rattle.channels.proofs.TableLaws.{past-types, past_channels, in_table}
-use borrow.Author.Rules.{rules}
 use Rattle.channels.proofs.look_up.Goals as goal
 
 pub returns-then-detector_type-gt-LAST_TYPE : goal.returns-then-detector_type-gt-LAST_TYPE

@@ -1,6 +1,5 @@
 -- `name_of` meets its contract.
 -- The idea: each letter is the lowest of what the letters before it leave, as the definition has it.
-use borrow.Author.Rules.{rules}
 use Rattle.theory.specs.Words.{bytes}
 use Rattle.channels.proofs.NameLaws.{name-made}
 use Rattle.channels.proofs.name_of.Goals as goal

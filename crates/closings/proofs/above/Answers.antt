@@ -4,7 +4,6 @@ use Prim.Native.Nat.{ℕ, ◌%◌, ◌≤◌}
 use mathlib.Core.Path.{◌≡◌}
 use native.Mathlib.Omega.{arith}
 use lib.Bits.{or_shifted}
-use borrow.Author.Rules.{rules}
 use Rattle.closings.proofs.above.Goals as goal
 
 kept : (n : ℕ) → n ≤ 0xFFFFFFFF → n % 4294967296 ≡ n

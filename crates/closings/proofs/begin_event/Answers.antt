@@ -5,7 +5,6 @@ use lib.Seq.{sets}
 use Rattle.theory.specs.Words.{order_from}
 use Rattle.note.specs.Writers.{closing_bytes}
 use Rattle.closings.proofs.CloseLaws.{word-whole}
-use borrow.Author.Rules.{rules}
 use Rattle.closings.proofs.begin_event.Goals as goal
 
 pub put_head-requires : goal.put_head-requires

@@ -4,7 +4,6 @@ use native.Mathlib.Omega.{arith}
 use Rattle.note.specs.Answers.{given_writer}
 use Rattle.demands.specs.Outputs.{HasRoom}
 use Rattle.closings.proofs.BoundLaws.{over, outside, faulty, few, fine}
-use borrow.Author.Rules.{rules}
 use Rattle.closings.proofs.bounded.Goals as goal
 use Rattle.closings.proofs.bounded.Goals.{Else-end-place-lt-FRONT}
 

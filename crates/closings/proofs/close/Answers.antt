@@ -8,7 +8,6 @@ use Rattle.theory.specs.Words.{order_from}
 use Rattle.demands.specs.Outputs.{HasRoom}
 use Rattle.record.specs.Steps.{context_of}
 use Rattle.closings.proofs.CloseLaws.{Call, refuses, told, contents_refuse, shuts}
-use borrow.Author.Rules.{rules}
 use Rattle.closings.proofs.close.Goals as goal
 use Rattle.closings.proofs.close.Goals.{In-Next}
 

@@ -3,7 +3,6 @@
 use Rattle.record.specs.Steps.{context_of}
 use Rattle.theory.specs.Words.{order_from}
 use Rattle.closings.proofs.CloseLaws.{configuration-ends}
-use borrow.Author.Rules.{rules}
 use Rattle.closings.proofs.close_configuration.Goals as goal
 
 pub returns : goal.returns

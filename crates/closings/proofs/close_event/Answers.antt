@@ -2,7 +2,6 @@
 -- The idea: it is a case of any container's closing; the word is the one asked for where it has no fault.
 use Rattle.theory.specs.Words.{order_from}
 use Rattle.closings.proofs.CloseLaws.{event-ends}
-use borrow.Author.Rules.{rules}
 use Rattle.closings.proofs.close_event.Goals as goal
 
 pub returns : goal.returns

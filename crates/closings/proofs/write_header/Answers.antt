@@ -14,7 +14,6 @@ use Rattle.note.specs.Files.{file_mark, version_word, header_bytes}
 use Rattle.note.proofs.FileBytes.{header-bytes}
 use Rattle.note.specs.Writers.{Draft, header_next, header_output, record_next, record_output}
 use Rattle.stores.proofs.WriterLaws.{Admitted, refuses, has_room, lays}
-use borrow.Author.Rules.{rules}
 use Rattle.closings.proofs.write_header.Goals as goal
 use Rattle.closings.proofs.write_header.Goals.{After-admitted}
 

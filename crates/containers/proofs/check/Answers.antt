@@ -4,7 +4,6 @@ use Rattle.theory.specs.declared.Order.{Order}
 use Rattle.note.specs.Files.{read_parts}
 use Rattle.containers.specs.Counts.{part_rows}
 use Rattle.containers.proofs.FileLaws.{over, within-limit}
-use borrow.Author.Rules.{rules}
 use Rattle.containers.proofs.check.Goals as goal
 
 pub returns-then-file-gt-FILE_LIMIT : goal.returns-then-file-gt-FILE_LIMIT

@@ -13,7 +13,6 @@ use Rattle.note.specs.Records.{entry}
 use Rattle.note.specs.Files.{configuration_rule, configuration_late, read_configuration}
 use Rattle.record.specs.Steps.{context_of}
 use Rattle.containers.proofs.ContainerLaws.{short, fault, long, Begun, contents-fault, held}
-use borrow.Author.Rules.{rules}
 use Rattle.containers.proofs.configuration_in.Goals as goal
 use Rattle.containers.proofs.configuration_in.Goals.{Else-room-length, Else-word-ne-CONFIGURATION}
 

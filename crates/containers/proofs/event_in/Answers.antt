@@ -11,7 +11,6 @@ use Rattle.note.specs.Words.{word}
 use Rattle.note.specs.Records.{Context, event, unseen}
 use Rattle.note.specs.Events.{event_word_rule, event_late, read_event}
 use Rattle.containers.proofs.ContainerLaws.{short, fault, long, late_fault, Begun, contents_answer, contents-fault, held}
-use borrow.Author.Rules.{rules}
 use Rattle.containers.proofs.event_in.Goals as goal
 use Rattle.containers.proofs.event_in.Goals.{After-records_in, Else-fault-ne0, Else-length-lt1}
 

@@ -2,14 +2,13 @@ use mathlib.Core.Path.{◌≡◌, sym, ◌∙◌}
 use Prim.Native.Nat.{ℕ, ◌+◌, ◌≤◌}
 use native.Mathlib.Omega.{arith}
 use lib.ListN.{length}
-use borrow.Author.Rules.{rules}
 use Rattle.theory.specs.Words.{order_from}
 use Rattle.theory.specs.declared.Order.{Order}
 use Rattle.theory.proofs.WordLaws.{Bytes-from}
 use Rattle.note.specs.Events.{read_event}
 use Rattle.containers.specs.declared.Holding.TheVariants.{Good}
 use Rattle.containers.specs.Counts.{container_step}
-use Rattle.containers.proofs.EventLoop.{Rows, begin, place, low, done, stops, fits, next}
+use Rattle.containers.proofs.EventLoop.{begin, place, low, done, stops, fits, next}
 use Rattle.containers.proofs.events_in.Goals as goal
 use Rattle.containers.proofs.events_in.Goals.{In-Good}
 

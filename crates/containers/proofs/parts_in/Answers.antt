@@ -9,7 +9,6 @@ use Rattle.theory.proofs.WordLaws.{Bytes-from}
 use Rattle.containers.specs.declared.Count.TheVariants.{Good}
 use Rattle.containers.proofs.FileLaws.{short, unmarked, other_format, Headed, configuration-fault, configured}
 use Rattle.containers.proofs.FileLaws.{Configured, events_answer, events-fault, few_events, whole}
-use borrow.Author.Rules.{rules}
 use Rattle.containers.proofs.parts_in.Goals as goal
 use Rattle.containers.proofs.parts_in.Goals.{Else-room-lt-FRONT, Else-word_at-ne-FORMAT, In-Good, In-Good-events_in}
 

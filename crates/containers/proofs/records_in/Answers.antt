@@ -2,12 +2,11 @@ use mathlib.Core.Path.{sym, ◌∙◌}
 use Prim.Native.Nat.{◌+◌, ◌≤◌}
 use native.Mathlib.Omega.{arith}
 use lib.ListN.{length}
-use borrow.Author.Rules.{rules}
 use Rattle.theory.specs.Words.{order_from}
 use Rattle.record.specs.Steps.{context_of}
 use Rattle.containers.proofs.RecordLoop as loop
 use Rattle.containers.proofs.RecordLoop.{Counting}
-use Rattle.containers.proofs.RunLaws.{Run, begin, refused, fits, next}
+use Rattle.containers.proofs.RunLaws.{begin, refused, fits, next}
 use Rattle.containers.proofs.records_in.Goals as goal
 use Rattle.containers.proofs.records_in.Goals.{At-loop-more, In-Good}
 

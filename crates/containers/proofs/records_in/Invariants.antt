@@ -1,14 +1,9 @@
 -- The laws of a run answer the needs within it, those of the loop over records the others.
-use mathlib.Core.Path.{sym, ◌∙◌}
-use Prim.Native.Nat.{◌+◌, ◌≤◌}
-use native.Mathlib.Omega.{arith}
 use lib.ListN.{length}
-use borrow.Author.Rules.{rules}
 use Rattle.theory.specs.Words.{order_from}
 use Rattle.record.specs.Steps.{context_of}
-use Rattle.containers.proofs.RecordLoop as loop
 use Rattle.containers.proofs.RecordLoop.{Counting}
-use Rattle.containers.proofs.RunLaws.{Run, begin, refused, fits, next}
+use Rattle.containers.proofs.RunLaws.{Run}
 use Rattle.containers.proofs.records_in.Given as goal
 
 abbrev pub invariant-loop-more : goal.invariant-loop-more

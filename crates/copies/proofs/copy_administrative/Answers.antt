@@ -7,7 +7,6 @@ use Rattle.note.specs.Administrative.{Administrative, administrative_kind, admin
 use Rattle.note.specs.Writers.{administrative_draft}
 use Rattle.demands.proofs.AgainLaws.{administrative-again}
 use Rattle.copies.proofs.CopyLaws.{six_copied}
-use borrow.Author.Rules.{rules}
 use Rattle.copies.proofs.copy_administrative.Goals as goal
 
 -- The fields in the order of their words.

@@ -6,7 +6,6 @@ use Rattle.note.specs.Charge.{charge_kind, charge_of}
 use Rattle.note.specs.Writers.{charge_draft}
 use Rattle.demands.proofs.AgainLaws.{charge-again}
 use Rattle.copies.proofs.CopyLaws.{copied, handed}
-use borrow.Author.Rules.{rules}
 use Rattle.copies.proofs.copy_charge.Goals as goal
 
 pub returns : goal.returns

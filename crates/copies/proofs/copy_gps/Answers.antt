@@ -7,7 +7,6 @@ use Rattle.note.specs.Gps.{decimal, gps_kind, gps_of}
 use Rattle.note.specs.Writers.{gps_draft}
 use Rattle.demands.proofs.AgainLaws.{gps-again}
 use Rattle.copies.proofs.CopyLaws.{copied}
-use borrow.Author.Rules.{rules}
 use Rattle.copies.proofs.copy_gps.Goals as goal
 
 pub returns : goal.returns

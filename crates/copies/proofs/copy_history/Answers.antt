@@ -12,7 +12,6 @@ use Rattle.rules.proofs.RoomLaws.{veto-follows, trigger-count}
 use Rattle.rules.proofs.SectionLaws.{room, thin}
 use Rattle.copies.proofs.CopyLaws.{copied}
 use Rattle.copies.proofs.SectionLaws.{Cuts, ends, in_order, section_cut}
-use borrow.Author.Rules.{rules}
 use Rattle.copies.proofs.copy_history.Goals as goal
 use Rattle.copies.proofs.copy_history.Goals.{After-width_at-trigger}
 

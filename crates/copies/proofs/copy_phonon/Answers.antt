@@ -6,7 +6,6 @@ use Rattle.note.specs.Phonon.{phonon_kind, phonon_of}
 use Rattle.note.specs.Writers.{phonon_draft}
 use Rattle.demands.proofs.AgainLaws.{phonon-again}
 use Rattle.copies.proofs.CopyLaws.{copied, handed}
-use borrow.Author.Rules.{rules}
 use Rattle.copies.proofs.copy_phonon.Goals as goal
 
 pub returns : goal.returns

@@ -10,7 +10,6 @@ use Rattle.rules.proofs.KindLaws.{no_arm}
 use Rattle.rules.proofs.LengthLaws.{least}
 use Rattle.copies.specs.Copying.{Copyable, Copied}
 use Rattle.copies.proofs.KindLaws.{asked, left, never}
-use borrow.Author.Rules.{rules}
 use Rattle.copies.proofs.copy_record.Goals as goal
 use Rattle.copies.proofs.copy_record.Goals.{After-slice_known-1}
 

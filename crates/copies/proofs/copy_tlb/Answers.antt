@@ -7,7 +7,6 @@ use Rattle.note.specs.Tlb.{Tlb, tlb_kind, tlb_of}
 use Rattle.note.specs.Writers.{tlb_draft}
 use Rattle.demands.proofs.AgainLaws.{tlb-again}
 use Rattle.copies.proofs.CopyLaws.{six_copied}
-use borrow.Author.Rules.{rules}
 use Rattle.copies.proofs.copy_tlb.Goals as goal
 
 -- The fields in the order of their words.

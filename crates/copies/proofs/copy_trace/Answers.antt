@@ -8,7 +8,6 @@ use Rattle.note.specs.Trace.{trace_kind, trace_of}
 use Rattle.note.specs.Writers.{trace_draft}
 use Rattle.demands.proofs.AgainLaws.{trace-again}
 use Rattle.copies.proofs.CopyLaws.{copied, handed}
-use borrow.Author.Rules.{rules}
 use Rattle.copies.proofs.copy_trace.Goals as goal
 
 pub returns : goal.returns

@@ -7,7 +7,6 @@ use Rattle.note.specs.Trigger.{Trigger, trigger_kind, trigger_of}
 use Rattle.note.specs.Writers.{trigger_draft}
 use Rattle.demands.proofs.AgainLaws.{trigger-again}
 use Rattle.copies.proofs.CopyLaws.{six_copied}
-use borrow.Author.Rules.{rules}
 use Rattle.copies.proofs.copy_trigger.Goals as goal
 
 -- The fields in the order of their words.

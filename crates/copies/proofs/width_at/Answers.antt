@@ -3,7 +3,6 @@
 use Prim.Native.Nat.{ℕ, ◌+◌, ◌*◌}
 use mathlib.Core.Path.{ap}
 use Rattle.note.specs.History.{width_at}
-use borrow.Author.Rules.{rules}
 use Rattle.copies.proofs.width_at.Goals as goal
 
 pub returns : goal.returns

@@ -2,7 +2,6 @@
 use mathlib.Core.Path.{refl}
 use Rattle.exports.specs.Lent.{number_of, wholes_in, wholes_after}
 use Rattle.note.specs.Answers.{given_code}
-use borrow.Author.Rules.{rules}
 use Rattle.exports.proofs.dwj_code.Goals as goal
 
 pub returns-in-Code : goal.returns-in-Code

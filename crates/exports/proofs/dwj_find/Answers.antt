@@ -2,7 +2,6 @@
 use mathlib.Core.Path.{refl}
 use Rattle.exports.specs.Lent.{number_of, place_after, wholes_in, wholes_after}
 use Rattle.note.specs.Answers.{given_find}
-use borrow.Author.Rules.{rules}
 use Rattle.exports.proofs.dwj_find.Goals as goal
 
 pub returns-in-Found : goal.returns-in-Found

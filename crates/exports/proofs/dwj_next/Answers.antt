@@ -1,7 +1,6 @@
 -- `exports::dwj_next` meets its contract: the step's own numbers and yield, told in lent numbers.
 use mathlib.Core.Path.{refl}
 use Rattle.exports.specs.Walkers.{numbers_of, spot_of}
-use borrow.Author.Rules.{rules}
 use Rattle.exports.proofs.dwj_next.Goals as goal
 
 pub returns : goal.returns

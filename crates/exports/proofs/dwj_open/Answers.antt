@@ -1,7 +1,6 @@
 -- `exports::dwj_open` meets its contract: the walk's own numbers and yield, told in lent numbers.
 use mathlib.Core.Path.{refl}
 use Rattle.exports.specs.Walkers.{numbers_of}
-use borrow.Author.Rules.{rules}
 use Rattle.exports.proofs.dwj_open.Goals as goal
 
 pub returns : goal.returns

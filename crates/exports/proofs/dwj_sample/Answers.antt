@@ -2,7 +2,6 @@
 use mathlib.Core.Path.{refl}
 use Rattle.exports.specs.Lent.{number_of, place_after, wholes_in, wholes_after}
 use Rattle.note.specs.Answers.{given_sample}
-use borrow.Author.Rules.{rules}
 use Rattle.exports.proofs.dwj_sample.Goals as goal
 
 pub returns-in-Sample : goal.returns-in-Sample

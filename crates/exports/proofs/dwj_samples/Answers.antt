@@ -2,7 +2,6 @@
 use native.Mathlib.Omega.{arith}
 use Rattle.theory.specs.declared.Order.TheVariants.{Little}
 use Rattle.samples.proofs.PartLaws.{part_length, starts_at_none, starts_at_place, place-within}
-use borrow.Author.Rules.{rules}
 use Rattle.exports.proofs.dwj_samples.Goals as goal
 
 pub returns-then-n-eq0 : goal.returns-then-n-eq0

@@ -3,7 +3,6 @@ use mathlib.Core.Path.{refl}
 use Rattle.exports.specs.Lent.{number_of, place_after}
 use Rattle.exports.specs.Walkers.{row_after}
 use Rattle.note.specs.Answers.{given_yield}
-use borrow.Author.Rules.{rules}
 use Rattle.exports.proofs.tell.Goals as goal
 
 pub returns-in-Row : goal.returns-in-Row

@@ -1,7 +1,6 @@
 -- `faults::history_fault` meets its contract: the veto section's fault, then the trigger section's.
 -- The idea: the definition has the same two.
 use Rattle.note.specs.History.{history_fault}
-use borrow.Author.Rules.{rules}
 use Rattle.faults.proofs.history_fault.Goals as goal
 
 pub returns : goal.returns

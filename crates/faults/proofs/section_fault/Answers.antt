@@ -5,7 +5,6 @@ use native.Mathlib.Nat.{mul-le-mul}
 use native.Mathlib.Omega.{arith}
 use Rattle.theory.proofs.TestLaws.{first_of_part}
 use Rattle.note.specs.History.{section_fault}
-use borrow.Author.Rules.{rules}
 use Rattle.faults.proofs.section_fault.Goals as goal
 
 pub overflow_mul-count : goal.overflow_mul-count

@@ -1,7 +1,6 @@
 -- `faults::trace_fault` meets its contract: its tests in order, each asked after the first fault of those before it.
 -- The idea: one more at a time they are the definition's list.
 use Rattle.theory.proofs.TestLaws.{first_of_part}
-use borrow.Author.Rules.{rules}
 use Rattle.faults.proofs.trace_fault.Goals as goal
 
 pub returns : goal.returns

@@ -1,7 +1,6 @@
 -- `fields::administrative_fault` meets its contract: the date's test, then the clock's.
 -- The idea: the definition has the same two.
 use Rattle.note.specs.Administrative.{administrative_fault}
-use borrow.Author.Rules.{rules}
 use Rattle.fields.proofs.administrative_fault.Goals as goal
 
 pub returns : goal.returns

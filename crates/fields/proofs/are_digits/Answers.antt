@@ -1,7 +1,5 @@
-use Prim.Native.Nat.{◌-◌, ◌/◌, ◌^◌}
-use mathlib.Core.Path.{◌≡◌, refl, sym, ◌∙◌}
+use mathlib.Core.Path.{refl, sym, ◌∙◌}
 use native.Mathlib.Omega.{arith}
-use borrow.Author.Rules.{rules}
 use Rattle.note.specs.Gps.{are_digits}
 use Rattle.fields.proofs.DigitLaws.{from_first, no_digits_left, digit-passes, digit_fails}
 use Rattle.fields.proofs.are_digits.Goals as goal

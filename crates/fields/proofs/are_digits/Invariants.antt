@@ -1,11 +1,8 @@
 -- `fields::are_digits` meets its contract. The digits from k on decide, since those before k have passed.
 -- A turn takes digit k off; after the last none is left to fail.
 use Prim.Native.Nat.{◌-◌, ◌/◌, ◌^◌}
-use mathlib.Core.Path.{◌≡◌, refl, sym, ◌∙◌}
-use native.Mathlib.Omega.{arith}
-use borrow.Author.Rules.{rules}
+use mathlib.Core.Path.{◌≡◌}
 use Rattle.note.specs.Gps.{are_digits}
-use Rattle.fields.proofs.DigitLaws.{from_first, no_digits_left, digit-passes, digit_fails}
 use Rattle.fields.proofs.are_digits.Given as goal
 
 abbrev pub invariant-loop-k : goal.invariant-loop-k

@@ -1,11 +1,8 @@
 -- `fields::decimal` meets its contract. From the highest digit down, the value so far is the number of the digits from k on.
 -- A turn adds the next digit below, and eight digits fit a word.
-use Prim.Native.Nat.{ℕ, ◌-◌, ◌*◌, ◌+◌, ◌/◌, ◌%◌, ◌^◌, ◌≤◌, ◌<◌}
-use mathlib.Core.Path.{◌≡◌, sym, ◌∙◌}
-use native.Mathlib.Omega.{arith}
-use borrow.Author.Rules.{rules}
+use Prim.Native.Nat.{◌-◌, ◌/◌, ◌^◌, ◌≤◌}
+use mathlib.Core.Path.{◌≡◌}
 use Rattle.note.specs.Gps.{decimal}
-use Rattle.fields.proofs.DigitLaws.{from_first, no_value_left, digit_added, decimal-small}
 use Rattle.fields.proofs.decimal.Given as goal
 
 abbrev pub invariant-loop-k : goal.invariant-loop-k

@@ -1,6 +1,5 @@
 -- `fields::event_word_rule` meets its contract. Without the mark the first test fails.
 -- With it the rule is the fault of the three parts, as the call gives it.
-use borrow.Author.Rules.{rules}
 use borrow.Author.Tests.{eq-eqb, ne_eqb}
 use Rattle.theory.specs.Tests.{first}
 use Rattle.theory.proofs.TestLaws.{last}

@@ -2,7 +2,6 @@
 -- The idea: one more at a time they are the definition's list.
 use Rattle.theory.proofs.TestLaws.{first_of_part}
 use Rattle.fields.specs.Digits.{gps_digits_fault}
-use borrow.Author.Rules.{rules}
 use Rattle.fields.proofs.gps_digits_fault.Goals as goal
 
 pub returns : goal.returns

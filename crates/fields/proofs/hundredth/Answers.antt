@@ -2,7 +2,6 @@
 -- The cast asks nothing, since every 32-bit number is a 64-bit float.
 use lib.Ieee.{of_int}
 use mir.Facts.{to_z-of_z}
-use borrow.Author.Rules.{rules}
 use Rattle.note.specs.Calls.{hundredth}
 use Rattle.note.proofs.UnitLaws.{hundred_bits}
 use Rattle.fields.proofs.hundredth.Goals as goal

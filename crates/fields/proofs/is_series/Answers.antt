@@ -1,7 +1,6 @@
 -- `fields::is_series` meets its contract. Each return has the tests passed before it and the one that failed.
 -- The definition's chain of tests computes with those facts.
-use borrow.Author.Rules.{rules}
-use borrow.Author.Tests.{le-leb, lt-leb, not-false, not-true}
+use borrow.Author.Tests.{le-leb, lt-leb}
 use Rattle.note.specs.Administrative.{is_series}
 use Rattle.fields.proofs.is_series.Goals as goal
 

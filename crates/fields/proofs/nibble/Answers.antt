@@ -1,6 +1,5 @@
 -- `fields::nibble` meets its contract. A shift by 4 k bits divides by 16 ^ k, and the mask takes the remainder.
 -- Past the eighth digit a word has only zeros.
-use borrow.Author.Rules.{rules}
 use Rattle.fields.proofs.DigitLaws.{shifted_and_masked, digit-past-word}
 use Rattle.fields.proofs.nibble.Goals as goal
 

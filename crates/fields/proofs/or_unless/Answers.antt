@@ -1,6 +1,5 @@
 -- `fields::or_unless` meets its contract: the fault so far, then the test's.
 -- The idea: the contract has the same two.
-use borrow.Author.Rules.{rules}
 use Rattle.fields.proofs.or_unless.Goals as goal
 
 pub returns : goal.returns

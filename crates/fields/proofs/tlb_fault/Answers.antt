@@ -2,7 +2,6 @@
 -- The idea: one more at a time they are the definition's list.
 use Rattle.theory.proofs.TestLaws.{first_of_part}
 use Rattle.note.specs.Tlb.{tlb_fault}
-use borrow.Author.Rules.{rules}
 use Rattle.fields.proofs.tlb_fault.Goals as goal
 
 pub returns : goal.returns

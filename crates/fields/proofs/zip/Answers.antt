@@ -2,7 +2,6 @@
 -- The shift by z - 1 divides, and the mask of one bit takes the remainder.
 use Prim.Native.Nat.{◌-◌, ◌/◌, ◌^◌}
 use lib.Bits.{and_mask}
-use borrow.Author.Rules.{rules}
 use borrow.Author.Tests.{le-leb, lt-leb}
 use Rattle.note.specs.Tlb.{zip_set}
 use Rattle.fields.proofs.zip.Goals as goal

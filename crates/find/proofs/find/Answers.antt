@@ -9,7 +9,6 @@ use Rattle.theory.proofs.WordLaws.{Bytes-from}
 use Rattle.note.specs.Answers.{given_find}
 use Rattle.containers.proofs.FileParts.{Checked, checked, CheckedIn, checked_in}
 use Rattle.find.proofs.CallLaws.{refused, word_fits, events_fit, searchable, searched}
-use borrow.Author.Rules.{rules}
 use Rattle.find.proofs.find.Goals as goal
 use Rattle.find.proofs.find.Goals.{After-is_big-big, In-Good}
 

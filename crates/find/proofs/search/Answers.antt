@@ -3,17 +3,11 @@ use mathlib.Core.List.{List}
 use Prim.Native.Nat.{ℕ, ◌+◌, ◌≤◌}
 use native.Mathlib.Omega.{arith}
 use lib.ListN.{length}
-use borrow.Author.Rules.{rules}
-use Rattle.theory.specs.Words.{order_from}
-use Rattle.theory.specs.declared.Order.{Order}
 use Rattle.theory.proofs.WordLaws.{Bytes-from}
 use Rattle.note.specs.declared.FindAnswer.TheVariants.{Nothing}
 use Rattle.note.specs.Answers.{accepted, counts, given_find}
-use Rattle.note.specs.Events.{read_events}
-use Rattle.note.specs.Calls.{first_match}
-use Rattle.find.specs.Search.{traces_read}
-use Rattle.find.proofs.SearchLaws.{Searching, later_traces, begin, searched, event-fits, first_fits, into, past-event, past_other}
-use Rattle.find.proofs.SearchLaws.{Looking, looked, record_fits, trace-fits, hit, past}
+use Rattle.find.proofs.SearchLaws.{begin, searched, event-fits, first_fits, into, past-event, past_other}
+use Rattle.find.proofs.SearchLaws.{looked, record_fits, trace-fits, hit, past}
 use Rattle.find.proofs.search.Goals as goal
 use Rattle.find.proofs.search.Goals.{After-word_at, After-word_at-in-loop-records-2}
 use Rattle.find.proofs.search.Goals.{then-word_at-eq-TRACE+else-word_at-code, else-word_at-eq-TRACE}

@@ -1,22 +1,17 @@
 -- The laws of the search answer each need: what stands next was read, and each way of a turn keeps the first match.
 -- The idea: the inner loop speaks of an event that carries the number, and of the traces behind that event.
-use mathlib.Core.Path.{◌≡◌, refl, sym, ap, ◌∙◌}
+use mathlib.Core.Path.{◌≡◌}
 use mathlib.Core.List.{List}
-use mathlib.Core.Logic.{⊎_elim}
-use Prim.Native.Nat.{ℕ, ◌+◌, ◌≤◌}
-use native.Mathlib.Omega.{arith}
+use Prim.Native.Nat.{ℕ, ◌+◌}
 use lib.ListN.{length}
-use borrow.Author.Rules.{rules}
 use Rattle.theory.specs.Words.{order_from}
 use Rattle.theory.specs.declared.Order.{Order}
-use Rattle.theory.proofs.WordLaws.{Bytes-from}
 use Rattle.note.specs.declared.FindAnswer.TheVariants.{Nothing}
-use Rattle.note.specs.Answers.{accepted, counts, given_find}
 use Rattle.note.specs.Events.{read_events}
 use Rattle.note.specs.Calls.{first_match}
 use Rattle.find.specs.Search.{traces_read}
-use Rattle.find.proofs.SearchLaws.{Searching, later_traces, begin, searched, event-fits, first_fits, into, past-event, past_other}
-use Rattle.find.proofs.SearchLaws.{Looking, looked, record_fits, trace-fits, hit, past}
+use Rattle.find.proofs.SearchLaws.{Searching, later_traces}
+use Rattle.find.proofs.SearchLaws.{Looking}
 use Rattle.find.proofs.search.Given as goal
 
 -- What the search is to give.

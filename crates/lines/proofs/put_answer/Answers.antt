@@ -4,7 +4,6 @@ use Prim.Native.Nat.{◌≤◌}
 use native.Mathlib.Omega.{arith}
 use lib.ListN.{length}
 use Rattle.lines.proofs.TextLaws.{word_digits, long_digits, number-ends, answer-put}
-use borrow.Author.Rules.{rules}
 use Rattle.lines.proofs.put_answer.Goals as goal
 use Rattle.lines.proofs.put_answer.Goals.{After-put_number-behind_count, After-put_number-behind_number}
 

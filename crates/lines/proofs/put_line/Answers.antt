@@ -1,10 +1,9 @@
-use Prim.Native.Nat.{ℕ, ◌+◌, ◌-◌, ◌*◌, ◌≤◌}
-use mathlib.Core.Path.{◌≡◌, refl}
+use Prim.Native.Nat.{ℕ}
+use mathlib.Core.Path.{refl}
 use native.Mathlib.Omega.{arith}
-use lib.ListN.{length, drop, get_or}
+use lib.ListN.{get_or}
 use Rattle.note.specs.Listing.{line_text}
-use Rattle.lines.proofs.TextLaws.{Left, word_digits, number-ends, line_turn, line_done}
-use borrow.Author.Rules.{rules}
+use Rattle.lines.proofs.TextLaws.{word_digits, number-ends, line_turn, line_done}
 use Rattle.lines.proofs.put_line.Goals as goal
 
 pub loop-i-init : goal.loop-i-init

@@ -1,12 +1,10 @@
 -- `lines::put_line` meets its contract: each turn stores a number and the byte behind it.
 -- The idea: what is left of the line, stored from here on, makes the line.
-use Prim.Native.Nat.{ℕ, ◌+◌, ◌-◌, ◌*◌, ◌≤◌}
-use mathlib.Core.Path.{◌≡◌, refl}
-use native.Mathlib.Omega.{arith}
-use lib.ListN.{length, drop, get_or}
+use Prim.Native.Nat.{◌+◌, ◌-◌, ◌*◌, ◌≤◌}
+use mathlib.Core.Path.{◌≡◌}
+use lib.ListN.{length, drop}
 use Rattle.note.specs.Listing.{line_text}
-use Rattle.lines.proofs.TextLaws.{Left, word_digits, number-ends, line_turn, line_done}
-use borrow.Author.Rules.{rules}
+use Rattle.lines.proofs.TextLaws.{Left}
 use Rattle.lines.proofs.put_line.Given as goal
 
 abbrev pub invariant-loop-i : goal.invariant-loop-i

@@ -5,7 +5,6 @@ use native.Mathlib.Omega.{arith}
 use lib.ListN.{length, take}
 use Rattle.note.specs.Listing.{decimal_text}
 use Rattle.lines.proofs.TextLaws.{digits_are_text, number_put}
-use borrow.Author.Rules.{rules}
 use Rattle.lines.proofs.put_number.Goals as goal
 use Rattle.lines.proofs.put_number.Goals.{After-decimal-k}
 

@@ -4,7 +4,6 @@ use Prim.Native.Nat.{◌+◌, ◌≤◌}
 use native.Mathlib.Omega.{arith}
 use lib.ListN.{length}
 use Rattle.lines.proofs.TextLaws.{long_digits, number-ends, row-part, row_put}
-use borrow.Author.Rules.{rules}
 use Rattle.lines.proofs.put_row.Goals as goal
 use Rattle.lines.proofs.put_row.Goals.{After-put_number-next}
 

@@ -1,11 +1,10 @@
-use Prim.Native.Nat.{◌+◌, ◌-◌, ◌*◌, ◌≤◌}
-use mathlib.Core.Path.{◌≡◌, refl}
+use Prim.Native.Nat.{◌-◌, ◌*◌}
+use mathlib.Core.Path.{refl}
 use native.Mathlib.Omega.{arith}
-use lib.ListN.{length, drop}
+use lib.ListN.{drop}
 use Rattle.note.specs.Listing.{lines_text}
 use Rattle.lines.specs.Texts.{buffer_lines}
-use Rattle.lines.proofs.TextLaws.{Left, rows_start, rows-turn, rows-done}
-use borrow.Author.Rules.{rules}
+use Rattle.lines.proofs.TextLaws.{rows_start, rows-turn, rows-done}
 use Rattle.lines.proofs.put_rows.Goals as goal
 
 pub loop-i-init : goal.loop-i-init

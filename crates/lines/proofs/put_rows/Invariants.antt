@@ -1,13 +1,11 @@
 -- `lines::put_rows` meets its contract: each turn stores the line of one row.
 -- The idea: what is left of the lines, stored from here on, makes all of them.
 use Prim.Native.Nat.{◌+◌, ◌-◌, ◌*◌, ◌≤◌}
-use mathlib.Core.Path.{◌≡◌, refl}
-use native.Mathlib.Omega.{arith}
+use mathlib.Core.Path.{◌≡◌}
 use lib.ListN.{length, drop}
 use Rattle.note.specs.Listing.{lines_text}
 use Rattle.lines.specs.Texts.{buffer_lines}
-use Rattle.lines.proofs.TextLaws.{Left, rows_start, rows-turn, rows-done}
-use borrow.Author.Rules.{rules}
+use Rattle.lines.proofs.TextLaws.{Left}
 use Rattle.lines.proofs.put_rows.Given as goal
 
 abbrev pub invariant-loop-i : goal.invariant-loop-i

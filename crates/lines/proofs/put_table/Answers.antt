@@ -4,10 +4,8 @@ use mathlib.Core.Bool.{true, false}
 use Prim.Native.Nat.{◌+◌, ◌*◌, ◌≤◌}
 use native.Mathlib.Omega.{arith}
 use lib.ListN.{length}
-use borrow.Author.Tests.{not-true, not-false}
 use Rattle.lines.specs.Texts.{listed_rows, has_room}
 use Rattle.lines.proofs.TextLaws.{room_shown, nothing_put, both_put}
-use borrow.Author.Rules.{rules}
 use Rattle.lines.proofs.put_table.Goals as goal
 use Rattle.lines.proofs.put_table.Goals.{Else-not-has_room}
 

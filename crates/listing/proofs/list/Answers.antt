@@ -5,7 +5,6 @@ use native.Mathlib.Omega.{arith}
 use lib.ListN.{replicate, length-replicate}
 use Rattle.theory.proofs.WordLaws.{Bytes-from}
 use Rattle.listing.proofs.ListLaws.{over-listed, table_listed}
-use borrow.Author.Rules.{rules}
 use Rattle.listing.proofs.list.Goals as goal
 
 pub returns-then-file-gt-LISTING_LIMIT : goal.returns-then-file-gt-LISTING_LIMIT

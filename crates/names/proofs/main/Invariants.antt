@@ -1,6 +1,5 @@
 -- One past the last type ends it.
 use Prim.Native.Nat.{◌-◌, ◌≤◌}
-use borrow.Author.Rules.{rules}
 use Rattle.names.proofs.main.Given as goal
 
 abbrev pub invariant-loop-detector_type : goal.invariant-loop-detector_type

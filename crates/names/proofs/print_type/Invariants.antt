@@ -1,6 +1,5 @@
 -- One past the last channel ends it.
 use Prim.Native.Nat.{◌-◌, ◌≤◌}
-use borrow.Author.Rules.{rules}
 use Rattle.names.proofs.print_type.Given as goal
 
 abbrev pub invariant-loop-channel : goal.invariant-loop-channel

@@ -1,7 +1,6 @@
 -- Only in an event does what came before matter.
 use mathlib.Core.Path.{◌∙◌}
 use Rattle.record.proofs.SeenLaws.{event_allowed, outside_allowed}
-use borrow.Author.Rules.{rules}
 use Rattle.record.proofs.is_allowed.Goals as goal
 
 pub returns-then-context-lt-ENTRY : goal.returns-then-context-lt-ENTRY

@@ -2,7 +2,6 @@
 use borrow.Author.Tests.{le-leb, lt-leb, ne_eqb}
 use Rattle.note.specs.Records.{is_kind}
 use Rattle.record.specs.Steps.{context_of}
-use borrow.Author.Rules.{rules}
 use Rattle.record.proofs.is_kind.Goals as goal
 
 pub returns-then-context-lt-ENTRY : goal.returns-then-context-lt-ENTRY

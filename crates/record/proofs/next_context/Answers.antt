@@ -2,7 +2,6 @@
 use mathlib.Core.Path.{◌∙◌}
 use Rattle.record.proofs.SeenLaws.{behind-trace, event-behind, outside_behind}
 use Rattle.record.specs.Steps.{context_of}
-use borrow.Author.Rules.{rules}
 use Rattle.record.proofs.next_context.Goals as goal
 
 pub returns-then-word-eq-TRACE : goal.returns-then-word-eq-TRACE

@@ -3,13 +3,11 @@ use mathlib.Core.Path.{◌≡◌, sym, ◌∙◌}
 use mathlib.Core.Bool.{true}
 use mathlib.Core.List.{List}
 use Prim.Native.Nat.{ℕ}
-use borrow.Author.Tests.{not-true, not-false}
 use Rattle.theory.specs.Words.{order_from}
 use Rattle.theory.specs.declared.Order.{Order}
 use Rattle.note.specs.Records.{Context, is_allowed}
 use Rattle.record.specs.Steps.{context_of}
 use Rattle.record.proofs.StepLaws.{short, unknown, Named, long, Sized, misplaced, fault, good}
-use borrow.Author.Rules.{rules}
 use Rattle.record.proofs.record_in.Goals as goal
 use Rattle.record.proofs.record_in.Goals.{Else-not-is_allowed, Else-not-is_kind, Else-room-length}
 

@@ -6,7 +6,6 @@ use Rattle.theory.specs.Words.{order_from}
 use Rattle.note.specs.Events.{event_fault, event_word}
 use Rattle.note.specs.Writers.{closing_bytes}
 use Rattle.rewriting.proofs.ContainerCopy.{event_begins}
-use borrow.Author.Rules.{rules}
 use Rattle.rewriting.proofs.begin_container.Goals as goal
 use Rattle.rewriting.proofs.begin_container.Goals.{After-event_type_of-event_type}
 

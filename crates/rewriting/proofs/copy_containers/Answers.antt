@@ -5,10 +5,9 @@ use lib.ListN.{length}
 use Rattle.theory.specs.Words.{order_from}
 use Rattle.theory.proofs.WordLaws.{Bytes-from}
 use Rattle.note.specs.Limits.{file_limit}
-use Rattle.rewriting.proofs.CopyLoop.{Copying, Found, begin, ended}
+use Rattle.rewriting.proofs.CopyLoop.{Found, begin, ended}
 use Rattle.rewriting.proofs.ContainerLoop.{container_item, same_containers, container_fits}
 use Rattle.rewriting.proofs.ContainerLoop.{begin_ready, records_ready, container_next}
-use borrow.Author.Rules.{rules}
 use Rattle.rewriting.proofs.copy_containers.Goals as goal
 use Rattle.rewriting.proofs.copy_containers.Goals.{After-word_at, In-loop-rest}
 

@@ -1,16 +1,9 @@
 -- `rewriting::copy_containers` meets its contract: what was written and what is left are the part, turn by turn.
 -- The idea: the loop's laws answer each need; a container's two words stand in front of its contents when these are written.
-use mathlib.Core.Path.{refl}
-use Prim.Native.Nat.{◌+◌, ◌≤◌}
-use native.Mathlib.Omega.{arith}
 use lib.ListN.{length}
 use Rattle.theory.specs.Words.{order_from}
-use Rattle.theory.proofs.WordLaws.{Bytes-from}
-use Rattle.note.specs.Limits.{file_limit}
-use Rattle.rewriting.proofs.CopyLoop.{Copying, Found, begin, ended}
-use Rattle.rewriting.proofs.ContainerLoop.{container_item, same_containers, container_fits}
-use Rattle.rewriting.proofs.ContainerLoop.{begin_ready, records_ready, container_next}
-use borrow.Author.Rules.{rules}
+use Rattle.rewriting.proofs.CopyLoop.{Copying}
+use Rattle.rewriting.proofs.ContainerLoop.{container_item}
 use Rattle.rewriting.proofs.copy_containers.Given as goal
 
 abbrev pub invariant-loop-rest : goal.invariant-loop-rest

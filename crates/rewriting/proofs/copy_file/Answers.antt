@@ -9,7 +9,6 @@ use Rattle.theory.proofs.WordLaws.{Bytes-from}
 use Rattle.note.specs.Files.{header_bytes}
 use Rattle.demands.specs.Outputs.{Laid}
 use Rattle.rewriting.proofs.FileCopy.{words_fit, header_copied, containers_ready, file_copied}
-use borrow.Author.Rules.{rules}
 use Rattle.rewriting.proofs.copy_file.Goals as goal
 use Rattle.rewriting.proofs.copy_file.Goals.{After-slice_known-1, After-write_header}
 

@@ -6,9 +6,8 @@ use Rattle.theory.specs.Words.{order_from}
 use Rattle.theory.proofs.WordLaws.{Bytes-from}
 use Rattle.note.specs.Limits.{file_limit}
 use Rattle.demands.proofs.Bundles.{record_item, same-records}
-use Rattle.rewriting.proofs.CopyLoop.{Copying, Found, begin, ended}
+use Rattle.rewriting.proofs.CopyLoop.{Found, begin, ended}
 use Rattle.rewriting.proofs.RecordCopy.{record_fits, copyable, copied_next}
-use borrow.Author.Rules.{rules}
 use Rattle.rewriting.proofs.copy_records.Goals as goal
 use Rattle.rewriting.proofs.copy_records.Goals.{After-word_at, After-word_at-in-loop-rest}
 

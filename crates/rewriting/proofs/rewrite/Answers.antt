@@ -7,7 +7,6 @@ use Rattle.theory.proofs.WordLaws.{Bytes-from}
 use Rattle.note.specs.Answers.{given_writer}
 use Rattle.containers.proofs.FileParts.{Checked, checked}
 use Rattle.rewriting.proofs.RewriteCall.{over, file-refuses, no_room, ready, rewrites}
-use borrow.Author.Rules.{rules}
 use Rattle.rewriting.proofs.rewrite.Goals as goal
 use Rattle.rewriting.proofs.rewrite.Goals.{After-slice_known-1, In-Good}
 

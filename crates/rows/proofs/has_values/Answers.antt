@@ -3,7 +3,6 @@
 use Rattle.rows.proofs.ValueLaws.{none_has, history_has, others_have, ordered}
 use mathlib.Core.Path.{sym}
 use native.Mathlib.Omega.{arith}
-use borrow.Author.Rules.{rules}
 use Rattle.rows.proofs.has_values.Goals as goal
 
 pub returns-then-s-eq-HISTORY_ROW : goal.returns-then-s-eq-HISTORY_ROW

@@ -7,7 +7,6 @@ use lib.ListN.{length}
 use Rattle.theory.proofs.StoreLaws.{part-stored}
 use Rattle.note.specs.Rows.{flat}
 use Rattle.rows.specs.Buffers.{row_of, stored}
-use borrow.Author.Rules.{rules}
 use Rattle.rows.proofs.put_row.Goals as goal
 
 pub returns : goal.returns

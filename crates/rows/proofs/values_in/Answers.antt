@@ -10,7 +10,6 @@ use Rattle.note.specs.History.{history_rule}
 use Rattle.rules.proofs.SectionLaws.{room, thin}
 use Rattle.rules.proofs.RoomLaws.{veto-follows, trigger-count}
 use Rattle.rows.proofs.ValueLaws.{history-follows, history-values, others-room, others-values}
-use borrow.Author.Rules.{rules}
 use Rattle.rows.proofs.values_in.Goals as goal
 use Rattle.rows.proofs.values_in.Goals.{Else-s-eq-HISTORY_ROW, Then-s-eq-HISTORY_ROW}
 

@@ -3,7 +3,6 @@ use borrow.Author.Tests.{eq-eqb, ne_eqb}
 use Rattle.theory.specs.Tests.{first}
 use Rattle.theory.proofs.TestLaws.{last}
 use Rattle.note.specs.Administrative.{administrative_rule}
-use borrow.Author.Rules.{rules}
 use Rattle.rules.proofs.administrative_rule.Goals as goal
 
 pub returns-then-b-ne-ADMINISTRATIVE_LENGTH : goal.returns-then-b-ne-ADMINISTRATIVE_LENGTH

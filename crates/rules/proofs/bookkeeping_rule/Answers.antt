@@ -1,9 +1,8 @@
 -- `rules::bookkeeping_rule` meets its contract: the tests are the definition's, in its order.
 -- Places are named by how many steps they lie behind a need's own.
-use borrow.Author.Tests.{eq-eqb, ne_eqb, not-false, not-true}
+use borrow.Author.Tests.{eq-eqb, ne_eqb}
 use Rattle.note.specs.Trace.{bookkeeping_rule}
 use Rattle.theory.specs.Tests.{first}
-use borrow.Author.Rules.{rules}
 use Rattle.rules.proofs.bookkeeping_rule.Goals as goal
 
 pub returns-then-word_at-ne-BOOKKEEPING : goal.returns-then-word_at-ne-BOOKKEEPING

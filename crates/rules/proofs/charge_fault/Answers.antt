@@ -1,7 +1,6 @@
 -- `rules::charge_fault` meets its contract: 10 where the list has no such code.
 -- The idea: the definition is the same test.
 use Rattle.note.specs.Charge.{charge_fault}
-use borrow.Author.Rules.{rules}
 use Rattle.rules.proofs.charge_fault.Goals as goal
 
 pub returns : goal.returns

@@ -3,7 +3,6 @@ use borrow.Author.Tests.{eq-eqb, ne_eqb}
 use Rattle.theory.specs.Tests.{first}
 use Rattle.theory.proofs.TestLaws.{last}
 use Rattle.note.specs.Charge.{charge_rule}
-use borrow.Author.Rules.{rules}
 use Rattle.rules.proofs.charge_rule.Goals as goal
 
 pub returns-then-b-ne-CHARGE_LENGTH : goal.returns-then-b-ne-CHARGE_LENGTH

@@ -5,7 +5,6 @@ use Rattle.theory.specs.Tests.{first}
 use Rattle.theory.proofs.TestLaws.{pass_over}
 use Rattle.note.specs.Gps.{gps_of}
 use Rattle.fields.proofs.GpsRuleLaws.{gps_rule_in_parts}
-use borrow.Author.Rules.{rules}
 use Rattle.rules.proofs.gps_rule.Goals as goal
 
 pub returns-then-b-ne-GPS_LENGTH : goal.returns-then-b-ne-GPS_LENGTH

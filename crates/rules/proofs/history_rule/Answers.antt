@@ -12,7 +12,6 @@ use borrow.Author.Tests.{eq-eqb, le-leb, lt-leb, ne_eqb}
 use Rattle.note.specs.History.{history_rule, section_rule, end_at}
 use Rattle.theory.specs.Tests.{unless, first}
 use Rattle.theory.proofs.TestLaws.{positive}
-use borrow.Author.Rules.{rules}
 use Rattle.rules.proofs.history_rule.Goals as goal
 use Rattle.rules.proofs.history_rule.Goals.{Else-room-ne0, Else-trigger-ne0, Else-veto-ne0}
 

@@ -1,7 +1,6 @@
 -- `rules::phonon_fault` meets its contract: 10 where the list has no such code.
 -- The idea: the definition is the same test.
 use Rattle.note.specs.Phonon.{phonon_fault}
-use borrow.Author.Rules.{rules}
 use Rattle.rules.proofs.phonon_fault.Goals as goal
 
 pub returns : goal.returns

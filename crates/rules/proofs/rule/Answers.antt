@@ -4,7 +4,6 @@ use Rattle.theory.specs.Words.{order_from}
 use Rattle.note.specs.Kinds.{Kind}
 use Rattle.note.specs.Records.{kind_of}
 use Rattle.rules.proofs.KindLaws.{no_other_arm}
-use borrow.Author.Rules.{rules}
 use Rattle.rules.proofs.rule.Goals as goal
 
 pub returns-then-word-eq-TRACE : goal.returns-then-word-eq-TRACE

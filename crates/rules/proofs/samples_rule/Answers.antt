@@ -4,7 +4,6 @@ use borrow.Author.Tests.{eq-eqb, ne_eqb}
 use Rattle.note.specs.Trace.{samples_rule}
 use Rattle.theory.specs.Tests.{first}
 use Rattle.theory.proofs.TestLaws.{positive}
-use borrow.Author.Rules.{rules}
 use Rattle.rules.proofs.samples_rule.Goals as goal
 
 pub returns-then-word_at-ne-SAMPLE_BLOCK : goal.returns-then-word_at-ne-SAMPLE_BLOCK

@@ -4,7 +4,6 @@ use Prim.Native.Nat.{◌*◌, ◌≤◌}
 use native.Mathlib.Omega.{arith}
 use Rattle.note.specs.History.{width_at, width_of, end_at}
 use Rattle.rules.proofs.SectionLaws.{product}
-use borrow.Author.Rules.{rules}
 use Rattle.rules.proofs.section_end.Goals as goal
 use Rattle.rules.proofs.section_end.Goals.{After-word_at-w}
 

@@ -4,7 +4,6 @@ use borrow.Author.Tests.{le-leb, lt-leb}
 use Rattle.theory.specs.Tests.{first}
 use Rattle.theory.proofs.TestLaws.{pass_over}
 use Rattle.note.specs.History.{section_rule, width_at, width_of}
-use borrow.Author.Rules.{rules}
 use Rattle.rules.proofs.section_rule.Goals as goal
 
 pub returns-then-room-p : goal.returns-then-room-p

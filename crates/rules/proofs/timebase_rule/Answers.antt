@@ -3,7 +3,6 @@
 use borrow.Author.Tests.{eq-eqb, le-leb, lt-leb, ne_eqb}
 use Rattle.note.specs.Trace.{timebase_rule}
 use Rattle.theory.specs.Tests.{first}
-use borrow.Author.Rules.{rules}
 use Rattle.rules.proofs.timebase_rule.Goals as goal
 
 pub returns-then-word_at-ne-TIMEBASE : goal.returns-then-word_at-ne-TIMEBASE

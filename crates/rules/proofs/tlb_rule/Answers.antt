@@ -3,7 +3,6 @@ use borrow.Author.Tests.{ne_eqb, eq-eqb}
 use Rattle.theory.specs.Tests.{first}
 use Rattle.theory.proofs.TestLaws.{last}
 use Rattle.note.specs.Tlb.{tlb_of, tlb_rule}
-use borrow.Author.Rules.{rules}
 use Rattle.rules.proofs.tlb_rule.Goals as goal
 
 pub returns-then-b-ne-TLB_LENGTH : goal.returns-then-b-ne-TLB_LENGTH

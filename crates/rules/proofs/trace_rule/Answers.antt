@@ -4,7 +4,6 @@ use borrow.Author.Tests.{eq-eqb, le-leb, lt-leb, ne_eqb}
 use Rattle.note.specs.Trace.{trace_rule}
 use Rattle.theory.specs.Tests.{first}
 use Rattle.theory.proofs.TestLaws.{positive}
-use borrow.Author.Rules.{rules}
 use Rattle.rules.proofs.trace_rule.Goals as goal
 
 pub returns-then-b-lt-SAMPLES_AT : goal.returns-then-b-lt-SAMPLES_AT

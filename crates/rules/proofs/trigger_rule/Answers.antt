@@ -2,7 +2,6 @@
 use borrow.Author.Tests.{eq-eqb, ne_eqb}
 use Rattle.theory.specs.Tests.{first}
 use Rattle.note.specs.Trigger.{trigger_rule}
-use borrow.Author.Rules.{rules}
 use Rattle.rules.proofs.trigger_rule.Goals as goal
 
 pub returns-then-b-ne-TRIGGER_LENGTH : goal.returns-then-b-ne-TRIGGER_LENGTH

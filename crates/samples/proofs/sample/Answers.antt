@@ -5,7 +5,6 @@ use Rattle.note.specs.Answers.{given_sample}
 use Rattle.note.specs.Calls.{sample_given, sample_at}
 use Rattle.answers.proofs.FoundLaws.{Found, good-found, bad-given}
 use Rattle.samples.proofs.SampleLaws.{trace-found, no_sample, long, low, high, whole_words, sample_given_lem}
-use borrow.Author.Rules.{rules}
 use Rattle.samples.proofs.sample.Goals as goal
 use Rattle.samples.proofs.sample.Goals.{Else-word-ne-TRACE, In-Good}
 

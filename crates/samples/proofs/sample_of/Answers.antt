@@ -2,7 +2,6 @@
 use borrow.Author.Tests.{eq-eqb, ne_eqb}
 use Rattle.note.specs.Trace.{sample_in}
 use Prim.Native.Nat.{◌%◌}
-use borrow.Author.Rules.{rules}
 use Rattle.samples.proofs.sample_of.Goals as goal
 
 pub returns-then-number-eq1 : goal.returns-then-number-eq1

@@ -3,7 +3,6 @@ use Rattle.theory.specs.Words.{order_from}
 use Rattle.samples.proofs.SampleLaws.{trace-found, no_part, long, part-found, part-given, refused-part, empty_part}
 use native.Mathlib.Omega.{arith}
 use Rattle.answers.proofs.FoundLaws.{Found, good-found}
-use borrow.Author.Rules.{rules}
 use Rattle.samples.proofs.samples.Goals as goal
 use Rattle.samples.proofs.samples.Goals.{In-Good, Then-word-eq-TRACE}
 

@@ -2,7 +2,6 @@
 -- The idea: a law for each way, over the tests that led there.
 use native.Mathlib.Omega.{arith}
 use Rattle.stores.proofs.WriterLaws.{over, faulty, no_room, room}
-use borrow.Author.Rules.{rules}
 use Rattle.stores.proofs.admitted.Goals as goal
 
 pub returns-then-room-gt-FILE_LIMIT : goal.returns-then-room-gt-FILE_LIMIT

@@ -5,7 +5,6 @@ use native.Mathlib.Omega.{arith}
 use lib.ListN.{length, take, replicate}
 use lib.Seq.{sets}
 use Rattle.stores.proofs.StoreLaws.{front-stored}
-use borrow.Author.Rules.{rules}
 use Rattle.stores.proofs.put_block.Goals as goal
 use Rattle.stores.proofs.put_block.Goals.{After-held-3-1}
 

@@ -1,11 +1,10 @@
-use Prim.Native.Nat.{ℕ, ◌+◌, ◌-◌, ◌≤◌}
-use mathlib.Core.Path.{◌≡◌, refl, ap, ◌∙◌}
+use Prim.Native.Nat.{ℕ, ◌+◌}
+use mathlib.Core.Path.{refl, ap, ◌∙◌}
 use mathlib.Core.List.{List}
 use native.Mathlib.Omega.{arith}
-use lib.ListN.{length, length-set, take, set, get_or}
+use lib.ListN.{length-set, set, get_or}
 use lib.Seq.{sets, take_all}
 use Rattle.stores.proofs.StoreLaws.{one_more}
-use borrow.Author.Rules.{rules}
 use Rattle.stores.proofs.put_bytes.Goals as goal
 
 pub loop-i-init : goal.loop-i-init

@@ -1,13 +1,9 @@
 -- `stores::put_part` meets its contract: after each turn the bytes up to here are stored.
 -- The idea: a turn stores one block more.
-use Prim.Native.Nat.{ℕ, ◌+◌, ◌-◌, ◌≤◌}
-use mathlib.Core.Path.{◌≡◌, refl, ap, ◌∙◌}
-use mathlib.Core.List.{List}
-use native.Mathlib.Omega.{arith}
-use lib.ListN.{length, take, drop}
-use lib.Seq.{sets, take_all}
-use Rattle.stores.proofs.StoreLaws.{block_more}
-use borrow.Author.Rules.{rules}
+use Prim.Native.Nat.{◌-◌, ◌≤◌}
+use mathlib.Core.Path.{◌≡◌}
+use lib.ListN.{length, take}
+use lib.Seq.{sets}
 use Rattle.stores.proofs.put_part.Given as goal
 
 abbrev pub invariant-loop-from : goal.invariant-loop-from

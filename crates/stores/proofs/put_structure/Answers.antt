@@ -2,7 +2,6 @@
 -- The idea: stores in a row are one store of the structure.
 use mathlib.Core.Path.{refl}
 use Rattle.stores.proofs.StructureLaws.{structured-stored}
-use borrow.Author.Rules.{rules}
 use Rattle.stores.proofs.put_structure.Goals as goal
 
 pub returns : goal.returns

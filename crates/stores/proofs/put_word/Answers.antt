@@ -10,7 +10,6 @@ use lib.Seq.{sets}
 use Rattle.theory.proofs.WordLaws.{put-spelled, length-puts}
 use Rattle.theory.proofs.StoreLaws.{part-stored}
 use Rattle.note.specs.Words.{words}
-use borrow.Author.Rules.{rules}
 use Rattle.stores.proofs.put_word.Goals as goal
 
 pub returns : goal.returns

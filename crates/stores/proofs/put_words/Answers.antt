@@ -1,13 +1,12 @@
-use Prim.Native.Nat.{ℕ, ◌+◌, ◌-◌, ◌*◌, ◌≤◌}
-use mathlib.Core.Path.{◌≡◌, refl, ap, ◌∙◌}
+use Prim.Native.Nat.{ℕ, ◌+◌, ◌*◌}
+use mathlib.Core.Path.{refl, ap, ◌∙◌}
 use mathlib.Core.List.{List, [], ◌∷◌}
 use native.Mathlib.Omega.{arith}
-use lib.ListN.{length, take, get_or}
+use lib.ListN.{get_or}
 use lib.Seq.{sets, take_all}
 use Rattle.theory.specs.Words.{puts, order_from}
 use Rattle.note.specs.Words.{words}
 use Rattle.stores.proofs.StoreLaws.{word_more}
-use borrow.Author.Rules.{rules}
 use Rattle.stores.proofs.put_words.Goals as goal
 
 pub loop-i-init : goal.loop-i-init

@@ -1,15 +1,11 @@
 -- `stores::put_words` meets its contract: after i turns the first i words are stored.
 -- The idea: a turn stores one word more.
-use Prim.Native.Nat.{ℕ, ◌+◌, ◌-◌, ◌*◌, ◌≤◌}
-use mathlib.Core.Path.{◌≡◌, refl, ap, ◌∙◌}
-use mathlib.Core.List.{List, [], ◌∷◌}
-use native.Mathlib.Omega.{arith}
-use lib.ListN.{length, take, get_or}
-use lib.Seq.{sets, take_all}
-use Rattle.theory.specs.Words.{puts, order_from}
+use Prim.Native.Nat.{◌-◌, ◌≤◌}
+use mathlib.Core.Path.{◌≡◌}
+use lib.ListN.{length, take}
+use lib.Seq.{sets}
+use Rattle.theory.specs.Words.{order_from}
 use Rattle.note.specs.Words.{words}
-use Rattle.stores.proofs.StoreLaws.{word_more}
-use borrow.Author.Rules.{rules}
 use Rattle.stores.proofs.put_words.Given as goal
 
 abbrev pub invariant-loop-i : goal.invariant-loop-i

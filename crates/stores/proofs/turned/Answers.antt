@@ -3,7 +3,6 @@ use Prim.Native.Nat.{◌/◌, ◌%◌}
 use mathlib.Core.Path.{◌≡◌, ◌∙◌}
 use native.Mathlib.Omega.{arith}
 use Rattle.theory.specs.Words.{bytes}
-use borrow.Author.Rules.{rules}
 use Rattle.stores.proofs.turned.Goals as goal
 
 pub returns-then-big : goal.returns-then-big

@@ -9,7 +9,6 @@ use Rattle.note.specs.Limits.{file_limit}
 use Rattle.stores.specs.Structures.{structure_draft}
 use Rattle.stores.proofs.WriterLaws.{Admitted, refuses, has_room, writes}
 use Rattle.stores.proofs.StructureLaws.{structured-size}
-use borrow.Author.Rules.{rules}
 use Rattle.stores.proofs.write_structure.Goals as goal
 use Rattle.stores.proofs.write_structure.Goals.{After-admitted, In-Next}
 

@@ -8,7 +8,6 @@ use Rattle.theory.specs.Words.{Bytes, order_from}
 use Rattle.theory.proofs.WordLaws.{Bytes-from}
 use Rattle.note.specs.Limits.{file_limit}
 use Rattle.table.proofs.FileFillLaws.{some, sized, Begun, begin, fillable, next_row, fillable_events, done}
-use borrow.Author.Rules.{rules}
 use Rattle.table.proofs.fill.Goals as goal
 use Rattle.table.proofs.fill.Goals.{After-fill_records-next, After-put_row, After-slice_known-1, After-word_at}
 

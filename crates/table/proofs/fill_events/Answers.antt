@@ -2,11 +2,9 @@ use Prim.Native.Nat.{◌+◌, ◌*◌, ◌≤◌}
 use mathlib.Core.Path.{refl}
 use native.Mathlib.Omega.{arith}
 use lib.ListN.{length}
-use borrow.Author.Rules.{rules}
-use Rattle.theory.specs.Words.{order_from}
 use Rattle.theory.proofs.WordLaws.{Bytes-from}
 use Rattle.note.specs.Limits.{file_limit, row_width}
-use Rattle.table.proofs.EventFillLaws.{FillingEvents, begin, same_rows, done, low, sized, fillable, next_row, next-event}
+use Rattle.table.proofs.EventFillLaws.{begin, same_rows, done, low, sized, fillable, next_row, next-event}
 use Rattle.table.proofs.fill_events.Goals as goal
 use Rattle.table.proofs.fill_events.Goals.{After-fill_records-next, After-word_at, In-loop-rest}
 

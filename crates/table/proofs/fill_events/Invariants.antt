@@ -1,14 +1,8 @@
 -- `table::fill_events` meets its contract: the rows so far are the events' so far, turn by turn.
 -- The idea: the part is known to be read, so what stands next was read; its records' rows are stored, and then its own before them.
-use Prim.Native.Nat.{◌+◌, ◌*◌, ◌≤◌}
-use mathlib.Core.Path.{refl}
-use native.Mathlib.Omega.{arith}
 use lib.ListN.{length}
-use borrow.Author.Rules.{rules}
 use Rattle.theory.specs.Words.{order_from}
-use Rattle.theory.proofs.WordLaws.{Bytes-from}
-use Rattle.note.specs.Limits.{file_limit, row_width}
-use Rattle.table.proofs.EventFillLaws.{FillingEvents, begin, same_rows, done, low, sized, fillable, next_row, next-event}
+use Rattle.table.proofs.EventFillLaws.{FillingEvents}
 use Rattle.table.proofs.fill_events.Given as goal
 
 abbrev pub invariant-loop-rest : goal.invariant-loop-rest

@@ -2,10 +2,8 @@ use Prim.Native.Nat.{◌+◌, ◌*◌, ◌≤◌}
 use mathlib.Core.Path.{refl}
 use native.Mathlib.Omega.{arith}
 use lib.ListN.{length}
-use borrow.Author.Rules.{rules}
-use Rattle.theory.specs.Words.{order_from}
 use Rattle.note.specs.Limits.{file_limit, row_width}
-use Rattle.table.proofs.FillLaws.{Filling, begin, same_rows, sized, valued, row_fits, next, done}
+use Rattle.table.proofs.FillLaws.{begin, same_rows, sized, valued, row_fits, next, done}
 use Rattle.table.proofs.fill_records.Goals as goal
 use Rattle.table.proofs.fill_records.Goals.{After-word_at, In-loop-rest}
 

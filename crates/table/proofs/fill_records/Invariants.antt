@@ -1,13 +1,8 @@
 -- `table::fill_records` meets its contract: the rows so far are the records' so far, turn by turn.
 -- The idea: the part is known to be read, so what stands next was read, and its row is stored behind those before it.
-use Prim.Native.Nat.{◌+◌, ◌*◌, ◌≤◌}
-use mathlib.Core.Path.{refl}
-use native.Mathlib.Omega.{arith}
 use lib.ListN.{length}
-use borrow.Author.Rules.{rules}
 use Rattle.theory.specs.Words.{order_from}
-use Rattle.note.specs.Limits.{file_limit, row_width}
-use Rattle.table.proofs.FillLaws.{Filling, begin, same_rows, sized, valued, row_fits, next, done}
+use Rattle.table.proofs.FillLaws.{Filling}
 use Rattle.table.proofs.fill_records.Given as goal
 
 abbrev pub invariant-loop-rest : goal.invariant-loop-rest

@@ -5,7 +5,6 @@ use Rattle.note.specs.Files.{read_file}
 use Rattle.containers.specs.declared.Count.TheVariants.{Good}
 use Rattle.containers.specs.Counts.{file_rows}
 use Rattle.table.proofs.TableLaws.{refused, too_few, fillable, filled}
-use borrow.Author.Rules.{rules}
 use Rattle.table.proofs.table.Goals as goal
 use Rattle.table.proofs.table.Goals.{In-Good}
 

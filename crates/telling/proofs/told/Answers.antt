@@ -1,7 +1,6 @@
 -- Each case of an answer, and the lent numbers that follow it.
 use Rattle.telling.specs.Told.{Before}
 use Rattle.telling.proofs.ToldLaws.{tells_next, tells_refusal}
-use borrow.Author.Rules.{rules}
 use Rattle.telling.proofs.told.Goals as goal
 use Rattle.telling.proofs.told.Goals.{Start}
 

@@ -1,7 +1,5 @@
-use Prim.Native.Nat.{◌+◌, ◌-◌}
 use native.Mathlib.Omega.{arith}
-use borrow.Author.Rules.{rules}
-use Rattle.visitor.proofs.VisitLaws.{Storing, Stepped, begin, passes, keeps, full, ends, not-refused}
+use Rattle.visitor.proofs.VisitLaws.{Stepped, begin, passes, keeps, full, ends, not-refused}
 use Rattle.visitor.proofs.store.Goals as goal
 use Rattle.visitor.proofs.store.Goals.{After-last}
 

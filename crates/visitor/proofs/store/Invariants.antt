@@ -1,9 +1,7 @@
 -- A turn passes over one row or stores one; at the end, or where the buffer is full, the rows stored are those that it holds.
 -- The idea: what is known of the walk's yields is handed on turn by turn (Storing).
 use Prim.Native.Nat.{◌+◌, ◌-◌}
-use native.Mathlib.Omega.{arith}
-use borrow.Author.Rules.{rules}
-use Rattle.visitor.proofs.VisitLaws.{Storing, Stepped, begin, passes, keeps, full, ends, not-refused}
+use Rattle.visitor.proofs.VisitLaws.{Storing}
 use Rattle.visitor.proofs.store.Given as goal
 
 abbrev pub invariant-loop-n : goal.invariant-loop-n

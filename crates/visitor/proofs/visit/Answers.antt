@@ -4,7 +4,6 @@ use native.Mathlib.Omega.{arith}
 use Rattle.theory.specs.Words.{Bytes}
 use Rattle.theory.proofs.WordLaws.{Bytes-from}
 use Rattle.visitor.proofs.VisitLaws.{visit_refused, visit_accepted}
-use borrow.Author.Rules.{rules}
 use Rattle.visitor.proofs.visit.Goals as goal
 use Rattle.visitor.proofs.visit.Goals.{After-start-from}
 

@@ -2,7 +2,6 @@
 -- The idea: at byte 8 the row is the configuration's, elsewhere an event's.
 use borrow.Author.Tests.{eq-eqb, ne_eqb}
 use Rattle.walk.specs.Steps.{container_row}
-use borrow.Author.Rules.{rules}
 use Rattle.walk.proofs.container_row.Goals as goal
 
 pub returns-then-place-eq-HEADER : goal.returns-then-place-eq-HEADER

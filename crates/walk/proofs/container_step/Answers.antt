@@ -3,11 +3,9 @@
 use mathlib.Core.Bool.{true}
 use mathlib.Core.Path.{◌≡◌, sym, ◌∙◌}
 use native.Mathlib.Omega.{arith}
-use borrow.Author.Tests.{not-true, not-false}
 use Rattle.theory.specs.Words.{order_from}
 use Rattle.walk.specs.Steps.{stands}
 use Rattle.walk.proofs.StepLaws.{standing, container_none, Found, fits, few_children, container_here}
-use borrow.Author.Rules.{rules}
 use Rattle.walk.proofs.container_step.Goals as goal
 use Rattle.walk.proofs.container_step.Goals.{After-word_at, Else-not-stands}
 

@@ -1,8 +1,5 @@
-use borrow.Author.Rules.{rules}
 use native.Mathlib.Omega.{arith}
-use lib.ListN.{length}
-use Rattle.theory.specs.Words.{order_from}
-use Rattle.walk.proofs.StepLaws.{Counting, begin, counted, counts_on, too_short, too_long}
+use Rattle.walk.proofs.StepLaws.{begin, counted, counts_on, too_short, too_long}
 use Rattle.walk.proofs.count_in.Goals as goal
 
 pub loop-rest-init : goal.loop-rest-init

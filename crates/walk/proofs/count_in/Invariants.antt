@@ -1,10 +1,8 @@
 -- The loop counts turn by turn.
 -- The idea: so many were counted, and the rest counts on (Counting).
-use borrow.Author.Rules.{rules}
-use native.Mathlib.Omega.{arith}
 use lib.ListN.{length}
 use Rattle.theory.specs.Words.{order_from}
-use Rattle.walk.proofs.StepLaws.{Counting, begin, counted, counts_on, too_short, too_long}
+use Rattle.walk.proofs.StepLaws.{Counting}
 use Rattle.walk.proofs.count_in.Given as goal
 
 abbrev pub invariant-loop-rest : goal.invariant-loop-rest

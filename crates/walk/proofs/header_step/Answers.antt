@@ -2,7 +2,6 @@
 -- The idea: one law for each way.
 use mathlib.Core.Path.{◌∙◌}
 use Rattle.walk.proofs.StepLaws.{header-none, header-here}
-use borrow.Author.Rules.{rules}
 use Rattle.walk.proofs.header_step.Goals as goal
 
 pub returns-then-file-lt-HEADER : goal.returns-then-file-lt-HEADER

@@ -1,7 +1,6 @@
 -- The first step from where a walk starts.
 -- The idea: both calls are the definitions.
 use Rattle.walk.specs.Steps.{opened_of}
-use borrow.Author.Rules.{rules}
 use Rattle.walk.proofs.opened.Goals as goal
 
 pub returns : goal.returns

@@ -3,7 +3,6 @@
 use mathlib.Core.Bool.{true}
 use mathlib.Core.Path.{◌≡◌, sym, ◌∙◌}
 use native.Mathlib.Omega.{arith}
-use borrow.Author.Tests.{not-true, not-false}
 use Rattle.theory.specs.Words.{order_from}
 use Rattle.record.proofs.StepLaws.{cut_body}
 use Rattle.rows.specs.Values.{has_values}

@@ -2,7 +2,6 @@
 -- The idea: the sum of eight and the length word can't overflow, so it's compared as it stands.
 use mathlib.Core.Path.{sym}
 use Rattle.walk.proofs.StepLaws.{too_short, long_enough}
-use borrow.Author.Rules.{rules}
 use Rattle.walk.proofs.stands.Goals as goal
 
 pub returns-then-part-lt-FRONT : goal.returns-then-part-lt-FRONT

@@ -2,7 +2,6 @@
 -- The idea: check says whether the file is read.
 use mathlib.Core.Path.{sym, ◌∙◌}
 use Rattle.walk.proofs.StepLaws.{opens_refused, opens_accepted}
-use borrow.Author.Rules.{rules}
 use Rattle.walk.proofs.start.Goals as goal
 
 pub returns-in-Bad : goal.returns-in-Bad

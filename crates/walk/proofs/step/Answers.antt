@@ -2,7 +2,6 @@
 use mathlib.Core.Path.{ap, ◌∙◌}
 use Rattle.theory.specs.declared.Order.{Order}
 use Rattle.walk.specs.Steps.{step_in, step_of}
-use borrow.Author.Rules.{rules}
 use Rattle.walk.proofs.step.Goals as goal
 
 pub returns : goal.returns

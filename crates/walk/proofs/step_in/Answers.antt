@@ -3,7 +3,6 @@
 use mathlib.Core.Path.{◌∙◌}
 use Rattle.walk.proofs.StepLaws.{step_refused, over-limit, over-rows, over_end, over-place}
 use Rattle.walk.proofs.StepLaws.{Usable, step_header, step_record, step_container}
-use borrow.Author.Rules.{rules}
 use Rattle.walk.proofs.step_in.Goals as goal
 use Rattle.walk.proofs.step_in.Goals.{Else-room-place}
 

@@ -1,5 +1,5 @@
 -- The idea: one step more of the walker is one step on.
-use Rattle.std.proofs.Common.{ℕ, suc, List, ◌≡◌, ◌≤◌, ◌+◌, ap, sym, ◌∙◌, refl, arith, add-one}
+use Rattle.std.proofs.Common.{ℕ, List, ◌≡◌, ◌+◌, ap, sym, ◌∙◌, arith, add-one}
 use Rattle.walk.specs.declared.Spot.{Spot}
 use Rattle.walk.specs.Steps.{step_of, opened_of, steps_from}
 use Rattle.walk.proofs.WalkLaws.{steps_more}

@@ -1,5 +1,5 @@
 -- `walking::after_steps` meets its contract: after i turns the walker is the opened one, i steps on. What falls is the number of turns left.
-use Rattle.std.proofs.Common.{ℕ, ◌≡◌, ◌≤◌, ◌-◌}
+use Rattle.std.proofs.Common.{◌≡◌, ◌≤◌, ◌-◌}
 use Rattle.walk.specs.Steps.{opened_of, steps_from}
 use Rattle.walking.proofs.after_steps.Given as goal
 

@@ -1,6 +1,5 @@
 -- Each turn is one yield nearer to the most yields that are printed.
 use Prim.Native.Nat.{◌-◌, ◌≤◌}
-use borrow.Author.Rules.{rules}
 use Rattle.walking.proofs.print_walk.Given as goal
 
 abbrev pub invariant-loop-k : goal.invariant-loop-k

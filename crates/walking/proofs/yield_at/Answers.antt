@@ -5,7 +5,6 @@ use Rattle.theory.specs.Words.{Bytes}
 use Rattle.theory.proofs.WordLaws.{Bytes-from}
 use Rattle.note.specs.Answers.{given_yield}
 use Rattle.walk.proofs.WalkLaws.{walk_yields}
-use borrow.Author.Rules.{rules}
 use Rattle.walking.proofs.yield_at.Goals as goal
 
 pub returns : goal.returns

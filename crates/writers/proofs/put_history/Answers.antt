@@ -3,7 +3,6 @@
 use mathlib.Core.Path.{refl}
 use Rattle.note.specs.History.{History}
 use Rattle.writers.proofs.HistoryLaws.{history-stored}
-use borrow.Author.Rules.{rules}
 use Rattle.writers.proofs.put_history.Goals as goal
 use Rattle.writers.proofs.put_history.Goals.{Start}
 

@@ -2,7 +2,6 @@
 -- The idea: stores in a row are one store of the section's bytes.
 use Rattle.note.specs.History.{Section}
 use Rattle.writers.proofs.HistoryLaws.{section_stored}
-use borrow.Author.Rules.{rules}
 use Rattle.writers.proofs.put_section.Goals as goal
 
 pub returns : goal.returns

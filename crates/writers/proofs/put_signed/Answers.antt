@@ -1,4 +1,4 @@
-use Prim.Native.Nat.{ℕ, ◌+◌, ◌-◌, ◌≤◌, ◌<◌}
+use Prim.Native.Nat.{ℕ, ◌+◌, ◌≤◌, ◌<◌}
 use mathlib.Core.Path.{◌≡◌, refl, sym, ap, ◌∙◌}
 use mathlib.Core.List.{List, map}
 use native.Mathlib.Omega.{arith}
@@ -10,7 +10,6 @@ use lib.Seq.{sets, take_all}
 use Rattle.note.specs.Words.{unsigned}
 use Rattle.stores.proofs.StoreLaws.{one_more}
 use Rattle.writers.proofs.SignedLaws.{handed_on}
-use borrow.Author.Rules.{rules}
 use Rattle.writers.proofs.put_signed.Goals as goal
 
 pub loop-i-init : goal.loop-i-init

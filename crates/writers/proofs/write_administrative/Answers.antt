@@ -5,7 +5,6 @@ use Rattle.note.specs.Writers.{administrative_draft}
 use Rattle.stores.proofs.WriterLaws.{bytes_unasked}
 use Rattle.stores.proofs.StructureLaws.{structured_bare}
 use Rattle.stores.specs.Structures.{structured}
-use borrow.Author.Rules.{rules}
 use Rattle.writers.proofs.write_administrative.Goals as goal
 
 pub returns : goal.returns

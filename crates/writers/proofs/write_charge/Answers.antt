@@ -12,7 +12,6 @@ use Rattle.stores.proofs.WriterLaws.{bytes_unasked}
 use Rattle.stores.proofs.StructureLaws.{structured_bare}
 use Rattle.stores.specs.Structures.{structured}
 use Rattle.writers.proofs.SignedLaws.{handed_on, words_kept}
-use borrow.Author.Rules.{rules}
 use Rattle.writers.proofs.write_charge.Goals as goal
 use Rattle.writers.proofs.write_charge.Goals.{Start}
 

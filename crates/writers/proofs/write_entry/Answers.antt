@@ -11,7 +11,6 @@ use Rattle.note.specs.Words.{unsigned}
 use Rattle.stores.specs.Structures.{structured}
 use Rattle.stores.proofs.WriterLaws.{bytes_unasked}
 use Rattle.stores.proofs.StoreLaws.{front-stored}
-use borrow.Author.Rules.{rules}
 use Rattle.writers.proofs.write_entry.Goals as goal
 use Rattle.writers.proofs.write_entry.Goals.{After-ws-3-1}
 

@@ -12,7 +12,6 @@ use Rattle.note.specs.Writers.{gps_draft}
 use Rattle.stores.proofs.WriterLaws.{bytes_unasked}
 use Rattle.stores.proofs.StructureLaws.{structured_bare}
 use Rattle.stores.specs.Structures.{structured}
-use borrow.Author.Rules.{rules}
 use Rattle.writers.proofs.write_gps.Goals as goal
 
 -- A status without a fault is its own lowest four bits.

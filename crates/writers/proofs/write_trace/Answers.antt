@@ -7,7 +7,6 @@ use Rattle.stores.specs.Structures.{structured}
 use Rattle.note.specs.Trace.{trace_bytes, trace_fault}
 use Rattle.note.specs.Writers.{trace_draft}
 use Rattle.writers.proofs.SignedLaws.{handed_on}
-use borrow.Author.Rules.{rules}
 use Rattle.writers.proofs.write_trace.Goals as goal
 
 pub returns : goal.returns

@@ -7,7 +7,6 @@ use lib.ListN.{get_or}
 use Rattle.note.proofs.SignedLaws.{unsigned-again}
 use Rattle.stores.proofs.WriterLaws.{same-fields}
 use Rattle.writing.specs.Handed.{charge_from}
-use borrow.Author.Rules.{rules}
 use Rattle.writing.proofs.dwj_write_charge.Goals as goal
 
 pub returns : goal.returns

@@ -1,6 +1,5 @@
 -- The writer's own contract, of the fields in the array; its answer told in lent numbers.
 use Rattle.writing.specs.Handed.{tlb_from}
-use borrow.Author.Rules.{rules}
 use Rattle.writing.proofs.dwj_write_tlb.Goals as goal
 
 pub returns : goal.returns
