@@ -1,5 +1,5 @@
 -- A row's values stand where the code reads them, and a body that follows its kind's rule holds them.
--- The idea: the choice of a kind is taken apart once (kind-cases), and for each kind both sides compute.
+-- The idea: the choice of a kind is taken apart once (`kind_cases`), and for each kind both sides compute.
 use mathlib.Core.Path.{◌≡◌, refl, sym, ◌∙◌}
 use mathlib.Core.Bool.{true, false, true≢false}
 use mathlib.Core.List.{List}

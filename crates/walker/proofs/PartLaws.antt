@@ -1,5 +1,5 @@
--- What the proofs of this crate's functions share: a walker taken apart into its two fields, and what a call gives back.
--- The idea: a walker is Copy, so what it owns is had twice: its fields' part goes to a callee that takes the fields, the other is kept.
+-- A walker taken apart into its two fields, and what a call gives back, for a proof by hand of a caller; the crate's own functions need none.
+-- The idea: what a walker owns is had twice: its fields' part goes to a callee that takes the fields, the other is kept.
 use mathlib.Core.Path.{◌≡◌, refl, ap, subst}
 use mathlib.Core.List.{List, [], ◌∷◌}
 use lib.ListN.{length}

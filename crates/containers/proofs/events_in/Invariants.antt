@@ -1,4 +1,4 @@
--- The loop's laws answer each need: so many rows were counted, and the rest is read as from here.
+-- The loop's laws answer each goal: so many rows were counted, and the rest is read as from here.
 use lib.ListN.{length}
 use Rattle.theory.specs.Words.{order_from}
 use Rattle.containers.proofs.EventLoop.{Rows}

@@ -1,4 +1,4 @@
--- The laws of a run answer the needs within it, those of the loop over records the others.
+-- The laws of a run answer the goals within it, those of the loop over records the others.
 use lib.ListN.{length}
 use Rattle.theory.specs.Words.{order_from}
 use Rattle.record.specs.Steps.{context_of}

@@ -1,4 +1,4 @@
--- The laws of the search answer each need: what stands next was read, and each way of a turn keeps the first match.
+-- The laws of the search answer each goal: what stands next was read, and each way of a turn keeps the first match.
 -- The idea: the inner loop speaks of an event that carries the number, and of the traces behind that event.
 use mathlib.Core.Path.{◌≡◌}
 use mathlib.Core.List.{List}

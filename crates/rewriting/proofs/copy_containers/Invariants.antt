@@ -1,5 +1,5 @@
 -- `rewriting::copy_containers` meets its contract: what was written and what is left are the part, turn by turn.
--- The idea: the loop's laws answer each need; a container's two words stand in front of its contents when these are written.
+-- The idea: the loop's laws answer each goal; a container's two words stand in front of its contents when these are written.
 use lib.ListN.{length}
 use Rattle.theory.specs.Words.{order_from}
 use Rattle.rewriting.proofs.CopyLoop.{Copying}

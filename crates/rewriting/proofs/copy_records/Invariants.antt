@@ -1,5 +1,5 @@
 -- `rewriting::copy_records` meets its contract: what was written and what is left are the part, turn by turn.
--- The idea: the loop's laws answer each need; what stands next was read, so its copy is its own bytes.
+-- The idea: the loop's laws answer each goal; what stands next was read, so its copy is its own bytes.
 use lib.ListN.{length}
 use Rattle.theory.specs.Words.{order_from}
 use Rattle.demands.proofs.Bundles.{record_item}

@@ -1,5 +1,4 @@
 -- `rules::bookkeeping_rule` meets its contract: the tests are the definition's, in its order.
--- Places are named by how many steps they lie behind a need's own.
 use borrow.Author.Tests.{eq-eqb, ne_eqb}
 use Rattle.note.specs.Trace.{bookkeeping_rule}
 use Rattle.theory.specs.Tests.{first}
