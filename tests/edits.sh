@@ -101,3 +101,14 @@ copied() { # AT FIRST CRATE
     done
   done
 }
+
+# Checks CRATE in the copy at AT, and leaves in LOG what is said; once more where the check was killed, for memory say.
+tested() { # AT CRATE LOG
+  local status
+  for _ in 1 2; do
+    status=0
+    (cd "$1/crates/$2" && rt check --jobs 1) >"$3" 2>&1 || status=$?
+    [ $status -gt 127 ] || break
+  done
+  return $status
+}
