@@ -12,7 +12,7 @@ use Rattle.theory.specs.Tests.{Res, ok, bind, unless}
 use Rattle.theory.proofs.TestLaws.{unless-zero, unless_holds, most_passed, most_passes, bind_ext, bind-bind}
 use Rattle.theory.proofs.Items.{Item, Whole, seq_w, Oks}
 use Rattle.theory.proofs.StructureLaws.{stateless, structure, ruled, inside, pair, two_words}
-use Rattle.note.specs.Faults.{too_short, not_afile}
+use Rattle.note.specs.Faults.{too_short, not_a_file}
 use Rattle.note.proofs.FaultLaws.{short-some}
 use Rattle.note.specs.Records.{Record, Context, entry, event, unseen, is_kind, is_allowed, record_head, record_late, record_rule, next_context}
 use Rattle.note.specs.Records.{read_record, read_records}
@@ -44,7 +44,7 @@ abbrev pub events : Order → Whole (Unit {0}) (List Container)
 events o = seq_w (event_item o)
 
 abbrev pub header_item : Order → Item (Unit {0}) ℕ
-header_item o = two_words o too_short file_mark not_afile version_rule short-some (omega arith) (omega arith)
+header_item o = two_words o too_short file_mark not_a_file version_rule short-some (omega arith) (omega arith)
 
 abbrev pub parts : Order → Whole (Unit {0}) Parts
 parts o = pair (header_item o) (pair (configuration_item o) (events o))

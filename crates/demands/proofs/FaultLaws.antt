@@ -53,7 +53,7 @@ use Rattle.demands.specs.FirstFault.{FirstFault, at-header, at-configuration, at
 use Rattle.demands.proofs.Bundles.{record_body, record_item, records, box, configuration_item, event_item, events, header_item, parts}
 use Rattle.demands.proofs.Bundles.{same_record, same_parts, records-valid, records-ok}
 use Rattle.demands.proofs.Follows.{parts-valid, parts-ok, order_admitted, order_shown, accepted_means, read-within}
-use Rattle.note.specs.Faults.{too_short, not_afile}
+use Rattle.note.specs.Faults.{too_short, not_a_file}
 use Rattle.note.proofs.FaultLaws.{short-some}
 
 -- A record's refusal is at its first byte.
@@ -315,7 +315,7 @@ first-fault bs c p h l e =
     (sym (need_pass (unless (leb (length bs) file_limit) 1) 0 _ (most_passes 1 l)) ∙ e) in
     elim (pair-refused (header_item o) (pair (configuration_item o) (events o)) tt 0 bs c p h (sym (same_parts o bs) ∙ inside-limit)) [
       | inl q ↦
-          let here : p ≡ 0 = words-refused o too_short file_mark not_afile version_rule tt 0 bs c p q in
+          let here : p ≡ 0 = words-refused o too_short file_mark not_a_file version_rule tt 0 bs c p q in
           at-header (record { splits = sym (append-nil bs); place = here }) (ap (λ (m : ℕ). (header_item o).read tt m bs) here ∙ q)
       | inr (v, rest, is, ok', q) ↦ behind-header v rest is ok' (Bytes-right (header_bytes o v) rest (subst Bytes is h)) q
     ]

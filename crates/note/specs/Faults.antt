@@ -10,8 +10,8 @@ abbrev pub too_short : ℕ
 too_short = 2
 
 -- FORMAT 2.1: the first word of the file is another one.
-abbrev pub not_afile : ℕ
-not_afile = 3
+abbrev pub not_a_file : ℕ
+not_a_file = 3
 
 -- FORMAT 2.1: the version word says another format than 2.0.
 abbrev pub wrong_format : ℕ

@@ -8,7 +8,7 @@ use Rattle.theory.specs.Words.{put}
 use Rattle.theory.specs.Structures.{read_structure}
 use Rattle.note.specs.Limits.{file_limit}
 use Rattle.note.specs.Words.{word}
-use Rattle.note.specs.Faults.{too_large, too_short, not_afile, wrong_format, wrong_kind}
+use Rattle.note.specs.Faults.{too_large, too_short, not_a_file, wrong_format, wrong_kind}
 use Rattle.note.specs.Records.{entry, read_records}
 use Rattle.note.specs.Events.{Container, container_bytes, container_size, read_events, events_bytes}
 
@@ -35,7 +35,7 @@ version_rule v = unless (eqb (v % 65536) format) wrong_format
 unfoldable pub read_header : Order → ℕ → List ℕ → Res ℕ
 read_header o at bs =
     need (unless (leb 8 (length bs)) too_short) at (
-    need (unless (eqb (word o 0 bs) file_mark) not_afile) at (
+    need (unless (eqb (word o 0 bs) file_mark) not_a_file) at (
     need (version_rule (word o 4 bs)) at (
     ok (word o 4 bs))))
 
