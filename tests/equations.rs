@@ -9,11 +9,13 @@ const NAMES_IN_A_CASE: usize = 50;
 
 const HEADER: &str = "\
 -- Generated: what the outside implementation answers, as equations.
-use Rattle.std.specs.Prelude.{ℕ, ◌≡◌, List, [], ◌∷◌, ◌++◌, pos, negsuc}
+use Rattle.std.specs.Prelude.{ℕ, ◌≡◌, List, [], ◌∷◌, ◌++◌, pos, negsuc, Ok}
 use Rattle.std.specs.Float.{binary64}
 use Rattle.std.specs.Float.Ieee.{div, of_int, of_bits}
 use mathlib.Core.Path.{refl}
 use Rattle.theory.specs.declared.Order.TheVariants.{Little}
+use Rattle.theory.specs.Tests.{bad}
+use Rattle.note.specs.Faults.{res_of}
 use Rattle.note.specs.Words.{words}
 use Rattle.note.specs.Answers.{Given, whole, float, accepted, refused}
 use Rattle.note.specs.Channels.{ascii, name_of, channel_answer, code_answer}
@@ -75,12 +77,11 @@ fn refused(number: &str, place: &str) -> String {
     format!("refused {} {}", number, place)
 }
 
-/// The answer for a code: 0 with the names, or the refusal's number with nothing.
-fn channel(number: &str, kind: &str, detector: &str, analysis: &str, cold: &str) -> String {
+/// The answer for a code that names a channel.
+fn channel(kind: &str, detector: &str, analysis: &str, cold: &str) -> String {
     let name = |n: &str| format!("name_of (ascii \"{}\")", n);
     format!(
-        "record {{ number = {}; place = 0; «detector_type» = {}; detector = {}; analysis = {}; cold = {} }}",
-        number,
+        "Ok (record {{ «detector_type» = {}; detector = {}; analysis = {}; cold = {} }})",
         kind,
         detector,
         name(analysis),
@@ -122,8 +123,8 @@ fn equation(line: &[String], name: &str) -> String {
             format!("(find_at {} {} {} ≡ {})", name, line[1], line[2], accepted(&found))
         }
         "find" => format!("(find_at {} {} {} ≡ {})", name, line[1], line[2], refused(&line[3], &line[4])),
-        "channel" if line.len() == 3 => format!("(channel_answer {} ≡ {})", line[1], channel(&line[2], "0", "0", "", "")),
-        "channel" => format!("(channel_answer {} ≡ {})", line[1], channel("0", &line[2], &line[3], &line[4], &line[5])),
+        "channel" if line.len() == 3 => format!("(res_of (channel_answer {}) ≡ bad {} 0)", line[1], line[2]),
+        "channel" => format!("(channel_answer {} ≡ {})", line[1], channel(&line[2], &line[3], &line[4], &line[5])),
         "name" => {
             let code = if line[4] == "10" { refused("10", "0") } else { accepted(&[value(&line[4])]) };
             format!("(code_answer {} {} (ascii \"{}\") ≡ {})", line[1], line[2], line[3], code)

@@ -1,11 +1,9 @@
--- What stands between a body and the calls' answers: the body of a record in its file, a kind's answer for a body, and six words
--- or a history's section as the code carries them.
+-- What stands between a body and the calls' answers: the body of a record in its file, a kind's answer for a body, and a history's
+-- section as the code carries it.
 use Rattle.std.specs.Prelude.{ℕ, ◌+◌, List, [], ◌∷◌, take, drop}
 use Rattle.theory.specs.declared.Order.{Order}
-use Rattle.note.specs.Words.{word}
 use Rattle.note.specs.Answers.{Given, accepted, count}
 use Rattle.note.specs.Kinds.{Kind}
-use Rattle.answers.specs.declared.Six.{Six}
 use Rattle.answers.specs.declared.Section.{Section}
 
 -- The body of n bytes of a record at a place of a file.
@@ -15,13 +13,6 @@ body_at bs place n = take n (drop (place + 8) bs)
 -- FORMAT 8.5: Record's answer for a body of a kind: the kind's row, then its values.
 abbrev pub kind_given : Order → Kind → ℕ → List ℕ → Given
 kind_given o x place b = accepted (count x.row ∷ x.values o place b)
-
--- Six words as a list, as the code carries them and as they stand from place p on.
-abbrev pub six_numbers : Six → List ℕ
-six_numbers w = w.first ∷ w.second ∷ w.third ∷ w.fourth ∷ w.fifth ∷ w.sixth ∷ []
-
-abbrev pub six_from : Order → ℕ → List ℕ → List ℕ
-six_from o p b = word o p b ∷ word o (p + 4) b ∷ word o (p + 8) b ∷ word o (p + 12) b ∷ word o (p + 16) b ∷ word o (p + 20) b ∷ []
 
 -- FORMAT 5.3: a section's numbers in the answer's order.
 abbrev pub section_numbers : Section → List ℕ

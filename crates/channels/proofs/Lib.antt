@@ -1,4 +1,2 @@
 pub mod TableLaws
-pub mod NameLaws
 pub mod SearchLaws
-pub mod GroupLaws

@@ -7,7 +7,7 @@ use native.Mathlib.Omega.{arith}
 use lib.ListN.{length, take, drop, length-append}
 use Rattle.theory.specs.declared.Order.{Order}
 use Rattle.theory.specs.Words.{Bytes}
-use Rattle.theory.specs.Tests.{Res, ok, bad}
+use Rattle.theory.specs.Tests.{ok, bad}
 use Rattle.theory.proofs.StructureLaws.{stateless, length-structure, opens, length-is, inside}
 use Rattle.theory.proofs.LoopLaws.{At, start, ended, stopped, more}
 use Rattle.note.specs.Words.{word}
@@ -15,30 +15,13 @@ use Rattle.note.specs.Records.{Record, event, unseen, record_bytes, records_byte
 use Rattle.note.specs.Events.{Container, container_size, event_word_rule, event_late, read_event, read_events}
 use Rattle.demands.proofs.Bundles.{records, event_item, same-records, same-event, same-events}
 use Rattle.record.proofs.StepLaws.{cut_body, cut}
-use Rattle.containers.specs.declared.Count.TheVariants as Count
+use Rattle.containers.specs.declared.Container.TheVariants.{Event}
 use Rattle.containers.specs.declared.Holding.{Holding}
-use Rattle.containers.specs.declared.Holding.TheVariants.{Good, Bad}
 use Rattle.containers.specs.Counts.{count_of, container_step, rows_of_events, event_rows}
 use Rattle.containers.proofs.RecordLoop.{behind_of, left, Bytes-behind}
-use Rattle.containers.proofs.ContainerLaws.{sized}
+use Rattle.containers.proofs.ContainerLaws.{holding_good, holding_bad, sized}
 use Rattle.note.specs.Faults.{too_short}
 use Rattle.note.proofs.FaultLaws.{short-some}
-
-abbrev stepped : Holding → Type 0
-stepped (Good k n t) = Unit {0}
-stepped (Bad c p) = ⊥
-
--- What a container's answer says of what was read.
-pub holding_good : (o : Order) (r : Res Container) (k n t : ℕ) → Good k n t ≡ container_step o r
-    → (e : Container) × (r ≡ ok e) × (e.word ≡ k) × (length (records_bytes o e.body) ≡ n) × (length e.body ≡ t)
-unfolding container_step
-holding_good o (ok e) k n t q = (e, refl, cc, cc, cc)
-holding_good o (bad c p) k n t q = absurd (subst stepped q tt)
-
-pub holding_bad : (o : Order) (r : Res Container) (c p : ℕ) → Bad c p ≡ container_step o r → r ≡ bad c p
-unfolding container_step
-holding_bad o (ok e) c p q = cc
-holding_bad o (bad c' p') c p q = cc
 
 -- What an event that was read shows of its bytes: its first word, its contents' length, its records as code cuts them out.
 pub record Shown (o : Order) (at : ℕ) (rest : List ℕ) (e : Container) : Type 0 where
@@ -104,33 +87,32 @@ module _ {o : Order} {from : ℕ} {bs : List ℕ} {at : ℕ} {rest : List ℕ} {
   pub low : from + count ≤ at
   low = i.low
 
-  pub done : length rest ≤ 0 → Count.Good count ≡ event_rows (read_events o from bs)
+  pub done : length rest ≤ 0 → ok count ≡ event_rows (read_events o from bs)
   unfolding count_of
-  done h = ap Count.Good (sym i.size) ∙ ap event_rows (ended (event_item o) i.is (omega arith) ∙ sym (same-events o tt from bs))
+  done h = ap ok (sym i.size) ∙ ap event_rows (ended (event_item o) i.is (omega arith) ∙ sym (same-events o tt from bs))
 
-  pub stops : 0 < length rest → (c p : ℕ) → Bad c p ≡ container_step o (read_event o at rest)
-      → Count.Bad c p ≡ event_rows (read_events o from bs)
+  pub stops : 0 < length rest → (c p : ℕ) → bad c p ≡ container_step o (read_event o at rest)
+      → bad c p ≡ event_rows (read_events o from bs)
   unfolding count_of
   stops l c p e =
       let r : (event_item o).read tt at rest ≡ bad c p = sym (same-event o tt at rest) ∙ holding_bad o (read_event o at rest) c p e in
       ap event_rows (stopped (event_item o) i.is l c p r ∙ sym (same-events o tt from bs))
 
-  module _ (l : 0 < length rest) (k n t : ℕ) (q : Good k n t ≡ container_step o (read_event o at rest)) where
-    pub fits : (8 + n ≤ length rest) × (t ≤ n)
-    unfolding read_event
+  module _ (l : 0 < length rest) (h : Holding) (q : ok h ≡ container_step o (read_event o at rest)) where
+    pub fits : (8 + h.length ≤ length rest) × (h.count ≤ h.length)
     fits =
-        let (e, r, k-is, n-is, t-is) = holding_good o (read_event o at rest) k n t q in
-        let (a, b) = sized o event_word_rule event_late (event unseen) at rest e i.bytes r in
+        let (e, r, k-is, n-is, t-is) = holding_good o (read_event o at rest) h q in
+        let (a, b) = sized Event o at rest e i.bytes r in
         (omega arith, omega (arith, few o e.body))
 
-    pub next : Rows o from bs (at + (8 + n)) (behind_of (8 + n) rest) (count + 1 + t)
+    pub next : Rows o from bs (at + (8 + h.length)) (behind_of (8 + h.length) rest) (count + (1 + h.count))
     next =
-        let (e, r, k-is, n-is, t-is) = holding_good o (read_event o at rest) k n t q in
-        let f : (8 + n ≤ length rest) × (t ≤ n) = fits in
+        let (e, r, k-is, n-is, t-is) = holding_good o (read_event o at rest) h q in
+        let f : (8 + h.length ≤ length rest) × (h.count ≤ h.length) = fits in
         record {
           es = i.es ++ e ∷ [];
-          is = on_event i.is l e (sym (same-event o tt at rest) ∙ r) n n-is f.0;
+          is = on_event i.is l e (sym (same-event o tt at rest) ∙ r) h.length n-is f.0;
           size = rows_more i.es e ∙ omega (arith, i.size, t-is);
           low = omega (arith, i.low, f.1);
-          bytes = Bytes-behind (8 + n) rest i.bytes;
+          bytes = Bytes-behind (8 + h.length) rest i.bytes;
         }

@@ -21,7 +21,6 @@ use Rattle.demands.proofs.Bundles.{records, events, header_item, same-records, s
 use Rattle.demands.proofs.Follows.{file_sound, in_its_order}
 use Rattle.demands.proofs.OutputLaws.{structure_apart}
 use Rattle.demands.proofs.RowLaws.{file-length}
-use Rattle.containers.specs.declared.Count.TheVariants.{Good}
 use Rattle.containers.specs.Counts.{rows_of_file, file_rows}
 use Rattle.containers.proofs.RecordLoop.{behind_of, left}
 use Rattle.containers.proofs.ContainerLaws.{count-good}
@@ -32,7 +31,7 @@ pub record Checked (bs : List ℕ) : Type 0 where
   pub file : File
   pub reads : read_file bs ≡ ok file
 
-pub checked : {bs : List ℕ} → Bytes bs → {n : ℕ} → Good n ≡ file_rows (read_file bs) → Checked bs
+pub checked : {bs : List ℕ} → Bytes bs → {n : ℕ} → ok n ≡ file_rows (read_file bs) → Checked bs
 checked h e = let (f, r, s) = count-good rows_of_file e in record { bytes = h; file = f; reads = r }
 
 -- The same file, with the order that was asked of its bytes.

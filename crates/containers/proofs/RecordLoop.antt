@@ -8,14 +8,13 @@ use lib.ListN.{length, take, drop, length-drop, length-append}
 use lib.Seq.{take-length}
 use Rattle.theory.specs.declared.Order.{Order}
 use Rattle.theory.specs.Words.{Bytes}
+use Rattle.theory.specs.Tests.{ok, bad}
 use Rattle.theory.proofs.WordLaws.{Bytes-drop}
 use Rattle.theory.proofs.LoopLaws.{At, start, ended, stopped, more}
 use Rattle.note.specs.Records.{Record, Context, record_size, behind, read_record, read_records}
 use Rattle.demands.proofs.Bundles.{record_item, same-records}
 use Rattle.record.specs.Steps.{step_of}
-use Rattle.record.specs.declared.Step.TheVariants as Step
-use Rattle.record.proofs.StepLaws.{Read, read-good, step_bad}
-use Rattle.containers.specs.declared.Count.TheVariants.{Good, Bad}
+use Rattle.record.proofs.StepLaws.{measure, Read, read-good, step_bad}
 use Rattle.containers.specs.Counts.{count_of, record_count}
 
 -- The record at the front, as its step says it.
@@ -69,16 +68,16 @@ module _ {o : Order} {s₀ : Context} {from : ℕ} {bs : List ℕ} {s : Context}
   pub low : from + count ≤ at
   low = i.low
 
-  pub done : length rest ≤ 0 → Good count ≡ record_count (read_records o s₀ from bs)
+  pub done : length rest ≤ 0 → ok count ≡ record_count (read_records o s₀ from bs)
   unfolding count_of
-  done h = ap Good (sym i.size) ∙ ap record_count (ended (record_item o) i.is (omega arith) ∙ sym (same-records o s₀ from bs))
+  done h = ap ok (sym i.size) ∙ ap record_count (ended (record_item o) i.is (omega arith) ∙ sym (same-records o s₀ from bs))
 
-  pub refused : 0 < length rest → (c p : ℕ) → Step.Bad c p ≡ step_of (read_record o s at rest)
-      → Bad c p ≡ record_count (read_records o s₀ from bs)
+  pub refused : 0 < length rest → (c p : ℕ) → bad c p ≡ step_of (read_record o s at rest)
+      → bad c p ≡ record_count (read_records o s₀ from bs)
   unfolding count_of read_record
   refused l c p e = ap record_count (stopped (record_item o) i.is l c p (step_bad (read_record o s at rest) c p e) ∙ sym (same-records o s₀ from bs))
 
-  module _ (l : 0 < length rest) (k n : ℕ) (e : Step.Good k n ≡ step_of (read_record o s at rest)) where
+  module _ (l : 0 < length rest) (k n : ℕ) (e : ok (measure k n) ≡ step_of (read_record o s at rest)) where
     pub next : (s' : Context) → s' ≡ behind s k
         → Counting o s₀ from bs s' (at + (8 + n)) (behind_of (8 + n) rest) (count + 1)
     next s' q = record {

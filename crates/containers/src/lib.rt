@@ -2,18 +2,19 @@
 #![tactic(auto)]
 
 ghost use Rattle.std.specs.Prelude.{◌≡◌, true, ◌+◌, ◌≤◌, length};
-ghost use Rattle.theory.specs.Words.{order_from};
 ghost use Rattle.note.specs.Words.{word};
 ghost use Rattle.note.specs.Records.{read_records};
-ghost use Rattle.note.specs.Events.{read_event, read_events};
-ghost use Rattle.note.specs.Files.{read_configuration, read_parts, read_file};
+ghost use Rattle.note.specs.Faults.{fault_in, res_of};
+ghost use Rattle.note.specs.Events.{read_events};
+ghost use Rattle.note.specs.Files.{read_parts, read_file};
 ghost use Rattle.record.specs.Steps.{context_of};
-ghost use Rattle.containers.specs.Counts.{record_count, container_step, event_rows, part_rows, file_rows};
+ghost use Rattle.containers.specs.Counts.{record_count, container_rule, least_of, context_in, read_container, container_step, event_rows, part_rows, file_rows};
 
-use fields::event_word_rule;
-use note::{MISPLACED, NOT_A_FILE, TOO_LARGE, TOO_SHORT, WRONG_FORMAT, WRONG_KIND};
-use record::{ENTRY, FRONT, Step, fresh, next_context, record_in};
-use words::{is_big, word_at};
+use fields::{ensure, event_word_rule};
+use note::{Fault, Refusal};
+use record::{Context, FRONT, fresh, next_context, record_in};
+use theory::Order;
+use words::{order_of, word_at};
 
 /// The header's first word, and the lower half of its second: format 2.0.
 pub const FILE_MARK: u32 = 0x0102_0304;
@@ -32,237 +33,194 @@ pub const ENTRIES_LENGTH: usize = 12;
 /// Where the configuration's entries begin.
 pub const ENTRIES: usize = 16;
 
-/// How many there are, or the refusal.
-#[derive(Drop)]
-pub enum Count {
-    Good { count: usize },
-    Bad { number: u32, place: usize },
+/// The two containers.
+#[derive(Clone, Copy, Debug, PartialEq, Eq)]
+pub enum Container {
+    Configuration,
+    Event,
 }
 
-/// A container: its first word, the length of its contents and how many records they are; or the refusal.
-#[derive(Drop)]
-pub enum Holding {
-    Good {
-        word: u32,
-        length: usize,
-        count: usize,
-    },
-    Bad {
-        number: u32,
-        place: usize,
-    },
+/// What a container holds: its first word, the length of its contents and how many records they are.
+#[derive(Clone, Copy, Debug, PartialEq, Eq)]
+pub struct Holding {
+    pub word: u32,
+    pub length: usize,
+    pub count: usize,
 }
 
 // ---- the records of a part
 
-// The length word at the front of a part; 0 where there is none.
-fn length_at(part: &[u8], big: bool) -> usize
-    ensures { 8 ≤ length part.now → result ≡ word (order_from big) 4 part.now }
+// The length word at the front of a part; 0 where there is none, which no one reads: the record there is refused.
+fn length_at(part: &[u8], order: Order) -> usize
+    ensures { 8 ≤ length part.now → result ≡ word order 4 part.now }
 {
     if part.len() < FRONT {
         return 0;
     }
-    word_at(part, 4, big) as usize
+    word_at(part, 4, order) as usize
 }
 
 // Whether a part goes on with a structure of this length word: where it says yes, it does.
-fn is_alike(part: &[u8], known: usize, big: bool) -> bool
-    ensures { result ≡ true → (8 ≤ length part.now) × (known ≡ word (order_from big) 4 part.now) }
+fn is_alike(part: &[u8], known: usize, order: Order) -> bool
+    ensures { result ≡ true → (8 ≤ length part.now) × (known ≡ word order 4 part.now) }
 {
     if part.len() < FRONT {
         return false;
     }
-    word_at(part, 4, big) as usize == known
+    word_at(part, 4, order) as usize == known
 }
 
 /// How many records fill a part whose first byte stands at `from`. Over a run of records of one length the step to the next is known, and a
-/// record's own length word is only compared with it: memory is asked for many records at a time.
-pub fn records_in(part: &[u8], from: usize, context: u32, big: bool) -> Count
+/// record's own length word is only compared with it: memory is asked for many records at a time. What stands there isn't checked yet: each step
+/// may refuse, with a place of the file; so where the part stands is asked, and no iterator, which would only end there (`structures`).
+pub fn records_in(
+    part: &[u8],
+    from: usize,
+    context: Context,
+    order: Order,
+) -> Result<usize, Refusal>
     requires { from + length part.now ≤ 0x1000000 }
-    ensures { result ≡ record_count (read_records (order_from big) (context_of context) from part.now) }
+    ensures { res_of result ≡ record_count (read_records order (context_of context) from part.now) }
 {
     let mut rest = part;
     let mut at = from;
     let mut count = 0;
     let mut state = context;
-    while 0 < rest.len() {
-        let known = length_at(rest, big);
-        let mut more = true;
-        while more {
-            match record_in(rest, at, state, big) {
-                Step::Bad { number, place } => return Count::Bad { number, place },
-                Step::Good { word, length: _ } => {
-                    let size = FRONT + known;
-                    state = next_context(state, word);
-                    rest = &rest[size..];
-                    at = at + size;
-                    count = count + 1;
-                    more = is_alike(rest, known, big);
-                }
+    while !rest.is_empty() {
+        let known = length_at(rest, order);
+        loop {
+            let head = record_in(rest, at, state, order)?;
+            let size = FRONT + known;
+            state = next_context(state, head.kind);
+            rest = &rest[size..];
+            at += size;
+            count += 1;
+            if !is_alike(rest, known, order) {
+                break;
             }
         }
     }
-    Count::Good { count }
+    Ok(count)
 }
 
 // ---- containers
 
-/// The configuration at the front of a part whose first byte stands at `at`.
-pub fn configuration_in(part: &[u8], at: usize, big: bool) -> Holding
-    requires { at + length part.now ≤ 0x1000000 }
-    ensures { result ≡ container_step (order_from big) (read_configuration (order_from big) at part.now) }
-{
-    let room = part.len();
-    if room < FRONT {
-        return Holding::Bad {
-            number: TOO_SHORT,
-            place: at,
-        };
+impl Container {
+    // What a container's first word must be.
+    fn rule(self, word: u32) -> Result<(), Fault>
+        ensures { fault_in result ≡ container_rule self word }
+    {
+        match self {
+            Container::Configuration => ensure(word == CONFIGURATION, Fault::WrongKind),
+            Container::Event => event_word_rule(word),
+        }
     }
-    let word = word_at(part, 0, big);
-    if word != CONFIGURATION {
-        return Holding::Bad {
-            number: WRONG_KIND,
-            place: at,
-        };
+
+    /// The fewest bytes of a container's contents: an event isn't empty.
+    pub fn least(self) -> usize
+        ensures { result ≡ least_of self }
+    {
+        match self {
+            Container::Configuration => 0,
+            Container::Event => 1,
+        }
     }
-    let length = word_at(part, 4, big) as usize;
-    if room - FRONT < length {
-        return Holding::Bad {
-            number: TOO_SHORT,
-            place: at,
-        };
-    }
-    match records_in(&part[FRONT..FRONT + length], at + FRONT, ENTRY, big) {
-        Count::Good { count } => Holding::Good {
-            word,
-            length,
-            count,
-        },
-        Count::Bad { number, place } => Holding::Bad { number, place },
+
+    /// Where a container's records are read.
+    pub fn context(self) -> Context
+        ensures { context_of result ≡ context_in self }
+    {
+        match self {
+            Container::Configuration => Context::Entry,
+            Container::Event => fresh(),
+        }
     }
 }
 
-/// The event at the front of a part whose first byte stands at `at`.
-pub fn event_in(part: &[u8], at: usize, big: bool) -> Holding
+/// The container of this sort at the front of a part whose first byte stands at `at`.
+pub fn container_in(
+    sort: Container,
+    part: &[u8],
+    at: usize,
+    order: Order,
+) -> Result<Holding, Refusal>
     requires { at + length part.now ≤ 0x1000000 }
-    ensures { result ≡ container_step (order_from big) (read_event (order_from big) at part.now) }
+    ensures { res_of result ≡ container_step order (read_container sort order at part.now) }
 {
     let room = part.len();
     if room < FRONT {
-        return Holding::Bad {
-            number: TOO_SHORT,
-            place: at,
-        };
+        return Err(Fault::TooShort.at(at));
     }
-    let word = word_at(part, 0, big);
-    let fault = event_word_rule(word);
-    if fault != 0 {
-        return Holding::Bad {
-            number: fault,
-            place: at,
-        };
+    let word = word_at(part, 0, order);
+    // A fault gets its place here: `map_err` would give it by a closure.
+    if let Err(fault) = sort.rule(word) {
+        return Err(fault.at(at));
     }
-    let length = word_at(part, 4, big) as usize;
+    let length = word_at(part, 4, order) as usize;
     if room - FRONT < length {
-        return Holding::Bad {
-            number: TOO_SHORT,
-            place: at,
-        };
+        return Err(Fault::TooShort.at(at));
     }
-    if length < 1 {
-        return Holding::Bad {
-            number: MISPLACED,
-            place: at,
-        };
+    if length < sort.least() {
+        return Err(Fault::Misplaced.at(at));
     }
-    match records_in(&part[FRONT..FRONT + length], at + FRONT, fresh(), big) {
-        Count::Good { count } => Holding::Good {
-            word,
-            length,
-            count,
-        },
-        Count::Bad { number, place } => Holding::Bad { number, place },
-    }
+    let count = records_in(
+        &part[FRONT..FRONT + length],
+        at + FRONT,
+        sort.context(),
+        order,
+    )?;
+    Ok(Holding {
+        word,
+        length,
+        count,
+    })
 }
 
-/// How many rows the events have that fill a part whose first byte stands at `from`.
-pub fn events_in(part: &[u8], from: usize, big: bool) -> Count
+/// How many rows the events have that fill a part whose first byte stands at `from`. As in `records_in`, each is checked before it is passed.
+pub fn events_in(part: &[u8], from: usize, order: Order) -> Result<usize, Refusal>
     requires { from + length part.now ≤ 0x1000000 }
-    ensures { result ≡ event_rows (read_events (order_from big) from part.now) }
+    ensures { res_of result ≡ event_rows (read_events order from part.now) }
 {
     let mut rest = part;
     let mut at = from;
     let mut count = 0;
-    while 0 < rest.len() {
-        match event_in(rest, at, big) {
-            Holding::Bad { number, place } => return Count::Bad { number, place },
-            Holding::Good {
-                word: _,
-                length,
-                count: records,
-            } => {
-                let size = FRONT + length;
-                rest = &rest[size..];
-                at = at + size;
-                count = count + 1 + records;
-            }
-        }
+    while !rest.is_empty() {
+        let event = container_in(Container::Event, rest, at, order)?;
+        let size = FRONT + event.length;
+        rest = &rest[size..];
+        at += size;
+        count += 1 + event.count;
     }
-    Count::Good { count }
+    Ok(count)
 }
 
 // How many rows the parts of a file have, or the first refusal in them.
-fn parts_in(file: &[u8], big: bool) -> Count
+fn parts_in(file: &[u8], order: Order) -> Result<usize, Refusal>
     requires { length file.now ≤ 0x1000000 }
-    ensures { result ≡ part_rows (read_parts (order_from big) file.now) }
+    ensures { res_of result ≡ part_rows (read_parts order file.now) }
 {
     let room = file.len();
     if room < FRONT {
-        return Count::Bad {
-            number: TOO_SHORT,
-            place: 0,
-        };
+        return Err(Fault::TooShort.at(0));
     }
-    if word_at(file, 0, big) != FILE_MARK {
-        return Count::Bad {
-            number: NOT_A_FILE,
-            place: 0,
-        };
+    if word_at(file, 0, order) != FILE_MARK {
+        return Err(Fault::NotAFile.at(0));
     }
-    if word_at(file, 4, big) % 65536 != FORMAT {
-        return Count::Bad {
-            number: WRONG_FORMAT,
-            place: 0,
-        };
+    if word_at(file, 4, order) % 65536 != FORMAT {
+        return Err(Fault::WrongFormat.at(0));
     }
-    match configuration_in(&file[HEADER..], HEADER, big) {
-        Holding::Bad { number, place } => Count::Bad { number, place },
-        Holding::Good {
-            word: _,
-            length,
-            count,
-        } => {
-            let from = ENTRIES + length;
-            match events_in(&file[from..], from, big) {
-                Count::Bad { number, place } => Count::Bad { number, place },
-                Count::Good { count: rows } => Count::Good {
-                    count: 2 + count + rows,
-                },
-            }
-        }
-    }
+    let configuration = container_in(Container::Configuration, &file[HEADER..], HEADER, order)?;
+    let from = ENTRIES + configuration.length;
+    let rows = events_in(&file[from..], from, order)?;
+    Ok(2 + configuration.count + rows)
 }
 
 /// How many rows a file has, or its refusal. Its words are in the order that its first bytes show.
-pub fn check(file: &[u8]) -> Count
-    ensures { result ≡ file_rows (read_file file.now) }
+pub fn check(file: &[u8]) -> Result<usize, Refusal>
+    ensures { res_of result ≡ file_rows (read_file file.now) }
 {
     if record::FILE_LIMIT < file.len() {
-        return Count::Bad {
-            number: TOO_LARGE,
-            place: 0,
-        };
+        return Err(Fault::TooLarge.at(0));
     }
-    parts_in(file, is_big(file))
+    parts_in(file, order_of(file))
 }

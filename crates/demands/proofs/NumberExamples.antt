@@ -12,6 +12,7 @@ use Rattle.theory.specs.Tests.{Res, ok, bad, need, unless}
 use Rattle.note.specs.Limits.{file_limit}
 use Rattle.note.specs.Words.{words}
 use Rattle.note.specs.Answers.{Given, refused}
+use Rattle.note.specs.Faults.{res_of}
 use Rattle.note.specs.Channels.{channel_answer, code_answer}
 use Rattle.note.specs.Records.{entry, event, unseen, alone, read_record}
 use Rattle.note.specs.Files.{read_file}
@@ -99,7 +100,7 @@ pub record_numbers_given : (map (λ bs. record_at Little bs 0) records ≡ refus
 unfolding computing
 record_numbers_given = (refl, refl, refl)
 
-pub channel_numbers_given : ((channel_answer 12000000).number ≡ 10) × (code_answer 12 0 [] ≡ refused 10 0)
+pub channel_numbers_given : (res_of (channel_answer 12000000) ≡ bad 10 0) × (code_answer 12 0 [] ≡ refused 10 0)
 unfolding computing
 channel_numbers_given = (refl, refl)
 

@@ -12,6 +12,7 @@ use Rattle.theory.specs.declared.Order.{Order}
 use Rattle.theory.specs.Tests.{Res, ok, bad, need, unless, among}
 use Rattle.theory.proofs.TestLaws.{Numbered, unless-numbered, numbered_wider, need-ok, most_passed}
 use Rattle.note.specs.Limits.{file_limit, row_width}
+use Rattle.note.specs.Faults.{res_of}
 use Rattle.note.specs.Answers.{Given, accepted, refused}
 use Rattle.note.specs.Channels.{Channel, called, channel_of, channel_given, channel_answer, code_given, code_answer}
 use Rattle.note.specs.Words.{unsigned}
@@ -143,15 +144,13 @@ module _ (o : Order) (bs : List ℕ) (place : ℕ) where
 
 -- ---- channels
 
-pub channel_numbers_lem : (code : ℕ) → ((channel_answer code).number ≡ 0 → ⊥)
-    → At 0 (10 ∷ []) (channel_answer code).number (channel_answer code).place
+pub channel_numbers_lem : (code : ℕ) (c p : ℕ) → res_of (channel_answer code) ≡ bad c p → At 0 (10 ∷ []) c p
 unfolding channel_answer
-channel_numbers_lem code = go (channel_of code)
+channel_numbers_lem code c p e = subst (Gives (At 0 (10 ∷ []))) e (go (channel_of code))
   where
-    go : (x : Listed.Option Channel) → ((channel_given code x).number ≡ 0 → ⊥)
-        → At 0 (10 ∷ []) (channel_given code x).number (channel_given code x).place
-    go Listed.none h = (refl, refl)
-    go (Listed.some x) h = absurd (h refl)
+    go : (x : Listed.Option Channel) → Gives (At 0 (10 ∷ [])) (res_of (channel_given code x))
+    go Listed.none = (refl, refl)
+    go (Listed.some x) = tt
 
 pub code_numbers : (kind detector : ℕ) (name : List ℕ) (c p : ℕ) → code_answer kind detector name ≡ refused c p → At 0 (10 ∷ []) c p
 unfolding code_answer

@@ -17,15 +17,21 @@ use Rattle.theory.proofs.StructureLaws.{drop-two}
 use Rattle.note.specs.Limits.{file_limit}
 use Rattle.note.specs.Words.{word, words}
 use Rattle.note.specs.Kinds.{Kind}
-use Rattle.note.specs.Phonon.{Phonon, phonon_kind, phonon_bytes}
-use Rattle.note.specs.Charge.{Charge, charge_kind, charge_bytes}
-use Rattle.note.specs.Administrative.{Administrative, administrative_kind, administrative_bytes}
+use Rattle.note.specs.declared.Phonon.{Phonon}
+use Rattle.note.specs.Phonon.{phonon_kind, phonon_bytes}
+use Rattle.note.specs.declared.Charge.{Charge}
+use Rattle.note.specs.Charge.{charge_kind, charge_bytes}
+use Rattle.note.specs.declared.Administrative.{Administrative}
+use Rattle.note.specs.Administrative.{administrative_kind, administrative_bytes}
 use Rattle.note.specs.Trace.{Trace, trace_kind, trace_words, trace_bytes, trace_of}
 use Rattle.note.specs.History.{Section, History, history_kind, width_at, width_of, end_at, trigger_at, section_of, history_of}
 use Rattle.note.specs.History.{section_bytes, history_bytes, history_fault, section_values}
-use Rattle.note.specs.Gps.{Gps, gps_kind, gps_bytes}
-use Rattle.note.specs.Trigger.{Trigger, trigger_kind, trigger_bytes}
-use Rattle.note.specs.Tlb.{Tlb, tlb_kind, tlb_bytes}
+use Rattle.note.specs.declared.Gps.{Gps}
+use Rattle.note.specs.Gps.{gps_kind, gps_bytes}
+use Rattle.note.specs.declared.Trigger.{Trigger}
+use Rattle.note.specs.Trigger.{trigger_kind, trigger_bytes}
+use Rattle.note.specs.declared.Tlb.{Tlb}
+use Rattle.note.specs.Tlb.{tlb_kind, tlb_bytes}
 use Rattle.note.specs.Records.{Record, alone, is_kind, is_allowed, kind_of, record_bytes, read_record}
 use Rattle.note.specs.Files.{version_word, header_bytes}
 use Rattle.note.specs.Writers.{Draft, wrapped, record_next, record_output, header_next, header_output}

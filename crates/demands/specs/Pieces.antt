@@ -5,14 +5,20 @@ use Rattle.theory.specs.declared.Order.{Order}
 use Rattle.theory.specs.Words.{Bytes, Fits, AllFit}
 use Rattle.note.specs.Words.{AllSigned}
 use Rattle.note.specs.Answers.{Given, accepted, whole, count, counts, wholes}
-use Rattle.note.specs.Phonon.{Phonon, phonon_kind, phonon_words, phonon_bytes}
-use Rattle.note.specs.Charge.{Charge, charge_kind, charge_words, charge_bytes}
-use Rattle.note.specs.Administrative.{Administrative, administrative_kind, administrative_words, administrative_bytes}
+use Rattle.note.specs.declared.Phonon.{Phonon}
+use Rattle.note.specs.Phonon.{phonon_kind, phonon_words, phonon_bytes}
+use Rattle.note.specs.declared.Charge.{Charge}
+use Rattle.note.specs.Charge.{charge_kind, charge_words, charge_bytes}
+use Rattle.note.specs.declared.Administrative.{Administrative}
+use Rattle.note.specs.Administrative.{administrative_kind, administrative_words, administrative_bytes}
 use Rattle.note.specs.Trace.{Trace, TraceFits, trace_kind, trace_bytes}
 use Rattle.note.specs.History.{Section, History, history_kind, history_bytes}
-use Rattle.note.specs.Gps.{Gps, gps_kind, gps_numbers, gps_bytes}
-use Rattle.note.specs.Trigger.{Trigger, trigger_kind, trigger_masks, trigger_bytes}
-use Rattle.note.specs.Tlb.{Tlb, tlb_kind, tlb_words, tlb_bytes}
+use Rattle.note.specs.declared.Gps.{Gps}
+use Rattle.note.specs.Gps.{gps_kind, gps_numbers, gps_bytes}
+use Rattle.note.specs.declared.Trigger.{Trigger}
+use Rattle.note.specs.Trigger.{trigger_kind, trigger_masks, trigger_bytes}
+use Rattle.note.specs.declared.Tlb.{Tlb}
+use Rattle.note.specs.Tlb.{tlb_kind, tlb_words, tlb_bytes}
 use Rattle.note.specs.Kinds.{Kind}
 use Rattle.note.specs.Records.{Record, alone, is_kind, record_rule, record_bytes}
 use Rattle.note.specs.Writers.{Draft, phonon_draft, charge_draft, administrative_draft, trace_draft}

@@ -1,2 +1,1 @@
-pub mod WideLaws
 pub mod WalkerLaws

@@ -1,19 +1,21 @@
-// The reading calls for C: numbers and lent buffers alone. include/dwejrasq.h documents each. The visitor's call stands in `visiting`, the
-// writers' in `writing`, Rewrite's in `restoring`.
+// The reading calls for C: numbers and lent buffers alone, and so alike where the header's calls are. include/dwejrasq.h documents each. The
+// visitor's call stands in `visiting`, the writers' in `writing`, Rewrite's in `restoring`.
 #![tactic(auto)]
 
 ghost use Rattle.std.specs.Prelude.{◌≡◌, length};
 ghost use Rattle.theory.specs.declared.Order.TheVariants.{Little};
+ghost use Rattle.note.specs.Faults.{fault_number};
 ghost use Rattle.note.specs.Answers.{given_yield};
 ghost use Rattle.note.specs.Calls.{record_at, setting_at, samples_part, sample_at, find_at};
 ghost use Rattle.note.specs.Channels.{channel_answer, code_answer};
 ghost use Rattle.note.specs.Rows.{table_answer, table_buffer};
 ghost use Rattle.note.specs.Tlb.{zip_set};
 ghost use Rattle.walk.specs.Steps.{opened_of, step_of};
-ghost use Rattle.exports.specs.Lent.{number_of, place_after, wholes_after, floats_after, NumberAfter, channel_numbers, channel_after, bit};
+ghost use Rattle.exports.specs.Lent.{number_of, place_after, wholes_after, floats_after, NumberAfter};
+ghost use Rattle.exports.specs.Lent.{number_in, channel_numbers, channel_after, bit};
 ghost use Rattle.exports.specs.Walkers.{spot_of, numbers_of, row_after};
 
-use note::{CodeAnswer, FindAnswer, RecordAnswer, SampleAnswer, SettingAnswer, WalkerYield};
+use note::{RecordAnswer, Refusal, SettingAnswer, WalkerYield};
 use samples::SAMPLES_FROM;
 use walk::Spot;
 
@@ -34,6 +36,15 @@ const TRIGGER: i64 = 10;
 
 const TLB: i64 = 11;
 
+// A refusal for C: its number, and its place lent.
+fn refuse(refused: Refusal, refusal: &mut u64) -> u32
+    ensures number { result ≡ fault_number refused.fault }
+    ensures place { refusal.new ≡ refused.place }
+{
+    *refusal = refused.place as u64;
+    refused.fault.into()
+}
+
 /// Table: the number; the rows, their count and the place lent.
 #[unsafe(no_mangle)]
 pub extern "C" fn dwj_table(file: &[u8], rows: &mut [u32], count: &mut u64, place: &mut u64) -> u32
@@ -49,6 +60,7 @@ pub extern "C" fn dwj_table(file: &[u8], rows: &mut [u32], count: &mut u64, plac
 }
 
 /// Record: the row kind, then the fields in the order of their words, then zeros; on a refusal the place alone.
+#[tactic(auto, unfolding(note::specs::Answers::given_record))]
 #[unsafe(no_mangle)]
 pub extern "C" fn dwj_record(
     file: &[u8],
@@ -61,77 +73,49 @@ pub extern "C" fn dwj_record(
     ensures refusal { refusal.new ≡ place_after refusal.old (record_at Little file.now place) }
 {
     match dwejrasq::record(file, place) {
-        RecordAnswer::Phonon {
-            code,
-            tower,
-            gain,
-            qet_bias,
-            squid_bias,
-            lockpoint,
-            rtf_offset,
-            variable_gain,
-            delta_t,
-            t0,
-            trace_length,
-        } => {
+        RecordAnswer::Phonon(f) => {
             *values = [
                 PHONON,
-                code as i64,
-                tower as i64,
-                gain as i64,
-                qet_bias as i64,
-                squid_bias as i64,
-                lockpoint as i64,
-                rtf_offset as i64,
-                variable_gain as i64,
-                delta_t as i64,
-                t0 as i64,
-                trace_length as i64,
+                f.code.into(),
+                f.tower.into(),
+                f.gain.into(),
+                f.qet_bias.into(),
+                f.squid_bias.into(),
+                f.lockpoint.into(),
+                f.rtf_offset.into(),
+                f.variable_gain.into(),
+                f.delta_t.into(),
+                f.t0.into(),
+                f.trace_length.into(),
             ];
             0
         }
-        RecordAnswer::Charge {
-            code,
-            tower,
-            gain,
-            bias,
-            rtf_offset,
-            delta_t,
-            t0,
-            trace_length,
-        } => {
+        RecordAnswer::Charge(f) => {
             *values = [
                 CHARGE,
-                code as i64,
-                tower as i64,
-                gain as i64,
-                bias as i64,
-                rtf_offset as i64,
-                delta_t as i64,
-                t0 as i64,
-                trace_length as i64,
+                f.code.into(),
+                f.tower.into(),
+                f.gain.into(),
+                f.bias.into(),
+                f.rtf_offset.into(),
+                f.delta_t.into(),
+                f.t0.into(),
+                f.trace_length.into(),
                 0,
                 0,
                 0,
             ];
             0
         }
-        RecordAnswer::Administrative {
-            date,
-            clock,
-            number,
-            time,
-            since,
-            live,
-        } => {
+        RecordAnswer::Administrative(f) => {
             *values = [
                 ADMINISTRATIVE,
-                date as i64,
-                clock as i64,
-                number as i64,
-                time as i64,
-                since as i64,
-                live as i64,
+                f.date.into(),
+                f.clock.into(),
+                f.number.into(),
+                f.time.into(),
+                f.since.into(),
+                f.live.into(),
                 0,
                 0,
                 0,
@@ -150,12 +134,12 @@ pub extern "C" fn dwj_record(
         } => {
             *values = [
                 TRACE,
-                address as i64,
-                channel as i64,
-                code as i64,
-                t0 as i64,
-                delta_t as i64,
-                n as i64,
+                address.into(),
+                channel.into(),
+                code.into(),
+                t0.into(),
+                delta_t.into(),
+                n.into(),
                 0,
                 0,
                 0,
@@ -176,38 +160,30 @@ pub extern "C" fn dwj_record(
         } => {
             *values = [
                 HISTORY,
-                veto_times as i64,
-                veto_times_at as i64,
-                veto_width as i64,
-                veto_masks_at as i64,
-                trigger_times as i64,
-                trigger_times_at as i64,
-                trigger_width as i64,
-                trigger_masks_at as i64,
+                veto_times.into(),
+                veto_times_at.into(),
+                veto_width.into(),
+                veto_masks_at.into(),
+                trigger_times.into(),
+                trigger_times_at.into(),
+                trigger_width.into(),
+                trigger_masks_at.into(),
                 0,
                 0,
                 0,
             ];
             0
         }
-        RecordAnswer::Gps {
-            year,
-            day,
-            status,
-            hour,
-            minute,
-            second,
-            tenths,
-        } => {
+        RecordAnswer::Gps(f) => {
             *values = [
                 GPS,
-                year as i64,
-                day as i64,
-                status as i64,
-                hour as i64,
-                minute as i64,
-                second as i64,
-                tenths as i64,
+                f.year.into(),
+                f.day.into(),
+                f.status.into(),
+                f.hour.into(),
+                f.minute.into(),
+                f.second.into(),
+                f.tenths.into(),
                 0,
                 0,
                 0,
@@ -215,22 +191,15 @@ pub extern "C" fn dwj_record(
             ];
             0
         }
-        RecordAnswer::Trigger {
-            mask1,
-            mask2,
-            mask3,
-            mask4,
-            mask5,
-            mask6,
-        } => {
+        RecordAnswer::Trigger(f) => {
             *values = [
                 TRIGGER,
-                mask1 as i64,
-                mask2 as i64,
-                mask3 as i64,
-                mask4 as i64,
-                mask5 as i64,
-                mask6 as i64,
+                f.mask1.into(),
+                f.mask2.into(),
+                f.mask3.into(),
+                f.mask4.into(),
+                f.mask5.into(),
+                f.mask6.into(),
                 0,
                 0,
                 0,
@@ -239,22 +208,15 @@ pub extern "C" fn dwj_record(
             ];
             0
         }
-        RecordAnswer::Tlb {
-            tower1,
-            tower2,
-            tower3,
-            tower4,
-            tower5,
-            tower6,
-        } => {
+        RecordAnswer::Tlb(f) => {
             *values = [
                 TLB,
-                tower1 as i64,
-                tower2 as i64,
-                tower3 as i64,
-                tower4 as i64,
-                tower5 as i64,
-                tower6 as i64,
+                f.tower1.into(),
+                f.tower2.into(),
+                f.tower3.into(),
+                f.tower4.into(),
+                f.tower5.into(),
+                f.tower6.into(),
                 0,
                 0,
                 0,
@@ -263,14 +225,12 @@ pub extern "C" fn dwj_record(
             ];
             0
         }
-        RecordAnswer::Refused { number, place: at } => {
-            *refusal = at as u64;
-            number
-        }
+        RecordAnswer::Refused(refused) => refuse(refused, refusal),
     }
 }
 
 /// Setting: the row kind and the whole words, and the words in working units; zeros after each; on a refusal the place alone.
+#[tactic(auto, unfolding(note::specs::Answers::given_setting))]
 #[unsafe(no_mangle)]
 pub extern "C" fn dwj_setting(
     file: &[u8],
@@ -285,63 +245,65 @@ pub extern "C" fn dwj_setting(
     ensures refusal { refusal.new ≡ place_after refusal.old (setting_at Little file.now place) }
 {
     match dwejrasq::setting(file, place) {
-        SettingAnswer::Phonon {
-            code,
-            tower,
-            gain,
-            qet_bias,
-            squid_bias,
-            lockpoint,
-            rtf_offset,
-            variable_gain,
-            delta_t,
-            t0,
-            trace_length,
-        } => {
+        Ok(
+            SettingAnswer::Phonon {
+                code,
+                tower,
+                gain,
+                qet_bias,
+                squid_bias,
+                lockpoint,
+                rtf_offset,
+                variable_gain,
+                delta_t,
+                t0,
+                trace_length,
+            },
+        ) => {
             *whole = [
                 PHONON,
-                code as i64,
-                tower as i64,
-                rtf_offset as i64,
-                variable_gain as i64,
-                delta_t as i64,
-                t0 as i64,
-                trace_length as i64,
+                code.into(),
+                tower.into(),
+                rtf_offset.into(),
+                variable_gain.into(),
+                delta_t.into(),
+                t0.into(),
+                trace_length.into(),
             ];
             *units = [gain, qet_bias, squid_bias, lockpoint];
             0
         }
-        SettingAnswer::Charge {
-            code,
-            tower,
-            gain,
-            bias,
-            rtf_offset,
-            delta_t,
-            t0,
-            trace_length,
-        } => {
+        Ok(
+            SettingAnswer::Charge {
+                code,
+                tower,
+                gain,
+                bias,
+                rtf_offset,
+                delta_t,
+                t0,
+                trace_length,
+            },
+        ) => {
             *whole = [
                 CHARGE,
-                code as i64,
-                tower as i64,
-                bias as i64,
-                rtf_offset as i64,
-                delta_t as i64,
-                t0 as i64,
-                trace_length as i64,
+                code.into(),
+                tower.into(),
+                bias.into(),
+                rtf_offset.into(),
+                delta_t.into(),
+                t0.into(),
+                trace_length.into(),
             ];
             *units = [gain, 0.0, 0.0, 0.0];
             0
         }
-        SettingAnswer::Refused { number, place: at } => {
-            *refusal = at as u64;
-            number
-        }
+        Err(refused) => refuse(refused, refusal),
     }
 }
 
 /// Samples: where the samples of the trace at a place stand in the file, and how many bytes they are; both 0 where Record finds none.
+#[tactic(auto, using(samples::proofs::PartLaws::places))]
 #[unsafe(no_mangle)]
 pub extern "C" fn dwj_samples(file: &[u8], place: usize, offset: &mut u64, size: &mut u64)
     ensures offset { offset.new ≡ (samples_part Little file.now place).0 }
@@ -349,14 +311,15 @@ pub extern "C" fn dwj_samples(file: &[u8], place: usize, offset: &mut u64, size:
 {
     let n = dwejrasq::samples(file, place).len();
     *size = n as u64;
-    if n == 0 {
-        *offset = 0;
-        return;
-    }
-    *offset = (place + SAMPLES_FROM) as u64;
+    *offset = if n == 0 {
+        0
+    } else {
+        (place + SAMPLES_FROM) as u64
+    };
 }
 
 /// Sample: a sample by number; on a refusal the place alone.
+#[tactic(auto, unfolding(note::specs::Answers::given_number))]
 #[unsafe(no_mangle)]
 pub extern "C" fn dwj_sample(
     file: &[u8],
@@ -370,21 +333,16 @@ pub extern "C" fn dwj_sample(
     ensures refusal { refusal.new ≡ place_after refusal.old (sample_at Little file.now place number) }
 {
     match dwejrasq::sample(file, place, number) {
-        SampleAnswer::Sample { value: found } => {
-            *value = found as u32;
+        Ok(found) => {
+            *value = found.into();
             0
         }
-        SampleAnswer::Refused {
-            number: why,
-            place: at,
-        } => {
-            *refusal = at as u64;
-            why
-        }
+        Err(refused) => refuse(refused, refusal),
     }
 }
 
 /// Find: the place of the first trace of an event's number and a code, 0 for nothing; on a refusal its place alone.
+#[tactic(auto, unfolding(note::specs::Answers::given_find))]
 #[unsafe(no_mangle)]
 pub extern "C" fn dwj_find(
     file: &[u8],
@@ -398,25 +356,17 @@ pub extern "C" fn dwj_find(
     ensures refusal { refusal.new ≡ place_after refusal.old (find_at file.now number code) }
 {
     match dwejrasq::find(file, number, code) {
-        FindAnswer::Found { place: found } => {
-            *place = found as u64;
+        Ok(found) => {
+            *place = found.unwrap_or(0) as u64;
             0
         }
-        FindAnswer::Nothing => {
-            *place = 0;
-            0
-        }
-        FindAnswer::Refused {
-            number: why,
-            place: at,
-        } => {
-            *refusal = at as u64;
-            why
-        }
+        Err(refused) => refuse(refused, refusal),
     }
 }
 
 // What a walk yields, for C: the number; a row, zeros at the end, or a refusal's place lent.
+// A yield's refusal is a number, not a fault: a spot made of C's numbers may have any.
+#[tactic(auto, unfolding(crate::specs::Walkers::row_after, note::specs::Answers::given_yield))]
 fn tell(last: WalkerYield, row: &mut [u32; 6], refusal: &mut u64) -> u32
     ensures number { result ≡ number_of (given_yield last) }
     ensures row { row.new ≡ row_after row.old last }
@@ -445,6 +395,21 @@ fn tell(last: WalkerYield, row: &mut [u32; 6], refusal: &mut u64) -> u32
     }
 }
 
+// A spot's numbers, for C.
+#[tactic(auto, unfolding(crate::specs::Walkers::numbers_of))]
+fn numbers_of(at: Spot) -> [u64; 6]
+    ensures { result ≡ numbers_of at }
+{
+    [
+        at.number.into(),
+        at.fault as u64,
+        at.place as u64,
+        at.end as u64,
+        at.parent.into(),
+        at.rows.into(),
+    ]
+}
+
 /// Open: a walker's numbers, and its first yield.
 #[unsafe(no_mangle)]
 pub extern "C" fn dwj_open(
@@ -459,18 +424,12 @@ pub extern "C" fn dwj_open(
     ensures refusal { refusal.new ≡ place_after refusal.old (given_yield (opened_of file.now).last) }
 {
     let at = walk::opened(file);
-    *walker = [
-        at.number as u64,
-        at.fault as u64,
-        at.place as u64,
-        at.end as u64,
-        at.parent as u64,
-        at.rows as u64,
-    ];
+    *walker = numbers_of(at);
     tell(walk::last(at), row, refusal)
 }
 
 /// Next: a walker's numbers one step on, and what it yields there. Any numbers are taken.
+#[tactic(auto, unfolding(crate::specs::Walkers::spot_of))]
 #[unsafe(no_mangle)]
 pub extern "C" fn dwj_next(
     file: &[u8],
@@ -484,6 +443,7 @@ pub extern "C" fn dwj_next(
     ensures refusal { refusal.new ≡ place_after refusal.old
         (given_yield (step_of file.now (spot_of walker.old)).last) }
 {
+    // A cast must fit, so what is 32 bits wide in a spot is taken modulo 2^32.
     let from = Spot {
         number: (walker[0] % 4294967296) as u32,
         fault: walker[1] as usize,
@@ -494,14 +454,7 @@ pub extern "C" fn dwj_next(
         last: WalkerYield::End,
     };
     let at = walk::step(file, from);
-    *walker = [
-        at.number as u64,
-        at.fault as u64,
-        at.place as u64,
-        at.end as u64,
-        at.parent as u64,
-        at.rows as u64,
-    ];
+    *walker = numbers_of(at);
     tell(walk::last(at), row, refusal)
 }
 
@@ -513,40 +466,43 @@ pub extern "C" fn dwj_channel(
     analysis: &mut [u8; 4],
     cold: &mut [u8; 4],
 ) -> u32
-    ensures number { result ≡ (channel_answer code).number }
-    ensures numbers { numbers.new ≡ channel_after numbers.old (channel_answer code) (channel_numbers (channel_answer code)) }
-    ensures analysis { analysis.new ≡ channel_after analysis.old (channel_answer code)
-        (channel_answer code).analysis.bytes }
-    ensures cold { cold.new ≡ channel_after cold.old (channel_answer code) (channel_answer code).cold.bytes }
+    ensures number { result ≡ number_in (channel_answer code) }
+    ensures numbers { numbers.new ≡ channel_after numbers.old channel_numbers (channel_answer code) }
+    ensures analysis { analysis.new ≡ channel_after analysis.old (λ answer. answer.analysis.bytes) (channel_answer code) }
+    ensures cold { cold.new ≡ channel_after cold.old (λ answer. answer.cold.bytes) (channel_answer code) }
 {
-    let answer = dwejrasq::channel(code);
-    if answer.number == 0 {
-        *numbers = [
-            answer.detector_type,
-            answer.detector,
-            answer.analysis.length,
-            answer.cold.length,
-        ];
-        let a = answer.analysis.bytes;
-        let c = answer.cold.bytes;
-        *analysis = a;
-        *cold = c;
+    match dwejrasq::channel(code) {
+        Ok(answer) => {
+            *numbers = [
+                answer.detector_type,
+                answer.detector,
+                answer.analysis.length,
+                answer.cold.length,
+            ];
+            // An array goes from a field to a lent place by way of a variable, as the toolchain asks.
+            let a = answer.analysis.bytes;
+            let c = answer.cold.bytes;
+            *analysis = a;
+            *cold = c;
+            0
+        }
+        Err(refused) => refused.fault.into(),
     }
-    answer.number
 }
 
 /// Code: the detector code lent; untouched under 10.
+#[tactic(auto, unfolding(note::specs::Answers::given_number))]
 #[unsafe(no_mangle)]
 pub extern "C" fn dwj_code(detector_type: u32, detector: u32, name: &[u8], code: &mut u32) -> u32
     ensures number { result ≡ number_of (code_answer detector_type detector name.now) }
     ensures code { NumberAfter code.old (code_answer detector_type detector name.now) code.new }
 {
     match dwejrasq::code(detector_type, detector, name) {
-        CodeAnswer::Code { code: found } => {
+        Ok(found) => {
             *code = found;
             0
         }
-        CodeAnswer::Refused { number, place: _ } => number,
+        Err(refused) => refused.fault.into(),
     }
 }
 
@@ -555,5 +511,5 @@ pub extern "C" fn dwj_code(detector_type: u32, detector: u32, name: &[u8], code:
 pub extern "C" fn dwj_zip(word: u32, zip: u32) -> u32
     ensures { result ≡ bit (zip_set word zip) }
 {
-    if dwejrasq::zip(word, zip) { 1 } else { 0 }
+    dwejrasq::zip(word, zip).into()
 }

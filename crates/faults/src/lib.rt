@@ -1,27 +1,30 @@
-// The faults that writers alone ask: of a trace's and a history's fields, in word order, with the sizes of the parts handed over. Each answers
-// 0 or the number of the refusal; the other kinds' faults are those that readers ask.
+// The faults that writers alone ask: of a trace's and a history's fields, in word order, with the sizes of the parts handed over. The other
+// kinds' faults are those that readers ask.
 #![tactic(auto)]
 
-ghost use Rattle.std.specs.Prelude.{◌≡◌, [], ◌∷◌, ◌*◌, eqb};
-ghost use Rattle.theory.specs.Tests.{unless, first};
-ghost use Rattle.note.specs.Trace.{channel_fault, code_fault, delta_fault, count_fault};
+ghost use Rattle.std.specs.Prelude.{◌≡◌, ◌*◌, eqb};
+ghost use Rattle.note.specs.Faults.{fault_in};
+ghost use Rattle.note.specs.Trace.{trace_fault};
 ghost use Rattle.note.specs.History.{section_fault, history_fault};
+ghost use Rattle.note.specs.Writers.{trace_handed, section_handed, history_handed};
 
 use channels::is_named;
-use fields::{GREATEST_SIGNED, count_fault, earlier, is_channel, is_width, or_unless, unless};
-use note::{WRONG_FIELD, WRONG_LENGTH};
+use fields::{GREATEST_SIGNED, count_fault, ensure, is_channel, is_width};
+use note::{Fault, History, Section, Trace};
 
 // ---- trace
 
 /// The first fault of a trace's fields, in word order; last its part of samples, which has two bytes for each.
-pub fn trace_fault(channel: u32, code: u32, delta: u32, n: u32, samples: usize) -> u32
-    ensures { result ≡ first (channel_fault channel ∷ code_fault code ∷ delta_fault delta ∷ count_fault n ∷ unless (eqb samples (2 * n)) 6 ∷ []) }
+#[tactic(auto, unfolding(note::specs::Trace::trace_fault, theory::specs::Tests::first))]
+pub fn trace_fault(fields: Trace) -> Result<(), Fault>
+    ensures { fault_in result ≡ trace_fault (trace_handed fields.entry) }
 {
-    let fault = unless(is_channel(channel), WRONG_FIELD);
-    let fault = or_unless(fault, is_named(code), WRONG_FIELD);
-    let fault = or_unless(fault, 1 <= delta, WRONG_FIELD);
-    let fault = earlier(fault, count_fault(n));
-    or_unless(fault, samples == 2 * n as usize, WRONG_LENGTH)
+    ensure(is_channel(fields.channel), Fault::WrongField)?;
+    ensure(is_named(fields.code), Fault::WrongField)?;
+    ensure(fields.delta_t >= 1, Fault::WrongField)?;
+    count_fault(fields.n)?;
+    let size = 2 * fields.n as usize;
+    ensure(fields.samples.len() == size, Fault::WrongLength)
 }
 
 // ---- history
@@ -33,57 +36,28 @@ fn is_filled(size: usize, words: usize) -> bool
     size % 4 == 0 && size / 4 == words
 }
 
-// The first fault of a history section's fields, in word order.
-fn section_fault(trigger: bool, count: u32, times: &[u8], width: u32, masks: &[u8]) -> u32
-    ensures { result ≡ section_fault trigger (record {
-      count = count;
-      times = times.now;
-      width = width;
-      masks = masks.now;
-    }) }
+// The first fault of a history section's fields, in word order. `trigger` is the definition's own flag.
+#[tactic(auto, unfolding(note::specs::History::section_fault, theory::specs::Tests::first))]
+fn section_fault(trigger: bool, section: Section) -> Result<(), Fault>
+    ensures { fault_in result ≡ section_fault trigger (section_handed section.entry) }
 {
-    let filled = is_filled(times.len(), count as usize);
-    let masked = is_filled(masks.len(), count as usize * width as usize);
-    let fault = unless(count <= GREATEST_SIGNED, WRONG_FIELD);
-    let fault = or_unless(fault, filled, WRONG_LENGTH);
-    let fault = or_unless(fault, width <= GREATEST_SIGNED, WRONG_FIELD);
-    let fault = or_unless(fault, is_width(trigger, count, width), WRONG_FIELD);
-    or_unless(fault, masked, WRONG_LENGTH)
+    let count = section.count as usize;
+    ensure(section.count <= GREATEST_SIGNED, Fault::WrongField)?;
+    ensure(is_filled(section.times.len(), count), Fault::WrongLength)?;
+    ensure(section.width <= GREATEST_SIGNED, Fault::WrongField)?;
+    ensure(
+        is_width(trigger, section.count, section.width),
+        Fault::WrongField,
+    )?;
+    let masks = count * section.width as usize;
+    ensure(is_filled(section.masks.len(), masks), Fault::WrongLength)
 }
 
 /// The first fault of a history's fields.
-pub fn history_fault(
-    veto_count: u32,
-    veto_times: &[u8],
-    veto_width: u32,
-    veto_masks: &[u8],
-    trigger_count: u32,
-    trigger_times: &[u8],
-    trigger_width: u32,
-    trigger_masks: &[u8],
-) -> u32
-    ensures { result ≡ history_fault (record {
-      veto = record {
-        count = veto_count;
-        times = veto_times.now;
-        width = veto_width;
-        masks = veto_masks.now;
-      };
-      trigger = record {
-        count = trigger_count;
-        times = trigger_times.now;
-        width = trigger_width;
-        masks = trigger_masks.now;
-      };
-    }) }
+#[tactic(auto, unfolding(note::specs::History::history_fault, theory::specs::Tests::first))]
+pub fn history_fault(fields: History) -> Result<(), Fault>
+    ensures { fault_in result ≡ history_fault (history_handed fields.entry) }
 {
-    let veto = section_fault(false, veto_count, veto_times, veto_width, veto_masks);
-    let trigger = section_fault(
-        true,
-        trigger_count,
-        trigger_times,
-        trigger_width,
-        trigger_masks,
-    );
-    earlier(veto, trigger)
+    section_fault(false, fields.veto)?;
+    section_fault(true, fields.trigger)
 }

@@ -24,8 +24,8 @@ pub shifted_and_masked : (w k : ℕ) → bit_and (w / 2 ^ (4 * k)) 15 ≡ w / 16
 shifted_and_masked w k = rw (and_mask (w / 2 ^ (4 * k)) 4, four_bits k)
 
 -- A word has eight digits.
-pub digit-past-word : (w k : ℕ) → w < 2 ^ 32 → 7 < k → 0 ≡ w / 16 ^ k % 16
-digit-past-word w k h l =
+pub past_word : (w k : ℕ) → w < 2 ^ 32 → 7 < k → 0 ≡ w / 16 ^ k % 16
+past_word w k h l =
     let p : 16 ^ 8 ≤ 16 ^ k = pow-le-pow_right (omega arith) l in
     let e : w / 16 ^ k ≡ 0 = div-eq_of_lt (lt_of_lt_of_le h p) in
     rw e

@@ -1,2 +1,3 @@
+pub mod TraceLaws
 pub mod SearchLaws
 pub mod CallLaws

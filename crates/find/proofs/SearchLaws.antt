@@ -1,35 +1,37 @@
--- The search over events and over an event's records: what is known at each turn, and what each way of a turn leads to.
--- The idea: the whole is known to be read, so what stands next is read too; the first match of what is still to be searched is the
--- first match of all, and a trace that doesn't match is left out without loss.
+-- The search over events: what is known at each turn, and what each way of a turn leads to.
+-- The idea: as over records (TraceLaws); an event's first record carries its number, and the search of its records says what it adds.
 use mathlib.Core.Path.{◌≡◌, refl, sym, ap, ap₂, ◌∙◌, subst}
 use mathlib.Core.Bool.{Bool, true, false}
 use mathlib.Core.List.{List, [], ◌∷◌, ◌++◌}
-use Prim.Native.Nat.{ℕ, ◌+◌, ◌-◌, ◌≤◌, ◌<◌}
-use native.Mathlib.Decide.{ℕ_discrete}
+use Prim.Native.Nat.{ℕ, ◌+◌, ◌≤◌, ◌<◌}
 use native.Mathlib.Omega.{arith}
-use lib.Dec.{eqb}
-use lib.ListN.{length, take, drop}
-use borrow.Author.Tests.{eq-eqb, ne_eqb}
+use lib.ListN.{length, take, drop, length-drop}
+use borrow.Author.Tests.{ne_eqb}
 use Rattle.theory.specs.declared.Order.{Order}
 use Rattle.theory.specs.Words.{Bytes}
 use Rattle.theory.specs.Tests.{Res, ok}
-use Rattle.theory.proofs.WordLaws.{word_of_part}
+use Rattle.theory.proofs.WordLaws.{word_of_part, Bytes-part, Bytes-drop}
 use Rattle.theory.proofs.LoopLaws.{Ahead, ahead, none_read}
 use Rattle.note.specs.Limits.{file_limit}
 use Rattle.note.specs.Words.{word}
 use Rattle.note.specs.Administrative.{administrative_kind, administrative_of}
-use Rattle.note.specs.Trace.{trace_kind, trace_of}
-use Rattle.note.specs.Records.{Record, Context, behind, event, unseen, record_size, records_bytes, record_rule, kind_of, read_records}
+use Rattle.note.specs.Trace.{trace_of}
+use Rattle.note.specs.Records.{Record, event, unseen, record_size, record_rule, kind_of, read_records}
 use Rattle.note.specs.Events.{Container, container_size, read_events}
 use Rattle.note.specs.Calls.{TraceAt, is_trace, kept_if, traces_in, traces_from, event_number, first_match}
 use Rattle.demands.specs.Valid.{ValidRecord, ValidEvent}
 use Rattle.demands.proofs.Bundles.{record_item, event_item, same_record, same-records, same-events, record_valid, event-valid}
 use Rattle.demands.proofs.EventLaws.{first-administrative}
 use Rattle.rules.proofs.LengthLaws.{long_enough}
-use Rattle.record.proofs.StepLaws.{Read, read-shows, cut_body, cut-length, cut-bytes}
-use Rattle.containers.proofs.RecordLoop.{record_at, behind_of, left, length-behind, Bytes-behind}
+use Rattle.record.proofs.StepLaws.{Read, read-shows, cut}
+use Rattle.structures.specs.declared.Structure.{Structure}
+use Rattle.structures.specs.declared.Sequence.{Sequence}
+use Rattle.structures.specs.Standing.{stands, Given}
+use Rattle.structures.proofs.StandingLaws.{none_over, given_fits, given_some, given_length, in_order}
+use Rattle.containers.proofs.RecordLoop.{record_at}
 use Rattle.containers.proofs.EventLoop.{Shown, event-shows}
 use Rattle.find.specs.Search.{Searchable, traces_read}
+use Rattle.find.proofs.TraceLaws.{Looking}
 
 -- An event of another number has no match.
 other_number : (o : Order) (number code n : ℕ) → (n ≡ number → ⊥) → (at : ℕ) (rs : List Record) (ts : List TraceAt)
@@ -49,247 +51,178 @@ other_number o number code n d at (r ∷ rs) ts = go (is_trace r) (other_number 
     go true e = rw (ne_eqb n number d) e
     go false e = e
 
--- ---- the records of an event that carries the number
-
--- Records fill the part, and the first match among their traces and the later ones is the answer.
-pub record Looking (o : Order) (number code : ℕ) (answer : List ℕ) (next : ℕ) (later : List TraceAt) (place : ℕ) (bs : List ℕ) : Type 0 where
-  pub state : Context
-  pub rs : List Record
-  pub reads : read_records o state place bs ≡ ok rs
-  pub still : first_match number code (traces_in o number place rs ++ later) ≡ answer
-  pub ends : place + length bs ≡ next
-  pub bytes : Bytes bs
-
-module _ {o : Order} {number code : ℕ} {answer : List ℕ} {next : ℕ} {later : List TraceAt} {place : ℕ} {bs : List ℕ}
-    (i : Looking o number code answer next later place bs) where
-  pub looked : length bs ≤ 0 → first_match number code later ≡ answer
-  unfolding traces_in
-  looked l =
-      let none_left : i.rs ≡ [] = none_read (record_item o) i.state place bs i.rs l (sym (same-records o i.state place bs) ∙ i.reads) in
-      ap (λ (rs : List Record). first_match number code (traces_in o number place rs ++ later)) (sym none_left) ∙ i.still
-
-  module _ (l : 0 < length bs) where
-    front : Ahead (record_item o) i.state place bs i.rs
-    front = ahead (record_item o) i.state place bs i.rs i.bytes l (sym (same-records o i.state place bs) ∙ i.reads)
-
-    shown : Read o i.state place bs (word o 0 bs) (word o 4 bs) × (front.item ≡ record_at (word o 0 bs) (word o 4 bs) bs)
-    shown = read-shows o i.state place bs front.item (same_record o i.state place bs ∙ front.reads_item)
-
-    pub record_fits : 8 + word o 4 bs ≤ length bs
-    record_fits = shown.0.fits
-
-    abbrev this : TraceAt
-    this = record { number = number; code = word o 16 (take (word o 4 bs) (drop 8 bs)); place = place }
-
-    abbrev others : List TraceAt
-    others = traces_in o number (place + (8 + word o 4 bs)) front.others
-
-    -- the record that stands next, and those behind it
-    split : first_match number code (kept_if (eqb (word o 0 bs) trace_kind.word) this others ++ later) ≡ answer
-    unfolding traces_in trace_of
-    split =
-        let a : Record = record_at (word o 0 bs) (word o 4 bs) bs in
-        let trace : Bool = eqb (word o 0 bs) trace_kind.word in
-        let size : place + record_size a ≡ place + (8 + word o 4 bs) = ap (λ (n : ℕ). place + (8 + n)) shown.0.size in
-        let both : i.rs ≡ a ∷ front.others = front.splits ∙ ap (λ (r : Record). r ∷ front.others) shown.1 in
-        ap (λ (p : ℕ). first_match number code (kept_if trace this (traces_in o number p front.others) ++ later)) (sym size)
-        ∙ ap (λ (rs : List Record). first_match number code (traces_in o number place rs ++ later)) (sym both) ∙ i.still
-
-    -- a trace has room for the words before its samples; its code is the record's word 24
-    module _ (k : word o 0 bs ≡ trace_kind.word) where
-      room : 48 ≤ word o 4 bs
-      unfolding kind_of
-      room =
-          let b : List ℕ = take (word o 4 bs) (drop 8 bs) in
-          omega (arith, long_enough o trace_kind.word b (subst (λ (w : ℕ). record_rule o w b ≡ 0) k shown.0.follows), shown.0.size)
-
-      pub trace-fits : 56 ≤ length bs
-      trace-fits = omega (arith, room, record_fits)
-
-      code_is : this.code ≡ word o 24 bs
-      code_is = word_of_part o 4 16 8 (word o 4 bs) bs (omega (arith, room, shown.0.size))
-
-      pub hit : word o 24 bs ≡ code → place ∷ [] ≡ answer
-      unfolding first_match
-      hit c =
-          let same : this.code ≡ code = code_is ∙ c in
-          rw (eq-eqb (word o 0 bs) trace_kind.word k, eq-eqb number number refl, eq-eqb this.code code same) at split
-
-    -- a record that is no trace of the code
-    missed : (word o 0 bs ≡ trace_kind.word → word o 24 bs ≡ code → ⊥) → first_match number code (others ++ later) ≡ answer
-    unfolding first_match
-    missed d = elim (ℕ_discrete (word o 0 bs) trace_kind.word) [
-      | yes k ↦
-          let differs : this.code ≡ code → ⊥ = λ q. d k (sym (code_is k) ∙ q) in
-          rw (eq-eqb (word o 0 bs) trace_kind.word k, eq-eqb number number refl, ne_eqb this.code code differs) at split
-      | no k ↦ rw (ne_eqb (word o 0 bs) trace_kind.word k) at split
-    ]
-
-    pub past : (word o 0 bs ≡ trace_kind.word → word o 24 bs ≡ code → ⊥) → (m : ℕ) → m ≡ word o 4 bs
-        → Looking o number code answer next later (place + (8 + m)) (behind_of (8 + m) bs)
-    past d m em =
-        let n : ℕ = 8 + word o 4 bs in
-        let s : Context = behind i.state front.item.word in
-        let size : record_size front.item ≡ n = ap record_size shown.1 ∙ ap (λ (x : ℕ). 8 + x) shown.0.size in
-        let behind-it : read_records o s (place + n) (drop n bs) ≡ ok front.others =
-        subst (λ (x : ℕ). read_records o s (place + x) (drop x bs) ≡ ok front.others) size
-        (same-records o s (place + record_size front.item) (drop (record_size front.item) bs) ∙ front.reads-others) in
-        subst (λ (x : ℕ). Looking o number code answer next later (place + (8 + x)) (behind_of (8 + x) bs)) (sym em)
-        (record {
-          state = s;
-          rs = front.others;
-          reads = ap (read_records o s (place + n)) (sym (left n bs)) ∙ behind-it;
-          still = missed d;
-          ends = omega (arith, i.ends, length-behind n bs, record_fits);
-          bytes = Bytes-behind n bs i.bytes;
-        })
-
--- ---- the events
-
--- Events fill the part, and the first match among their traces is the answer.
-pub record Searching (o : Order) (number code : ℕ) (answer : List ℕ) (at : ℕ) (bs : List ℕ) : Type 0 where
+-- Events fill what is left, and the first match among their traces is the answer.
+pub record Searching (o : Order) (number code : ℕ) (answer : List ℕ) (s : Sequence) : Type 0 where
+  pub order : s.order ≡ o
   pub es : List Container
-  pub reads : read_events o at bs ≡ ok es
-  pub still : first_match number code (traces_from o at es) ≡ answer
-  pub within : at + length bs ≤ file_limit
-  pub bytes : Bytes bs
+  pub reads : read_events o s.at s.rest.now ≡ ok es
+  pub still : first_match number code (traces_from o s.at es) ≡ answer
+  pub within : s.at + length s.rest.now ≤ file_limit
+  pub bytes : Bytes s.rest.now
 
--- The traces behind the first n bytes of a part whose first byte stands at `at`.
-abbrev pub later_traces : Order → ℕ → ℕ → List ℕ → List TraceAt
-later_traces o n at bs = traces_read o (at + n) (read_events o (at + n) (behind_of n bs))
+-- The traces among the events that are left.
+abbrev pub later_traces : Order → Sequence → List TraceAt
+later_traces o s = traces_read o s.at (read_events o s.at s.rest.now)
 
 pub begin : (o : Order) (number code from : ℕ) (bs : List ℕ) → Searchable o from bs → Bytes bs
-    → Searching o number code (first_match number code (traces_read o from (read_events o from bs))) from bs
+    → (s : Sequence) → s.rest.now ≡ bs → s.at ≡ from → s.order ≡ o
+    → Searching o number code (first_match number code (traces_read o from (read_events o from bs))) s
 unfolding traces_read
-begin o number code from bs s h = record {
-  es = s.events;
-  reads = s.reads;
-  still = ap (λ (r : Res (List Container)). first_match number code (traces_read o from r)) (sym s.reads);
-  within = s.within;
-  bytes = h;
+begin o number code from bs p h s eb ef eo = record {
+  order = eo;
+  es = p.events;
+  reads = rw (eb, ef) p.reads;
+  still =
+      ap (λ (q : ℕ). first_match number code (traces_from o q p.events)) ef
+      ∙ ap (λ (r : Res (List Container)). first_match number code (traces_read o from r)) (sym p.reads);
+  within = omega (arith, ap length eb, ef, p.within);
+  bytes = rw eb h;
 }
 
-module _ {o : Order} {number code : ℕ} {answer : List ℕ} {at : ℕ} {bs : List ℕ} (i : Searching o number code answer at bs) where
-  pub searched : length bs ≤ 0 → [] ≡ answer
+module _ {o : Order} {number code : ℕ} {answer : List ℕ} {s : Sequence} (i : Searching o number code answer s) where
+  abbrev bs : List ℕ
+  bs = s.rest.now
+
+  front_event : 0 < length bs → Ahead (event_item o) tt s.at bs i.es
+  front_event l = ahead (event_item o) tt s.at bs i.es i.bytes l (sym (same-events o tt s.at bs) ∙ i.reads)
+
+  shown_event : (l : 0 < length bs) → Shown o s.at bs (front_event l).item
+  shown_event l = event-shows o s.at bs (front_event l).item i.bytes (front_event l).reads_item
+
+  pub searched : stands s.order bs ≡ false → [] ≡ answer
   unfolding traces_from first_match
-  searched l =
-      let none_left : i.es ≡ [] = none_read (event_item o) tt at bs i.es l (sym (same-events o tt at bs) ∙ i.reads) in
-      ap (λ (es : List Container). first_match number code (traces_from o at es)) (sym none_left) ∙ i.still
+  searched none =
+      let none_here : stands o bs ≡ false = ap (λ (q : Order). stands q bs) (sym i.order) ∙ none in
+      let over : length bs ≤ 0 = none_over o bs none_here (λ l. (shown_event l).fits) in
+      let none_left : i.es ≡ [] = none_read (event_item o) tt s.at bs i.es over (sym (same-events o tt s.at bs) ∙ i.reads) in
+      ap (λ (es : List Container). first_match number code (traces_from o s.at es)) (sym none_left) ∙ i.still
 
-  module _ (l : 0 < length bs) where
-    front-event : Ahead (event_item o) tt at bs i.es
-    front-event = ahead (event_item o) tt at bs i.es i.bytes l (sym (same-events o tt at bs) ∙ i.reads)
+  -- The event that was given, and those behind it.
+  module _ {t : Sequence} {x : Structure} (given : Given s.order s x t) where
+    g : Given o s x t
+    g = in_order i.order given
 
-    shown_event : Shown o at bs front-event.item
-    shown_event = event-shows o at bs front-event.item i.bytes front-event.reads_item
+    next : Ahead (event_item o) tt s.at bs i.es
+    next = front_event (given_some g)
 
-    pub event-fits : 8 + word o 4 bs ≤ length bs
-    event-fits = shown_event.fits
+    shown : Shown o s.at bs next.item
+    unfolding next
+    shown = shown_event (given_some g)
 
-    -- its records' part, as code cuts it
     abbrev inner : List ℕ
-    inner = cut_body (word o 4 bs) bs
+    inner = x.body.now
 
-    inner-length : length inner ≡ word o 4 bs
-    inner-length = cut-length (word o 4 bs) bs event-fits
+    inner_length : length inner ≡ word o 4 bs
+    inner_length = given_length g
 
-    inner-bytes : Bytes inner
-    inner-bytes = cut-bytes (word o 4 bs) bs i.bytes
+    inner_bytes : Bytes inner
+    inner_bytes = subst Bytes (sym g.body_is) (Bytes-part (word o 4 bs) 8 bs i.bytes)
+
+    contents : read_records o (event unseen) (s.at + 8) inner ≡ ok next.item.body
+    contents = ap (read_records o (event unseen) (s.at + 8)) (g.body_is ∙ sym (cut (word o 4 bs) bs)) ∙ shown.contents
 
     -- its first record, which is administrative
-    inner-front : Ahead (record_item o) (event unseen) (at + 8) inner front-event.item.body
-    inner-front =
-        let e : Container = front-event.item in
-        let v : ValidEvent o e = event-valid o e ((event_item o).sound tt at bs e i.bytes front-event.reads_item).1 in
-        ahead (record_item o) (event unseen) (at + 8) inner e.body inner-bytes (omega (arith, v.not_empty, shown_event.size, inner-length))
-        (sym (same-records o (event unseen) (at + 8) inner) ∙ shown_event.contents)
+    inner_front : Ahead (record_item o) (event unseen) (s.at + 8) inner next.item.body
+    inner_front =
+        let e : Container = next.item in
+        let v : ValidEvent o e = event-valid o e ((event_item o).sound tt s.at bs e i.bytes next.reads_item).1 in
+        ahead (record_item o) (event unseen) (s.at + 8) inner e.body inner_bytes (omega (arith, v.not_empty, shown.size, inner_length))
+        (sym (same-records o (event unseen) (s.at + 8) inner) ∙ contents)
 
-    first_shown : Read o (event unseen) (at + 8) inner (word o 0 inner) (word o 4 inner)
-        × (inner-front.item ≡ record_at (word o 0 inner) (word o 4 inner) inner)
+    first_shown : Read o (event unseen) (s.at + 8) inner (word o 0 inner) (word o 4 inner)
+        × (inner_front.item ≡ record_at (word o 0 inner) (word o 4 inner) inner)
     first_shown =
-        read-shows o (event unseen) (at + 8) inner inner-front.item (same_record o (event unseen) (at + 8) inner ∙ inner-front.reads_item)
+        read-shows o (event unseen) (s.at + 8) inner inner_front.item (same_record o (event unseen) (s.at + 8) inner ∙ inner_front.reads_item)
 
-    first-room : 24 ≤ length inner-front.item.body
+    first_room : 24 ≤ length inner_front.item.body
     unfolding kind_of
-    first-room =
-        let r : Record = inner-front.item in
-        let good = ((record_item o).sound (event unseen) (at + 8) inner r inner-bytes inner-front.reads_item).1 in
+    first_room =
+        let r : Record = inner_front.item in
+        let good = ((record_item o).sound (event unseen) (s.at + 8) inner r inner_bytes inner_front.reads_item).1 in
         let v : ValidRecord o (event unseen) r = record_valid o (event unseen) r good in
         long_enough o administrative_kind.word r.body
         (subst (λ (w : ℕ). record_rule o w r.body ≡ 0) (first-administrative o r v) v.body-rule)
 
-    -- there is room for it; its number is the event's word 24
-    first_long : 32 ≤ length inner
-    first_long = omega (arith, first-room, ap (λ (r : Record). length r.body) first_shown.1, first_shown.0.size, first_shown.0.fits)
+    -- there is room for it; its number is the contents' word 16
+    pub first_long : 32 ≤ length x.body.now
+    first_long = omega (arith, first_room, ap (λ (r : Record). length r.body) first_shown.1, first_shown.0.size, first_shown.0.fits)
 
-    pub first_fits : 40 ≤ length bs
-    first_fits = omega (arith, first_long, inner-length, event-fits)
-
-    number_is : event_number o front-event.item.body ≡ word o 24 bs
+    number_is : event_number o next.item.body ≡ word o 16 inner
     unfolding administrative_of
     number_is =
-        let body_is : inner-front.item.body ≡ take (word o 4 inner) (drop 8 inner) = ap (λ (r : Record). r.body) first_shown.1 in
-        ap (event_number o) inner-front.splits
+        let body_is : inner_front.item.body ≡ take (word o 4 inner) (drop 8 inner) = ap (λ (r : Record). r.body) first_shown.1 in
+        ap (event_number o) inner_front.splits
         ∙ ap (word o 8) body_is
-        ∙ word_of_part o 4 8 8 (word o 4 inner) inner (omega (arith, first-room, ap length body_is))
-        ∙ word_of_part o 4 16 8 (8 + word o 4 bs - 8) bs (omega (arith, first_long))
+        ∙ word_of_part o 4 8 8 (word o 4 inner) inner (omega (arith, first_room, ap length body_is))
 
     -- behind the event
-    behind-event : read_events o (at + (8 + word o 4 bs)) (behind_of (8 + word o 4 bs) bs) ≡ ok front-event.others
-    behind-event =
-        let n : ℕ = 8 + word o 4 bs in
-        let size : 8 + length (records_bytes o front-event.item.body) ≡ n = ap (λ (x : ℕ). 8 + x) shown_event.size in
-        ap (read_events o (at + n)) (sym (left n bs))
-        ∙ subst (λ (x : ℕ). read_events o (at + x) (drop x bs) ≡ ok front-event.others) size
-        (same-events o tt (at + container_size o front-event.item) (drop (container_size o front-event.item) bs) ∙ front-event.reads-others)
+    abbrev n : ℕ
+    n = container_size o next.item
 
-    split-event : first_match number code (traces_in o (word o 24 bs) (at + 8) front-event.item.body ++ later_traces o (8 + word o 4 bs) at bs)
-        ≡ answer
-    unfolding traces_from traces_read
-    split-event =
-        let n : ℕ = 8 + word o 4 bs in
-        let rs : List Record = front-event.item.body in
-        let size : container_size o front-event.item ≡ n = ap (λ (x : ℕ). 8 + x) shown_event.size in
-        ap₂ (λ (w : ℕ) (r : Res (List Container)). first_match number code (traces_in o w (at + 8) rs ++ traces_read o (at + n) r))
-        (sym number_is) behind-event
-        ∙ ap (λ (x : ℕ). first_match number code (traces_in o (event_number o rs) (at + 8) rs ++ traces_from o (at + x) front-event.others))
-        (sym size)
-        ∙ ap (λ (es : List Container). first_match number code (traces_from o at es)) (sym front-event.splits)
+    size_is : n ≡ 8 + word o 4 bs
+    size_is = ap (λ (m : ℕ). 8 + m) shown.size
+
+    at_is : t.at ≡ s.at + n
+    at_is = g.at_is ∙ ap (λ (q : ℕ). s.at + q) (sym size_is)
+
+    reads_behind : read_events o t.at t.rest.now ≡ ok next.others
+    reads_behind =
+        let rest_is : t.rest.now ≡ drop n bs = g.rest_is ∙ ap (λ (q : ℕ). drop q bs) (sym size_is) in
+        ap₂ (read_events o) at_is rest_is ∙ same-events o tt (s.at + n) (drop n bs) ∙ next.reads-others
+
+    abbrev mine : List TraceAt
+    mine = traces_in o (word o 16 inner) (x.place + 8) next.item.body
+
+    abbrev later : List TraceAt
+    later = traces_from o t.at next.others
+
+    split_event : first_match number code (mine ++ later) ≡ answer
+    unfolding traces_from
+    split_event =
+        let rs : List Record = next.item.body in
+        ap₂ (λ (w p : ℕ). first_match number code (traces_in o w (p + 8) rs ++ later)) (sym number_is) g.place_is
+        ∙ ap (λ (p : ℕ). first_match number code (traces_in o (event_number o rs) (s.at + 8) rs ++ traces_from o p next.others)) at_is
+        ∙ ap (λ (es : List Container). first_match number code (traces_from o s.at es)) (sym next.splits)
         ∙ i.still
 
+    -- its events are the later ones
+    later_is : later_traces o t ≡ later
+    unfolding traces_read
+    later_is = ap (traces_read o t.at) reads_behind
+
     -- into an event of the number
-    pub into : (m : ℕ) → m ≡ word o 4 bs → word o 24 bs ≡ number
-        → Looking o number code answer (at + (8 + m)) (later_traces o (8 + m) at bs) (at + 8) (cut_body m bs)
-    into m em same =
-        let rs : List Record = front-event.item.body in
-        let later : List TraceAt = later_traces o (8 + word o 4 bs) at bs in
-        subst (λ (x : ℕ). Looking o number code answer (at + (8 + x)) (later_traces o (8 + x) at bs) (at + 8) (cut_body x bs)) (sym em)
-        (record {
+    pub into : word o 16 x.body.now ≡ number → (u : Sequence) → u.rest.now ≡ x.body.now → u.at ≡ x.place + 8 → u.order ≡ o
+        → Looking o number code answer (later_traces o t) u
+    into same u eb ef eo =
+        let rs : List Record = next.item.body in
+        let place : u.at ≡ s.at + 8 = ef ∙ ap (λ (p : ℕ). p + 8) g.place_is in
+        record {
+          order = eo;
           state = event unseen;
           rs = rs;
-          reads = shown_event.contents;
-          still = subst (λ (w : ℕ). first_match number code (traces_in o w (at + 8) rs ++ later) ≡ answer) same split-event;
-          ends = omega (arith, inner-length);
-          bytes = inner-bytes;
-        })
-
-    -- past an event in which nothing matches
-    pub past-event : (m : ℕ) → m ≡ word o 4 bs → first_match number code (later_traces o (8 + m) at bs) ≡ answer
-        → Searching o number code answer (at + (8 + m)) (behind_of (8 + m) bs)
-    unfolding traces_read
-    past-event m em e =
-        let reads-behind : read_events o (at + (8 + m)) (behind_of (8 + m) bs) ≡ ok front-event.others =
-        subst (λ (x : ℕ). read_events o (at + (8 + x)) (behind_of (8 + x) bs) ≡ ok front-event.others) (sym em) behind-event in
-        record {
-          es = front-event.others;
-          reads = reads-behind;
-          still = ap (λ (r : Res (List Container)). first_match number code (traces_read o (at + (8 + m)) r)) (sym reads-behind) ∙ e;
-          within = omega (arith, i.within, length-behind (8 + m) bs, em, event-fits);
-          bytes = Bytes-behind (8 + m) bs i.bytes;
+          reads = ap₂ (read_records o (event unseen)) place eb ∙ contents;
+          still = ap₂ (λ (p : ℕ) (ts : List TraceAt). first_match number code (traces_in o number p rs ++ ts)) ef later_is
+              ∙ ap (λ (w : ℕ). first_match number code (traces_in o w (x.place + 8) rs ++ later)) (sym same) ∙ split_event;
+          within = omega (arith, ap length eb, ef, g.place_is, inner_length, given_fits g, i.within);
+          bytes = subst Bytes (sym eb) inner_bytes;
         }
 
-    pub past_other : (m : ℕ) → m ≡ word o 4 bs → (word o 24 bs ≡ number → ⊥)
-        → first_match number code (later_traces o (8 + m) at bs) ≡ answer
-    past_other m em d =
-        subst (λ (x : ℕ). first_match number code (later_traces o (8 + x) at bs) ≡ answer) (sym em)
-        (sym (other_number o number code (word o 24 bs) d (at + 8) front-event.item.body (later_traces o (8 + word o 4 bs) at bs)) ∙ split-event)
+    -- past an event in which nothing matches
+    pub past_event : first_match number code (later_traces o t) ≡ answer → Searching o number code answer t
+    past_event e = record {
+      order = g.order_is ∙ i.order;
+      es = next.others;
+      reads = reads_behind;
+      still = ap (first_match number code) (sym later_is) ∙ e;
+      within = omega (arith, i.within, g.at_is, ap length g.rest_is, length-drop (8 + word o 4 bs) bs, given_fits g);
+      bytes = subst Bytes (sym g.rest_is) (Bytes-drop (8 + word o 4 bs) bs i.bytes);
+    }
+
+    pub past_other : (word o 16 x.body.now ≡ number → ⊥) → Searching o number code answer t
+    past_other d =
+        past_event (ap (first_match number code) later_is
+        ∙ sym (other_number o number code (word o 16 inner) d (x.place + 8) next.item.body later) ∙ split_event)
+
+    -- the records of the event that was given can be gone through
+    pub event_ends : x.place + (8 + length x.body.now) ≤ file_limit
+    event_ends = omega (arith, g.place_is, inner_length, given_fits g, i.within)

@@ -3,75 +3,54 @@
 #![tactic(auto)]
 
 ghost use Rattle.std.specs.Prelude.{◌≡◌};
-ghost use Rattle.theory.specs.Words.{order_from};
-ghost use Rattle.note.specs.Answers.{accepted, counts, given_find};
+ghost use Rattle.note.specs.Answers.{given_find};
 ghost use Rattle.note.specs.Events.{read_events};
 ghost use Rattle.note.specs.Calls.{first_match, find_at};
-ghost use Rattle.find.specs.Search.{Searchable, traces_read};
+ghost use Rattle.find.specs.Search.{places, Searchable, traces_read};
 
-use containers::{Count, ENTRIES, ENTRIES_LENGTH, check};
-use note::FindAnswer;
+use containers::{ENTRIES, ENTRIES_LENGTH, check};
+use note::Refusal;
 use record::FRONT;
-use rules::TRACE;
-use words::{is_big, word_at};
+use rules::{CODE_AT, Kind};
+use structures::structures;
+use theory::Order;
+use words::{order_of, word_at};
 
-// Where an event's number stands: the third word of its first record's body, behind the event's two words and the record's.
-const EVENT_NUMBER: usize = 24;
+// Where an event's number stands in its contents: the third word of its first record's body, behind that record's two words.
+const EVENT_NUMBER: usize = 16;
 
-// Where a trace's code stands, from its first byte on.
-const TRACE_CODE: usize = 24;
+// A trace's kind word.
+const TRACE: u32 = Kind::Trace as u32;
 
 // The first trace among the events that fill a part whose first byte stands at `from`. The part was checked, so an event's first
 // record is its administrative one, and a record's kind and length words say what stands there. One loop over events and, in it, one over
-// records, which a match leaves both by a label.
-fn search(part: &[u8], from: usize, number: u32, code: u32, big: bool) -> FindAnswer
-    requires { Searchable (order_from big) from part.now }
-    ensures { given_find result
-        ≡ accepted (counts (first_match number code (traces_read (order_from big) from (read_events (order_from big) from part.now)))) }
+// records, which a match leaves both by a label: that form was asked for (docs/DECISIONS.md, 'Forms of the code').
+fn search(part: &[u8], from: usize, number: u32, code: u32, order: Order) -> Option<usize>
+    requires { Searchable order from part.now }
+    ensures { places result ≡ first_match number code (traces_read order from (read_events order from part.now)) }
 {
-    let mut found = FindAnswer::Nothing;
-    let mut rest = part;
-    let mut at = from;
-    'events: while 0 < rest.len() {
-        let size = FRONT + word_at(rest, 4, big) as usize;
-        if word_at(rest, EVENT_NUMBER, big) == number {
-            let mut records = &rest[FRONT..size];
-            let mut place = at + FRONT;
-            while 0 < records.len() {
-                if word_at(records, 0, big) == TRACE {
-                    if word_at(records, TRACE_CODE, big) == code {
-                        found = FindAnswer::Found { place };
-                        break 'events;
-                    }
+    let mut found = None;
+    'events: for event in structures(part, from, order) {
+        if word_at(event.body, EVENT_NUMBER, order) == number {
+            for record in structures(event.body, event.place + FRONT, order) {
+                if record.word == TRACE && word_at(record.body, CODE_AT, order) == code {
+                    found = Some(record.place);
+                    break 'events;
                 }
-                let length = FRONT + word_at(records, 4, big) as usize;
-                records = &records[length..];
-                place = place + length;
             }
         }
-        rest = &rest[size..];
-        at = at + size;
     }
     found
 }
 
 /// Find: where the first trace of this code among the events of this number stands, or nothing; the refusal of a file that is refused
 /// (FORMAT 8.8).
-pub fn find(file: &[u8], number: u32, code: u32) -> FindAnswer
+#[tactic(auto, unfolding(note::specs::Answers::given_find), using(crate::proofs::CallLaws::refused))]
+pub fn find(file: &[u8], number: u32, code: u32) -> Result<Option<usize>, Refusal>
     ensures { given_find result ≡ find_at file.now number code }
 {
-    match check(file) {
-        Count::Bad {
-            number: fault,
-            place,
-        } => FindAnswer::Refused {
-            number: fault,
-            place,
-        },
-        Count::Good { count: _ } => {
-            let big = is_big(file);
-            let from = ENTRIES + word_at(file, ENTRIES_LENGTH, big) as usize;
-            search(&file[from..], from, number, code, big)
-        }
-    }
+    check(file)?;
+    let order = order_of(file);
+    let from = ENTRIES + word_at(file, ENTRIES_LENGTH, order) as usize;
+    Ok(search(&file[from..], from, number, code, order))
 }

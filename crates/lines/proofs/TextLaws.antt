@@ -10,15 +10,16 @@ use native.Mathlib.Nat.{pow-suc, pow-zero, one-le-pow, mod-eq_of_lt}
 use native.Mathlib.Numerals.{add-one}
 use lib.Dec.{leb, eqb}
 use lib.ListN.{length, take, drop, get_or, set, length-append, length-drop}
-use lib.Seq.{sets, sets-eq, drop-cons, drop-drop, length-take-le}
-use borrow.Author.Tests.{lt-ltb, le-leb, lt-leb, leb-true, leb-false, eq-eqb, ne_eqb}
+use lib.Seq.{sets, sets-eq, drop-cons, length-take-le}
+use borrow.Author.Tests.{lt-ltb, le-leb, lt-leb, leb-true, leb-false, ne_eqb}
 use Rattle.io.specs.Counts.{IsPrefixLen}
 use Rattle.io.specs.Digits.{hex_digit_ascii, last_digits, IsDigitCount}
 use Rattle.theory.proofs.StoreLaws.{sets-append}
 use Rattle.note.specs.Listing.{decimal_text, separator, line_text, lines_text}
 use Rattle.note.proofs.ListingLaws.{decimal-one, decimal_more, decimal-short}
 use Rattle.note.specs.declared.TableAnswer.{TableAnswer}
-use Rattle.lines.specs.Texts.{buffer_lines, listed_rows, table_lines, has_room, table_text, Put}
+use Rattle.std.specs.Simd.{first_chunks}
+use Rattle.lines.specs.Texts.{buffer_lines, numbered, listed_rows, table_lines, has_room, table_text, Put}
 
 -- ---- piece by piece
 
@@ -92,10 +93,7 @@ number_put out at k n behind ds mid e l m = (
 -- ---- lines
 
 -- The byte behind a number, as the code's test has it.
-pub last_behind : (following : ℕ) → following ≡ 0 → ◌≡◌ {A = ℕ} 10 (cond (eqb following 0) 10 32)
-last_behind following e = sym (ap (λ (t : Bool). cond t 10 32) (eq-eqb following 0 e))
-
-pub blank_behind : (following : ℕ) → (following ≡ 0 → ⊥) → ◌≡◌ {A = ℕ} 32 (cond (eqb following 0) 10 32)
+blank_behind : (following : ℕ) → (following ≡ 0 → ⊥) → ◌≡◌ {A = ℕ} 32 (cond (eqb following 0) 10 32)
 blank_behind following e = sym (ap (λ (t : Bool). cond t 10 32) (ne_eqb following 0 e))
 
 behind-number : (ns : List ℕ) → separator ns ≡ cond (eqb (length ns) 0) 10 32
@@ -115,24 +113,25 @@ line_from ns i following h e =
     ∙ sym (append_assoc (decimal_text (get_or ns i 0)) (cond (eqb following 0) 10 32 ∷ []) (line_text (drop (suc i) ns)))
     ∙ ap (λ (k : ℕ). (decimal_text (get_or ns i 0) ++ (cond (eqb following 0) 10 32 ∷ [])) ++ line_text (drop k ns)) (sym (add-one i))
 
-nothing_left : (l : List ℕ) → length l ≤ 0 → l ≡ []
-nothing_left [] h = refl
-nothing_left (x ∷ l) h = absurd (omega arith)
+none_left : {A : Type 0} (l : List A) → length l ≤ 0 → l ≡ []
+none_left [] h = refl
+none_left (x ∷ l) h = absurd (omega arith)
 
 -- A turn of a line's loop, and its end.
-pub line_turn : (first : List ℕ) (at : ℕ) (whole out ns : List ℕ) (next i following b end : ℕ) (after : List ℕ)
-    → i < length ns → following ≡ length ns - i - 1 → b ≡ cond (eqb following 0) 10 32
-    → Left first at whole out next (line_text (drop i ns)) → Put out next (decimal_text (get_or ns i 0) ++ (b ∷ [])) end after
+pub line_turn : (first : List ℕ) (at : ℕ) (whole out ns : List ℕ) (next i following b n end : ℕ) (after : List ℕ)
+    → i < length ns → following ≡ length ns - i - 1 → b ≡ cond (eqb following 0) 10 32 → n ≡ get_or ns i 0
+    → Left first at whole out next (line_text (drop i ns)) → Put out next (decimal_text n ++ (b ∷ [])) end after
     → Left first at whole after end (line_text (drop (i + 1) ns))
-line_turn first at whole out ns next i following b end after h e s l p =
+line_turn first at whole out ns next i following b n end after h e s m l p =
     let text : List ℕ = decimal_text (get_or ns i 0) ++ (cond (eqb following 0) 10 32 ∷ []) in
     left-piece first at whole out next text (line_text (drop (i + 1) ns)) end after
     (subst (λ (x : List ℕ). Left first at whole out next x) (line_from ns i following h e) l)
-    (subst (λ (x : ℕ). Put out next (decimal_text (get_or ns i 0) ++ (x ∷ [])) end after) s p)
+    (subst (λ (x : ℕ). Put out next (decimal_text (get_or ns i 0) ++ (x ∷ [])) end after) s
+    (subst (λ (x : ℕ). Put out next (decimal_text x ++ (b ∷ [])) end after) m p))
 
 line_ends : (ns : List ℕ) (i : ℕ) → length ns ≤ i → line_text (drop i ns) ≡ []
 unfolding line_text
-line_ends ns i h = ap line_text (nothing_left (drop i ns) (omega (arith, length-drop i ns)))
+line_ends ns i h = ap line_text (none_left (drop i ns) (omega (arith, length-drop i ns)))
 
 pub line_done : (first : List ℕ) (at : ℕ) (whole out ns : List ℕ) (next i : ℕ) → length ns ≤ i
     → Left first at whole out next (line_text (drop i ns)) → Put first at whole next out
@@ -153,85 +152,68 @@ three_numbers a b c =
     append_assoc (decimal_text a) (32 ∷ []) ((decimal_text b ++ (32 ∷ [])) ++ (decimal_text c ++ (10 ∷ [])))
     ∙ ap (λ (l : List ℕ). decimal_text a ++ (32 ∷ l)) (append_assoc (decimal_text b) (32 ∷ []) (decimal_text c ++ (10 ∷ [])))
 
-pub answer-put : (out : List ℕ) (a b c behind_a behind_b end : ℕ) (after_a after_b last : List ℕ)
-    → Put out 0 (decimal_text a ++ (32 ∷ [])) behind_a after_a
+pub answer_put : (out : List ℕ) (number a b c behind_a behind_b end : ℕ) (after_a after_b last : List ℕ) → number ≡ a
+    → Put out 0 (decimal_text number ++ (32 ∷ [])) behind_a after_a
     → Put after_a behind_a (decimal_text b ++ (32 ∷ [])) behind_b after_b
     → Put after_b behind_b (decimal_text c ++ (10 ∷ [])) end last
     → Put out 0 (line_text (a ∷ b ∷ c ∷ [])) end last
-answer-put out a b c behind_a behind_b end after_a after_b last p q r =
+answer_put out number a b c behind_a behind_b end after_a after_b last e p q r =
     subst (λ (x : List ℕ). Put out 0 x end last) (three_numbers a b c)
-    (put_both out 0 (decimal_text a ++ (32 ∷ [])) ((decimal_text b ++ (32 ∷ [])) ++ (decimal_text c ++ (10 ∷ []))) behind_a end after_a last p
+    (put_both out 0 (decimal_text a ++ (32 ∷ [])) ((decimal_text b ++ (32 ∷ [])) ++ (decimal_text c ++ (10 ∷ []))) behind_a end after_a last
+    (subst (λ (n : ℕ). Put out 0 (decimal_text n ++ (32 ∷ [])) behind_a after_a) e p)
     (put_both after_a behind_a (decimal_text b ++ (32 ∷ [])) (decimal_text c ++ (10 ∷ [])) behind_b end after_b last q r))
-
--- How far a number and the byte behind it reach.
-pub number-ends : (out : List ℕ) (at n behind end : ℕ) (after : List ℕ) → Put out at (decimal_text n ++ (behind ∷ [])) end after
-    → end ≡ at + length (decimal_text n) + 1
-number-ends out at n behind end after p = omega (arith, p.0, length-append (decimal_text n) (behind ∷ []))
 
 -- ---- rows
 
--- The part of a buffer that is the row with the index i.
-pub row-part : (rows : List ℕ) (i : ℕ) → i * 6 + 6 ≤ length rows → length (take (i * 6 + 6 - i * 6) (drop (i * 6) rows)) ≡ 6
-row-part rows i h =
-    length-take-le (i * 6 + 6 - i * 6) (drop (i * 6) rows) (omega (arith, length-drop (i * 6) rows)) ∙ omega arith
-
 -- A row's number, a blank, and its values.
-pub row_put : (out : List ℕ) (at : ℕ) (rows : List ℕ) (i next end : ℕ) (mid last : List ℕ) → i * 6 + 6 ≤ length rows
-    → Put out at (decimal_text (i + 1) ++ (32 ∷ [])) next mid → Put mid next (line_text (take (i * 6 + 6 - i * 6) (drop (i * 6) rows))) end last
-    → Put out at (line_text ((i + 1) ∷ take 6 (drop (i * 6) rows))) end last
-row_put out at rows i next end mid last h p q =
-    let values : List ℕ = take (i * 6 + 6 - i * 6) (drop (i * 6) rows) in
-    let six : i * 6 + 6 - i * 6 ≡ 6 = omega arith in
-    subst (λ (k : ℕ). Put out at (line_text ((i + 1) ∷ take k (drop (i * 6) rows))) end last) six
-    (subst (λ (x : List ℕ). Put out at x end last) (line_behind (i + 1) values (omega (arith, row-part rows i h)))
-    (put_both out at (decimal_text (i + 1) ++ (32 ∷ [])) (line_text values) next end mid last p q))
+pub row_put : (out : List ℕ) (at number next end : ℕ) (row mid last : List ℕ) → 1 ≤ length row
+    → Put out at (decimal_text number ++ (32 ∷ [])) next mid → Put mid next (line_text row) end last
+    → Put out at (line_text (number ∷ row)) end last
+row_put out at number next end row mid last h p q =
+    subst (λ (x : List ℕ). Put out at x end last) (line_behind number row h)
+    (put_both out at (decimal_text number ++ (32 ∷ [])) (line_text row) next end mid last p q)
 
--- A buffer's lines from the row with the index i on, where k rows more follow it.
-rows-from : (rows : List ℕ) (i left k : ℕ) → left ≡ suc k
-    → lines_text (buffer_lines (i + 1) left (drop (i * 6) rows))
-    ≡ line_text ((i + 1) ∷ take 6 (drop (i * 6) rows)) ++ lines_text (buffer_lines (i + 1 + 1) k (drop ((i + 1) * 6) rows))
-unfolding buffer_lines lines_text
-rows-from rows i left k e =
-    let place : i * 6 + 6 ≡ (i + 1) * 6 = omega arith in
-    ap (λ (m : ℕ). lines_text (buffer_lines (i + 1) m (drop (i * 6) rows))) e
-    ∙ ap (λ (l : List ℕ). line_text ((i + 1) ∷ take 6 (drop (i * 6) rows)) ++ lines_text (buffer_lines (i + 1 + 1) k l))
-    (drop-drop 6 (i * 6) rows ∙ ap (λ (p : ℕ). drop p rows) place)
+-- The lines of rows from the one with the index i on.
+rows-from : (rows : List (List ℕ)) (i : ℕ) → i < length rows
+    → lines_text (numbered (i + 1) (drop i rows)) ≡ line_text ((i + 1) ∷ get_or rows i []) ++ lines_text (numbered (i + 1 + 1) (drop (i + 1) rows))
+unfolding numbered lines_text
+rows-from rows i h =
+    ap (λ (l : List (List ℕ)). lines_text (numbered (i + 1) l)) (drop-cons rows i [] h)
+    ∙ ap (λ (k : ℕ). line_text ((i + 1) ∷ get_or rows i []) ++ lines_text (numbered (i + 1 + 1) (drop k rows))) (sym (add-one i))
 
-rows_end : (rows : List ℕ) (i left : ℕ) → left ≡ 0 → lines_text (buffer_lines i left rows) ≡ []
-unfolding buffer_lines lines_text
-rows_end rows i left e = ap (λ (m : ℕ). lines_text (buffer_lines i m rows)) e
+rows_end : (rows : List (List ℕ)) (i n : ℕ) → length rows ≤ i → lines_text (numbered n (drop i rows)) ≡ []
+unfolding numbered lines_text
+rows_end rows i n h = ap (λ (l : List (List ℕ)). lines_text (numbered n l)) (none_left (drop i rows) (omega (arith, length-drop i rows)))
 
--- The rows' loop: its start, a turn, its end.
-pub rows_start : (out : List ℕ) (at : ℕ) (rows : List ℕ) (count left : ℕ) → left ≡ count
-    → Left out at (lines_text (buffer_lines 1 count rows)) out at (lines_text (buffer_lines 1 left rows))
-rows_start out at rows count left e =
-    subst (λ (k : ℕ). Left out at (lines_text (buffer_lines 1 count rows)) out at (lines_text (buffer_lines 1 k rows))) (sym e) (refl, refl)
+-- A turn of the rows' loop, and its end.
+pub rows_turn : (first : List ℕ) (at : ℕ) (whole out : List ℕ) (rows : List (List ℕ)) (next i end : ℕ) (after : List ℕ) → i < length rows
+    → Left first at whole out next (lines_text (numbered (i + 1) (drop i rows)))
+    → Put out next (line_text ((i + 1) ∷ get_or rows i [])) end after
+    → Left first at whole after end (lines_text (numbered (i + 1 + 1) (drop (i + 1) rows)))
+rows_turn first at whole out rows next i end after h l p =
+    left-piece first at whole out next (line_text ((i + 1) ∷ get_or rows i [])) (lines_text (numbered (i + 1 + 1) (drop (i + 1) rows))) end after
+    (subst (λ (x : List ℕ). Left first at whole out next x) (rows-from rows i h) l) p
 
-pub rows-turn : (first : List ℕ) (at : ℕ) (whole out rows : List ℕ) (next i count end : ℕ) (after : List ℕ) → i < count
-    → Left first at whole out next (lines_text (buffer_lines (i + 1) (count - i) (drop (i * 6) rows)))
-    → Put out next (line_text ((i + 1) ∷ take 6 (drop (i * 6) rows))) end after
-    → Left first at whole after end (lines_text (buffer_lines (i + 1 + 1) (count - (i + 1)) (drop ((i + 1) * 6) rows)))
-rows-turn first at whole out rows next i count end after h l p =
-    let line : List ℕ = line_text ((i + 1) ∷ take 6 (drop (i * 6) rows)) in
-    let left : count - i ≡ suc (count - (i + 1)) = omega arith in
-    left-piece first at whole out next line (lines_text (buffer_lines (i + 1 + 1) (count - (i + 1)) (drop ((i + 1) * 6) rows))) end after
-    (subst (λ (x : List ℕ). Left first at whole out next x) (rows-from rows i (count - i) (count - (i + 1)) left) l) p
+pub rows_done : (first : List ℕ) (at : ℕ) (whole out : List ℕ) (rows : List (List ℕ)) (next i : ℕ) → length rows ≤ i
+    → Left first at whole out next (lines_text (numbered (i + 1) (drop i rows))) → Put first at whole next out
+rows_done first at whole out rows next i h l =
+    left-none first at whole out next (subst (λ (x : List ℕ). Left first at whole out next x) (rows_end rows i (i + 1) h) l)
 
-pub rows-done : (first : List ℕ) (at : ℕ) (whole out rows : List ℕ) (next i count : ℕ) → count ≤ i
-    → Left first at whole out next (lines_text (buffer_lines (i + 1) (count - i) rows)) → Put first at whole next out
-rows-done first at whole out rows next i count h l =
-    left-none first at whole out next (subst (λ (x : List ℕ). Left first at whole out next x) (rows_end rows (i + 1) (count - i) (omega arith)) l)
+-- A buffer's first n rows, as rows of their own.
+chunks_numbered : (n i : ℕ) (rows : List ℕ) → numbered i (first_chunks 6 n rows) ≡ buffer_lines i n rows
+unfolding numbered buffer_lines
+chunks_numbered zero i rows = refl
+chunks_numbered (suc n) i rows = ap (λ (ls : List (List ℕ)). (i ∷ take 6 rows) ∷ ls) (chunks_numbered n (i + 1) (drop 6 rows))
+
+chunks_taken : (n k : ℕ) (rows : List ℕ) → n ≤ k → take n (first_chunks 6 k rows) ≡ first_chunks 6 n rows
+chunks_taken zero k rows h = refl
+chunks_taken (suc n) zero rows h = absurd (omega arith)
+chunks_taken (suc n) (suc k) rows h = ap (λ (ls : List (List ℕ)). take 6 rows ∷ ls) (chunks_taken n k (drop 6 rows) (omega arith))
+
+pub buffer_rows : (n k : ℕ) (rows : List ℕ) → n ≤ k → numbered 1 (take n (first_chunks 6 k rows)) ≡ buffer_lines 1 n rows
+buffer_rows n k rows h = ap (numbered 1) (chunks_taken n k rows h) ∙ chunks_numbered n 1 rows
 
 -- ---- Table's answer and buffer
-
--- How many rows are listed, as the code's test has it.
-pub all_listed : (number count : ℕ) → number ≡ 0 → count ≡ listed_rows number count
-unfolding listed_rows
-all_listed number count e = sym (ap (λ (t : Bool). cond t count 0) (eq-eqb number 0 e))
-
-pub none-listed : (number count : ℕ) → (number ≡ 0 → ⊥) → 0 ≡ listed_rows number count
-unfolding listed_rows
-none-listed number count e = sym (ap (λ (t : Bool). cond t count 0) (ne_eqb number 0 e))
 
 -- The room that a listing asks for, as the tests of the code have it: too few rows, no room for a first line, room for the rows' lines or not.
 pub few_rows_held : (n held room : ℕ) → held / 6 < n → false ≡ has_room n held room

@@ -11,6 +11,11 @@ unfoldable pub buffer_lines : ℕ → ℕ → List ℕ → List (List ℕ)
 buffer_lines i zero rows = []
 buffer_lines i (suc k) rows = (i ∷ take row_width rows) ∷ buffer_lines (i + 1) k (drop row_width rows)
 
+-- The lines of rows that stand in rows of their own, the first of which has the number i.
+unfoldable pub numbered : ℕ → List (List ℕ) → List (List ℕ)
+numbered i [] = []
+numbered i (row ∷ rows) = (i ∷ row) ∷ numbered (i + 1) rows
+
 -- How many rows are listed: those of an accepted file, none of a refused one.
 unfoldable pub listed_rows : ℕ → ℕ → ℕ
 listed_rows number count = cond (eqb number 0) count 0

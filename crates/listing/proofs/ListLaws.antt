@@ -82,11 +82,12 @@ over-is-listing bs rows h = first_line 1 0 rows ∙ ap lines_text (sym (listing-
 abbrev pub Fronts : List ℕ → List ℕ → ℕ → List ℕ → Type 0
 Fronts text out n after = (n ≡ length text) × ((after ≡ text ++ drop n out) × IsPrefixLen n after)
 
-pub over-listed : (bs out rows after : List ℕ) (n : ℕ) → length out ≡ 178239 → 16384 < length bs
-    → Fronts (table_text (record { number = 1; count = 0; place = 0 }) rows (length out)) out n after → Fronts (listing_text bs) out n after
-over-listed bs out rows after n long h p =
+pub over-listed : (bs out rows after : List ℕ) (number n : ℕ) → number ≡ 1 → length out ≡ 178239 → 16384 < length bs
+    → Fronts (table_text (record { number = number; count = 0; place = 0 }) rows (length out)) out n after → Fronts (listing_text bs) out n after
+over-listed bs out rows after number n one long h p =
     subst (λ (text : List ℕ). Fronts text out n after)
-    (ap (table_text (record { number = 1; count = 0; place = 0 }) rows) long ∙ over-is-listing bs rows h) p
+    (ap (λ (k : ℕ). table_text (record { number = k; count = 0; place = 0 }) rows (length out)) one
+    ∙ ap (table_text (record { number = 1; count = 0; place = 0 }) rows) long ∙ over-is-listing bs rows h) p
 
 pub table_listed : (bs out old rows after : List ℕ) (a : TableAnswer) (n : ℕ) → length out ≡ 178239 → Bytes bs → length bs ≤ 16384
     → length old ≡ 12288 → a ≡ table_answer bs (length old) → rows ≡ table_buffer bs old

@@ -9,7 +9,7 @@ ghost use Rattle.note.specs.Listing.{listing_text};
 
 use dwejrasq::table;
 use lines::put_table;
-use note::TableAnswer;
+use note::{Fault, TableAnswer};
 
 // The descriptor of standard input.
 const STDIN: i32 = 0;
@@ -26,25 +26,23 @@ fn list(file: &[u8], out: &mut [u8; 178_239]) -> usize
     ensures out_after { out.new ≡ listing_text file.now ++ drop result out.old }
     ensures prefix_len { IsPrefixLen result out.new }
 {
-    let mut rows = [0u32; 12_288];
+    let mut rows = [0; 12_288];
     if file.len() > LISTING_LIMIT {
-        return put_table(
-            out,
-            TableAnswer {
-                number: 1,
-                count: 0,
-                place: 0,
-            },
-            &rows,
-        );
+        let refused = TableAnswer {
+            number: u32::from(Fault::TooLarge),
+            count: 0,
+            place: 0,
+        };
+        return put_table(out, refused, &rows);
     }
     let answer = table(file, &mut rows);
     put_table(out, answer, &rows)
 }
 
+// Input and output are `io`'s, by descriptor: std reads a limited input to its end only into a `Vec`, on the heap, and this program has none.
 fn main() {
-    let mut file = [0u8; 16_385];
-    let mut text = [0u8; 178_239];
+    let mut file = [0; 16_385];
+    let mut text = [0; 178_239];
     let n = io::read_full(STDIN, &mut file);
     let size = list(&file[..n], &mut text);
     io::write_all(STDOUT, &text[..size]);

@@ -2,9 +2,9 @@
 // cold name, and the code that type, number and analysis name lead back to. It asks for more types and channels than are listed.
 #![tactic(auto)]
 
-use note::{CodeAnswer, Name};
+use note::Name;
 
-// The descriptor of standard output.
+// The descriptor of standard output: std's printing would assume more functions of C than `io` does.
 const STDOUT: i32 = 1;
 
 const MOST_TYPE: u32 = 12;
@@ -13,7 +13,7 @@ const MOST_CHANNEL: u32 = 15;
 
 const DETECTOR: u32 = 3;
 
-// A number and a blank.
+// A number and a blank: two lines, which a crate shared with `walking` would outweigh.
 fn print(n: u32) {
     io::print_decimal(STDOUT, n as u64);
     io::write_all(STDOUT, b" ");
@@ -27,18 +27,16 @@ fn print_name(name: Name) {
     io::write_all(STDOUT, b" ");
 }
 
-// The code that a type and an analysis name lead back to, and the line's end.
+// The code that a type and an analysis name lead back to, and the line's end. A name's letters are cut here and above: a function that lends them
+// would be as long.
 fn print_code(detector_type: u32, name: Name) {
     let bytes = name.bytes;
     let size = io::count(name.length as isize, &bytes);
     match dwejrasq::code(detector_type, DETECTOR, &bytes[..size]) {
-        CodeAnswer::Code { code } => {
+        Ok(code) => {
             io::print_decimal(STDOUT, code as u64);
         }
-        CodeAnswer::Refused {
-            number: _,
-            place: _,
-        } => {
+        Err(_) => {
             io::write_all(STDOUT, b"refused");
         }
     }
@@ -53,8 +51,7 @@ fn print_channel(detector_type: u32, channel: u32) {
     if channel > MOST_CHANNEL {
         return;
     }
-    let answer = dwejrasq::channel(detector_type * 1_000_000 + DETECTOR * 1_000 + channel);
-    if answer.number == 0 {
+    if let Ok(answer) = dwejrasq::channel(detector_type * 1_000_000 + DETECTOR * 1_000 + channel) {
         print(detector_type);
         print(channel);
         print_name(answer.analysis);
@@ -63,19 +60,10 @@ fn print_channel(detector_type: u32, channel: u32) {
     }
 }
 
-// The lines of a type's channels.
-fn print_type(detector_type: u32) {
-    let mut channel: u32 = 0;
-    while channel <= MOST_CHANNEL {
-        print_channel(detector_type, channel);
-        channel += 1;
-    }
-}
-
 fn main() {
-    let mut detector_type: u32 = 0;
-    while detector_type <= MOST_TYPE {
-        print_type(detector_type);
-        detector_type += 1;
+    for detector_type in 0..=MOST_TYPE {
+        for channel in 0..=MOST_CHANNEL {
+            print_channel(detector_type, channel);
+        }
     }
 }

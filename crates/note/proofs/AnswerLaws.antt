@@ -1,5 +1,5 @@
--- The definitions that give an enum's number and values are one-to-one: a promise stated with one of them determines the answer.
--- The idea: each has a way back, from number and values to the case; what has a way back loses nothing.
+-- The definitions that give an answer's number and values are one-to-one: a promise stated with one of them determines the answer.
+-- The idea: each has a way back, from number and values to the answer; what has a way back loses nothing.
 use Prim.Native.Nat.{ℕ}
 use mathlib.Core.Path.{◌≡◌, refl, sym, ap, ◌∙◌}
 use mathlib.Core.Bool.{cond}
@@ -8,27 +8,39 @@ use lib.Dec.{eqb}
 use lib.IntN.{ℤ, pos, negsuc}
 use lib.Ieee.{Float, nan}
 use lib.ListN.{get_or}
-use Rattle.note.specs.Answers.{Value, whole, float, Given, accepted, refused, counts}
-use Rattle.note.specs.Answers.{given_record, given_setting, given_code, given_sample, given_find, given_yield, given_writer}
+use Rattle.std.proofs.Common.{Result, Ok, Err, Option, Some, None}
+use Rattle.note.specs.Answers.{Value, whole, float, Given, accepted, refused, counts, given}
+use Rattle.note.specs.Answers.{given_record, setting_values, given_setting, given_number, place_values, given_find, given_yield}
+use Rattle.note.specs.declared.Refusal.{Refusal}
 use Rattle.note.specs.declared.RecordAnswer.{RecordAnswer}
 use Rattle.note.specs.declared.RecordAnswer.TheVariants as Record
 use Rattle.note.specs.declared.SettingAnswer.{SettingAnswer}
 use Rattle.note.specs.declared.SettingAnswer.TheVariants as Setting
-use Rattle.note.specs.declared.CodeAnswer.{CodeAnswer}
-use Rattle.note.specs.declared.CodeAnswer.TheVariants as Code
-use Rattle.note.specs.declared.SampleAnswer.{SampleAnswer}
-use Rattle.note.specs.declared.SampleAnswer.TheVariants as Sample
-use Rattle.note.specs.declared.FindAnswer.{FindAnswer}
-use Rattle.note.specs.declared.FindAnswer.TheVariants as Find
+use Rattle.note.specs.Writers.{writer_given}
 use Rattle.note.specs.declared.WalkerYield.{WalkerYield}
 use Rattle.note.specs.declared.WalkerYield.TheVariants as Yield
-use Rattle.note.specs.declared.WriterAnswer.{WriterAnswer}
-use Rattle.note.specs.declared.WriterAnswer.TheVariants as Writer
+use Rattle.theory.specs.Tests.{Res, ok, bad}
+use Rattle.note.specs.Faults.{fault_number, res_of}
+use Rattle.note.proofs.FaultLaws.{numbered_fault, fault_undone}
 
 -- What has a way back is one-to-one.
 way_back : {A : Type 0} (given : A → Given) (back : Given → A) → ((a : A) → back (given a) ≡ a)
     → (a b : A) → given a ≡ given b → a ≡ b
 way_back given back undo a b e = sym (undo a) ∙ ap back e ∙ undo b
+
+-- So a result is one-to-one where its values have a way back: a refusal's number has one to its fault.
+abbrev back : {A : Type 0} → (List Value → A) → Given → Result A Refusal
+back from (accepted vs) = Ok (from vs)
+back from (refused number place) = Err (record { fault = numbered_fault number; place = place })
+
+given_undone : {A : Type 0} (values : A → List Value) (from : List Value → A) → ((a : A) → from (values a) ≡ a)
+    → (r : Result A Refusal) → back from (given values r) ≡ r
+given_undone values from undo (Ok a) = ap Ok (undo a)
+given_undone values from undo (Err r) = λ i. Err (record { fault = fault_undone r.fault i; place = r.place })
+
+given_determined : {A : Type 0} (values : A → List Value) (from : List Value → A) → ((a : A) → from (values a) ≡ a)
+    → (a b : Result A Refusal) → given values a ≡ given values b → a ≡ b
+given_determined values from undo = way_back (given values) (back from) (given_undone values from undo)
 
 -- A value as a whole number, as a count, as a float.
 abbrev as_whole : Value → ℤ
@@ -56,68 +68,94 @@ x vs i = as_float (get_or vs i (whole (pos 0)))
 
 abbrev back_record : Given → RecordAnswer
 back_record (accepted vs) =
-    cond (eqb (n vs 0) 3) (Record.Phonon (z vs 1) (z vs 2) (z vs 3) (z vs 4) (z vs 5) (z vs 6) (z vs 7) (z vs 8) (z vs 9) (z vs 10) (z vs 11))
-    (cond (eqb (n vs 0) 4) (Record.Charge (z vs 1) (z vs 2) (z vs 3) (z vs 4) (z vs 5) (z vs 6) (z vs 7) (z vs 8))
-    (cond (eqb (n vs 0) 6) (Record.Administrative (n vs 1) (n vs 2) (n vs 3) (n vs 4) (n vs 5) (n vs 6))
+    cond (eqb (n vs 0) 3) (Record.Phonon (record {
+      code = z vs 1;
+      tower = z vs 2;
+      gain = z vs 3;
+      qet_bias = z vs 4;
+      squid_bias = z vs 5;
+      lockpoint = z vs 6;
+      rtf_offset = z vs 7;
+      variable_gain = z vs 8;
+      delta_t = z vs 9;
+      t0 = z vs 10;
+      trace_length = z vs 11;
+    }))
+    (cond (eqb (n vs 0) 4) (Record.Charge (record {
+      code = z vs 1;
+      tower = z vs 2;
+      gain = z vs 3;
+      bias = z vs 4;
+      rtf_offset = z vs 5;
+      delta_t = z vs 6;
+      t0 = z vs 7;
+      trace_length = z vs 8;
+    }))
+    (cond (eqb (n vs 0) 6) (Record.Administrative (record {
+      date = n vs 1;
+      clock = n vs 2;
+      number = n vs 3;
+      time = n vs 4;
+      since = n vs 5;
+      live = n vs 6;
+    }))
     (cond (eqb (n vs 0) 7) (Record.Trace (n vs 1) (n vs 2) (n vs 3) (z vs 4) (n vs 5) (n vs 6))
     (cond (eqb (n vs 0) 8) (Record.History (n vs 1) (n vs 2) (n vs 3) (n vs 4) (n vs 5) (n vs 6) (n vs 7) (n vs 8))
-    (cond (eqb (n vs 0) 9) (Record.Gps (n vs 1) (n vs 2) (n vs 3) (n vs 4) (n vs 5) (n vs 6) (n vs 7))
-    (cond (eqb (n vs 0) 10) (Record.Trigger (n vs 1) (n vs 2) (n vs 3) (n vs 4) (n vs 5) (n vs 6))
-    (Record.Tlb (n vs 1) (n vs 2) (n vs 3) (n vs 4) (n vs 5) (n vs 6))))))))
-back_record (refused number place) = Record.Refused number place
+    (cond (eqb (n vs 0) 9) (Record.Gps (record {
+      year = n vs 1;
+      day = n vs 2;
+      status = n vs 3;
+      hour = n vs 4;
+      minute = n vs 5;
+      second = n vs 6;
+      tenths = n vs 7;
+    }))
+    (cond (eqb (n vs 0) 10) (Record.Trigger (record {
+      mask1 = n vs 1;
+      mask2 = n vs 2;
+      mask3 = n vs 3;
+      mask4 = n vs 4;
+      mask5 = n vs 5;
+      mask6 = n vs 6;
+    }))
+    (Record.Tlb (record {
+      tower1 = n vs 1;
+      tower2 = n vs 2;
+      tower3 = n vs 3;
+      tower4 = n vs 4;
+      tower5 = n vs 5;
+      tower6 = n vs 6;
+    }))))))))
+back_record (refused number place) = Record.Refused (record { fault = numbered_fault number; place = place })
 
 record_undone : (a : RecordAnswer) → back_record (given_record a) ≡ a
 unfolding given_record
-record_undone (Record.Phonon a b c d e f g h i j k) = refl
-record_undone (Record.Charge a b c d e f g h) = refl
-record_undone (Record.Administrative a b c d e f) = refl
+record_undone (Record.Phonon f) = refl
+record_undone (Record.Charge f) = refl
+record_undone (Record.Administrative f) = refl
 record_undone (Record.Trace a b c d e f) = refl
 record_undone (Record.History a b c d e f g h) = refl
-record_undone (Record.Gps a b c d e f g) = refl
-record_undone (Record.Trigger a b c d e f) = refl
-record_undone (Record.Tlb a b c d e f) = refl
-record_undone (Record.Refused a b) = refl
+record_undone (Record.Gps f) = refl
+record_undone (Record.Trigger f) = refl
+record_undone (Record.Tlb f) = refl
+record_undone (Record.Refused r) = λ i. Record.Refused (record { fault = fault_undone r.fault i; place = r.place })
 
-abbrev back_setting : Given → SettingAnswer
-back_setting (accepted vs) =
+abbrev back_setting : List Value → SettingAnswer
+back_setting vs =
     cond (eqb (n vs 0) 3) (Setting.Phonon (z vs 1) (z vs 2) (x vs 3) (x vs 4) (x vs 5) (x vs 6) (z vs 7) (z vs 8) (z vs 9) (z vs 10) (z vs 11))
     (Setting.Charge (z vs 1) (z vs 2) (x vs 3) (z vs 4) (z vs 5) (z vs 6) (z vs 7) (z vs 8))
-back_setting (refused number place) = Setting.Refused number place
 
-setting_undone : (a : SettingAnswer) → back_setting (given_setting a) ≡ a
-unfolding given_setting
+setting_undone : (a : SettingAnswer) → back_setting (setting_values a) ≡ a
 setting_undone (Setting.Phonon a b c d e f g h i j k) = refl
 setting_undone (Setting.Charge a b c d e f g h) = refl
-setting_undone (Setting.Refused a b) = refl
 
-abbrev back_code : Given → CodeAnswer
-back_code (accepted vs) = Code.Code (n vs 0)
-back_code (refused number place) = Code.Refused number place
+abbrev back_place : List Value → Option ℕ
+back_place [] = None
+back_place (v ∷ vs) = Some (n (v ∷ vs) 0)
 
-code_undone : (a : CodeAnswer) → back_code (given_code a) ≡ a
-unfolding given_code
-code_undone (Code.Code a) = refl
-code_undone (Code.Refused a b) = refl
-
-abbrev back_sample : Given → SampleAnswer
-back_sample (accepted vs) = Sample.Sample (n vs 0)
-back_sample (refused number place) = Sample.Refused number place
-
-sample_undone : (a : SampleAnswer) → back_sample (given_sample a) ≡ a
-unfolding given_sample
-sample_undone (Sample.Sample a) = refl
-sample_undone (Sample.Refused a b) = refl
-
-abbrev back_find : Given → FindAnswer
-back_find (accepted []) = Find.Nothing
-back_find (accepted (v ∷ vs)) = Find.Found (n (v ∷ vs) 0)
-back_find (refused number place) = Find.Refused number place
-
-find_undone : (a : FindAnswer) → back_find (given_find a) ≡ a
-unfolding given_find
-find_undone (Find.Found a) = refl
-find_undone Find.Nothing = refl
-find_undone (Find.Refused a b) = refl
+place_undone : (a : Option ℕ) → back_place (place_values a) ≡ a
+place_undone (Some place) = refl
+place_undone None = refl
 
 abbrev back_yield : Given → WalkerYield
 back_yield (accepted []) = Yield.End
@@ -130,15 +168,6 @@ unfolding given_yield
 yield_undone (Yield.Row a b c d e f) = refl
 yield_undone Yield.End = refl
 yield_undone (Yield.Refused a b) = refl
-
-abbrev back_writer : Given → WriterAnswer
-back_writer (accepted vs) = Writer.Next (n vs 0)
-back_writer (refused number place) = Writer.Refused number place
-
-writer_undone : (a : WriterAnswer) → back_writer (given_writer a) ≡ a
-unfolding given_writer
-writer_undone (Writer.Next a) = refl
-writer_undone (Writer.Refused a b) = refl
 
 -- Counts, however many.
 abbrev back_counts : Given → List ℕ
@@ -154,23 +183,54 @@ counts_undone (n ∷ ns) = ap (λ (l : List ℕ). n ∷ l) (counts_undone ns)
 pub record_determined : (a b : RecordAnswer) → given_record a ≡ given_record b → a ≡ b
 record_determined = way_back given_record back_record record_undone
 
-pub setting_determined : (a b : SettingAnswer) → given_setting a ≡ given_setting b → a ≡ b
-setting_determined = way_back given_setting back_setting setting_undone
+pub setting_determined : (a b : Result SettingAnswer Refusal) → given_setting a ≡ given_setting b → a ≡ b
+unfolding given_setting
+setting_determined = given_determined setting_values back_setting setting_undone
 
-pub code_determined : (a b : CodeAnswer) → given_code a ≡ given_code b → a ≡ b
-code_determined = way_back given_code back_code code_undone
+-- Of a number: Code's code, a sample, the next place of a writer.
+pub number_determined : (a b : Result ℕ Refusal) → given_number a ≡ given_number b → a ≡ b
+unfolding given_number
+number_determined = given_determined (λ n. counts (n ∷ [])) (λ vs. n vs 0) (λ a. refl)
 
-pub sample_determined : (a b : SampleAnswer) → given_sample a ≡ given_sample b → a ≡ b
-sample_determined = way_back given_sample back_sample sample_undone
+pub code_determined : (a b : Result ℕ Refusal) → given_number a ≡ given_number b → a ≡ b
+code_determined = number_determined
 
-pub find_determined : (a b : FindAnswer) → given_find a ≡ given_find b → a ≡ b
-find_determined = way_back given_find back_find find_undone
+pub sample_determined : (a b : Result ℕ Refusal) → given_number a ≡ given_number b → a ≡ b
+sample_determined = number_determined
+
+pub writer_determined : (a b : Result ℕ Refusal) → given_number a ≡ given_number b → a ≡ b
+writer_determined = number_determined
+
+pub find_determined : (a b : Result (Option ℕ) Refusal) → given_find a ≡ given_find b → a ≡ b
+unfolding given_find
+find_determined = given_determined place_values back_place place_undone
 
 pub yield_determined : (a b : WalkerYield) → given_yield a ≡ given_yield b → a ≡ b
 yield_determined = way_back given_yield back_yield yield_undone
 
-pub writer_determined : (a b : WriterAnswer) → given_writer a ≡ given_writer b → a ≡ b
-writer_determined = way_back given_writer back_writer writer_undone
-
 pub counts_determined : (ms ns : List ℕ) → accepted (counts ms) ≡ accepted (counts ns) → ms ≡ ns
 counts_determined = way_back (λ (ns : List ℕ). accepted (counts ns)) back_counts counts_undone
+
+-- ---- a result in the note's terms
+
+-- What was granted is read, a refusal is its fault's number at its place.
+pub results-told : {A : Type 0} (a : A) (r : Refusal) → (res_of {A = A} (Ok a) ≡ ok a) × (res_of {A = A} (Err r) ≡ bad (fault_number r.fault) r.place)
+results-told a r = (refl, refl)
+
+-- And that says which result it was.
+abbrev back_res : {A : Type 0} → Res A → Result A Refusal
+back_res (ok a) = Ok a
+back_res (bad number place) = Err (record { fault = numbered_fault number; place = place })
+
+res_undone : {A : Type 0} (r : Result A Refusal) → back_res (res_of r) ≡ r
+res_undone (Ok a) = refl
+res_undone (Err r) = λ i. Err (record { fault = fault_undone r.fault i; place = r.place })
+
+pub result_determined : {A : Type 0} (r s : Result A Refusal) → res_of r ≡ res_of s → r ≡ s
+result_determined r s e = sym (res_undone r) ∙ ap back_res e ∙ res_undone s
+
+-- A writer's result, in numbers and values, is that of what it reads as.
+pub number_given : (r : Result ℕ Refusal) → given_number r ≡ writer_given (res_of r)
+unfolding given_number writer_given
+number_given (Ok next) = refl
+number_given (Err r) = refl

@@ -10,12 +10,14 @@ use native.Mathlib.Omega.{arith}
 use native.Mathlib.Decide.{dec_le}
 use lib.Dec.{leb, eqb}
 use lib.ListN.{length, get_or}
+use Rattle.std.proofs.Common.{Ok}
 use borrow.Author.Tests.{leb-true, le-leb, eqb-true, ne_eqb}
 use Rattle.theory.specs.Tests.{among}
 use Rattle.note.specs.Answers.{accepted, refused, counts}
 use Rattle.note.specs.Channels.{ascii, Channel, channels_of, pick, same, numbered, called, begins_with, is_some}
 use Rattle.note.specs.Channels.{type_of, detector_of, channel_number, code_from, channel_of, names_channel, names_phonon, names_charge}
 use Rattle.note.specs.Channels.{name_of, channel_given, channel_answer, code_given, code_answer}
+use Rattle.note.specs.declared.ChannelAnswer.{ChannelAnswer}
 use Rattle.note.specs.ChannelTable.{ChannelLine, Listed, channel_lines, charge_lines, phonon_lines, CodeListed, sides}
 use Rattle.note.proofs.BoolLaws.{Tells, both_tell, either_tells, le_tells, among_tells, up_to, one-up-to}
 use Rattle.note.proofs.Sweep.{all, all-at, all_pairs, all_pairs_at}
@@ -188,11 +190,11 @@ name_leads_back type detector name w e =
 -- leads Code back to it.
 pub code_named_back : (type detector : ℕ) (name : List ℕ) (w : ℕ) → code_answer type detector name ≡ accepted (counts (w ∷ []))
     → (cold : List ℕ)
-    × (channel_answer w ≡ record { number = 0; place = 0; detector_type = type; detector = detector; analysis = name_of name; cold = name_of cold })
+    × (channel_answer w ≡ Ok (record { detector_type = type; detector = detector; analysis = name_of name; cold = name_of cold }))
 unfolding channel_answer
 code_named_back type detector name w e =
     let (x, f, n, k, d) = name_leads_back type detector name w e in
-    (x.cold, rw f (λ i. record { number = 0; place = 0; detector_type = k i; detector = d i; analysis = name_of (n i); cold = name_of x.cold }))
+    (x.cold, rw f (λ i. Ok (record { detector_type = k i; detector = d i; analysis = name_of (n i); cold = name_of x.cold })))
 
 -- Code answers a code, or 10 at 0.
 pub code-given : (type detector : ℕ) (name : List ℕ)
@@ -209,17 +211,23 @@ code-given type detector name = go (called type name)
     go none = inr refl
     go (some c) = limited (leb detector 999) (code_from type detector c.channel)
 
-pub channel_coded_back : (w : ℕ) → (channel_answer w).number ≡ 0
-    → (name : List ℕ) × ((channel_answer w).analysis ≡ name_of name)
-    × (code_answer (channel_answer w).detector_type (channel_answer w).detector name ≡ accepted (counts (w ∷ [])))
+-- The answer a bears a name that leads Code back to the code w.
+abbrev CodedBack : ℕ → ChannelAnswer → Type 0
+CodedBack w a = (name : List ℕ) × (a.analysis ≡ name_of name) × (code_answer a.detector_type a.detector name ≡ accepted (counts (w ∷ [])))
+
+pub channel_coded_back : (w : ℕ) (a : ChannelAnswer) → channel_answer w ≡ Ok a
+    → (name : List ℕ) × (a.analysis ≡ name_of name) × (code_answer a.detector_type a.detector name ≡ accepted (counts (w ∷ [])))
 unfolding channel_answer
-channel_coded_back w e = go (channel_of w) refl e
+channel_coded_back w a e = go (channel_of w) refl e
   where
-    go : (o : Option Channel) → channel_of w ≡ o → (channel_given w o).number ≡ 0
-        → (name : List ℕ) × ((channel_given w o).analysis ≡ name_of name)
-        × (code_answer (channel_given w o).detector_type (channel_given w o).detector name ≡ accepted (counts (w ∷ [])))
-    go none f z = absurd (omega arith)
-    go (some x) f z = (x.analysis, refl, code_leads_back w x f)
+    named : Channel → ChannelAnswer
+    named x = record { detector_type = type_of w; detector = detector_of w; analysis = name_of x.analysis; cold = name_of x.cold }
+
+    go : (o : Option Channel) → channel_of w ≡ o → channel_given w o ≡ Ok a → CodedBack w a
+    go none f z = absurd (cc)
+    go (some x) f z =
+        let same : named x ≡ a = cc in
+        subst (CodedBack w) same (x.analysis, refl, code_leads_back w x f)
 
 abbrev on_line : List ChannelLine → ℕ → ℕ → Bool
 on_line [] type c = false

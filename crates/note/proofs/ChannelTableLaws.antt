@@ -13,8 +13,9 @@ use native.Mathlib.Omega.{arith}
 use native.Mathlib.Decide.{dec_le}
 use lib.Dec.{leb, eqb}
 use borrow.Author.Tests.{leb-true, eqb-true, eq-eqb}
-use Rattle.note.specs.Channels.{ascii, Channel, same, type_of, detector_of, channel_number, numbered, channel_given, channel_answer}
-use Rattle.note.specs.ChannelTable.{Names, channel_table, code_of, answer_for, NamedAs}
+use Rattle.std.proofs.Common.{Ok}
+use Rattle.note.specs.Channels.{ascii, Channel, same, type_of, detector_of, channel_number, numbered, name_of, channel_given, channel_answer}
+use Rattle.note.specs.ChannelTable.{Names, channel_table, code_of, NamedAs}
 use Rattle.note.proofs.Sweep.{all_pairs_at}
 use Rattle.note.proofs.ChannelLaws.{number_small, same_equal}
 use Rattle.note.proofs.Computing.{computing}
@@ -136,14 +137,12 @@ named_so (r ∷ rs) t w = go (is_line r k c) refl (named_so rs s.1 w)
           detector_of w,
           omega arith,
           omega arith,
-          λ i. record {
-            number = 0;
-            place = 0;
+          λ i. Ok (record {
             detector_type = sym x i;
             detector = detector_of w;
-            analysis = (answer_for r 0).analysis;
-            cold = (answer_for r 0).cold;
-          },
+            analysis = name_of (ascii r.analysis);
+            cold = name_of (ascii r.cold);
+          }),
         )
     go false e rest =
         let l = leb-true r.channel 11 ((and-eq-true_iff (leb r.type 11) (leb r.channel 11)).0 s.0).1 in

@@ -3,7 +3,7 @@ use Prim.Native.Nat.{ℕ}
 use Rattle.theory.specs.Words.{bytes, word_at, put, puts, words_at}
 use Rattle.theory.specs.Tests.{first}
 use Rattle.theory.specs.Layout.{child_rows, rows}
-use Rattle.note.specs.Answers.{given_record, given_setting, given_code, given_sample, given_find, given_yield, given_writer}
+use Rattle.note.specs.Answers.{given_record, given_setting, given_number, given_find, given_yield}
 use Rattle.note.specs.Channels.{channels_of, numbered, called, names_channel, names_phonon, names_charge, channel_answer, code_answer}
 use Rattle.note.specs.Phonon.{phonon_of, phonon_bytes, phonon_fault, phonon_rule}
 use Rattle.note.specs.Charge.{charge_of, charge_bytes, charge_fault, charge_rule}
@@ -30,7 +30,7 @@ use Rattle.note.specs.Writers.{record_again, file_rewritten, rewrite_next, rewri
 unfoldable pub computing : ℕ
 unfolding
     bytes word_at put puts words_at first child_rows rows
-    given_record given_setting given_code given_sample given_find given_yield given_writer
+    given_record given_setting given_number given_find given_yield
     channels_of numbered called names_channel names_phonon names_charge channel_answer code_answer
     phonon_of phonon_bytes phonon_fault phonon_rule charge_of charge_bytes charge_fault charge_rule
     administrative_of administrative_bytes is_series is_clock administrative_fault administrative_rule

@@ -11,14 +11,19 @@ use Rattle.theory.specs.declared.Order.{Order}
 use Rattle.theory.specs.Tests.{unless}
 use Rattle.note.specs.Asked.{asks, fine}
 use Rattle.note.specs.Words.{unsigned}
-use Rattle.note.specs.Phonon.{Phonon, phonon_fault}
-use Rattle.note.specs.Charge.{Charge, charge_fault}
-use Rattle.note.specs.Administrative.{Administrative, administrative_fault}
+use Rattle.note.specs.declared.Phonon.{Phonon}
+use Rattle.note.specs.Phonon.{phonon_fault}
+use Rattle.note.specs.declared.Charge.{Charge}
+use Rattle.note.specs.Charge.{charge_fault}
+use Rattle.note.specs.declared.Administrative.{Administrative}
+use Rattle.note.specs.Administrative.{administrative_fault}
 use Rattle.note.specs.Trace.{Trace, count_fault, trace_fault}
 use Rattle.note.specs.History.{Section, History, is_width, not_negative, section_fault, history_fault}
-use Rattle.note.specs.Gps.{Gps, gps_fault}
-use Rattle.note.specs.Trigger.{Trigger}
-use Rattle.note.specs.Tlb.{Tlb, tlb_fault}
+use Rattle.note.specs.declared.Gps.{Gps}
+use Rattle.note.specs.Gps.{gps_fault}
+use Rattle.note.specs.declared.Trigger.{Trigger}
+use Rattle.note.specs.declared.Tlb.{Tlb}
+use Rattle.note.specs.Tlb.{tlb_fault}
 use Rattle.note.specs.ChannelTable.{charge_lines, phonon_lines, CodeListed}
 use Rattle.note.specs.Writers.{phonon_draft, charge_draft, administrative_draft, trace_draft, history_draft}
 use Rattle.note.specs.Writers.{gps_draft, trigger_draft, tlb_draft}

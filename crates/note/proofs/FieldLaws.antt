@@ -13,12 +13,17 @@ use Rattle.theory.specs.Tests.{first, unless}
 use Rattle.theory.proofs.TestLaws.{Passed, first-at, first_passes, equal_passed, equal_passes}
 use Rattle.theory.proofs.WordLaws.{words_of_puts, puts_fill, words_fit, length-puts}
 use Rattle.note.specs.Words.{word, words, signed, unsigned, AllSigned}
-use Rattle.note.specs.Phonon.{Phonon, phonon_words, phonon_of, phonon_bytes, phonon_fault, phonon_rule}
-use Rattle.note.specs.Charge.{Charge, charge_words, charge_of, charge_bytes, charge_fault, charge_rule}
-use Rattle.note.specs.Administrative.{Administrative, administrative_words, administrative_of, administrative_bytes}
+use Rattle.note.specs.declared.Phonon.{Phonon}
+use Rattle.note.specs.Phonon.{phonon_words, phonon_of, phonon_bytes, phonon_fault, phonon_rule}
+use Rattle.note.specs.declared.Charge.{Charge}
+use Rattle.note.specs.Charge.{charge_words, charge_of, charge_bytes, charge_fault, charge_rule}
+use Rattle.note.specs.declared.Administrative.{Administrative}
+use Rattle.note.specs.Administrative.{administrative_words, administrative_of, administrative_bytes}
 use Rattle.note.specs.Administrative.{administrative_fault, administrative_rule}
-use Rattle.note.specs.Trigger.{Trigger, trigger_masks, trigger_of, trigger_bytes, trigger_rule}
-use Rattle.note.specs.Tlb.{Tlb, tlb_words, tlb_of, tlb_bytes, tlb_fault, tlb_rule}
+use Rattle.note.specs.declared.Trigger.{Trigger}
+use Rattle.note.specs.Trigger.{trigger_masks, trigger_of, trigger_bytes, trigger_rule}
+use Rattle.note.specs.declared.Tlb.{Tlb}
+use Rattle.note.specs.Tlb.{tlb_words, tlb_of, tlb_bytes, tlb_fault, tlb_rule}
 use Rattle.note.proofs.SignedLaws.{all-signed-again, all-unsigned-again, all_unsigned_fit}
 
 -- ---- any k words

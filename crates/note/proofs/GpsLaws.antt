@@ -18,7 +18,8 @@ use Rattle.theory.specs.Tests.{first}
 use Rattle.theory.proofs.TestLaws.{holds_at}
 use Rattle.theory.proofs.WordLaws.{word_fits, puts_fill, length-puts}
 use Rattle.note.specs.Words.{word, words}
-use Rattle.note.specs.Gps.{Gps, are_digits, decimal, bcd, gps_of, gps_words, gps_bytes, is_leap, days_of_year, gps_fault, gps_tests, gps_rule}
+use Rattle.note.specs.declared.Gps.{Gps}
+use Rattle.note.specs.Gps.{are_digits, decimal, bcd, gps_of, gps_words, gps_bytes, is_leap, days_of_year, gps_fault, gps_tests, gps_rule}
 use Rattle.note.specs.Rules.{spell, DecimalDigits, Spelled, leaps_before}
 use Rattle.note.proofs.FieldLaws.{read, words-read, number_at}
 use Rattle.note.proofs.Sweep.{all-at}

@@ -12,7 +12,8 @@ use lib.Dec.{leb}
 use lib.ListN.{length}
 use Rattle.theory.specs.declared.Order.{Order}
 use Rattle.note.specs.Words.{word}
-use Rattle.note.specs.Gps.{Gps, are_digits, decimal, gps_of, is_leap, days_of_year, gps_fault, gps_rule}
+use Rattle.note.specs.declared.Gps.{Gps}
+use Rattle.note.specs.Gps.{are_digits, decimal, gps_of, is_leap, days_of_year, gps_fault, gps_rule}
 use Rattle.note.specs.Rules.{Leap, DayOfYear, GpsMeans, GpsAsked}
 use Rattle.note.proofs.BoolLaws.{Tells, both_tell, either_tells, le_tells, eq_tells}
 use Rattle.note.proofs.AskedLaws.{no_more, asked, asked_too, said_so, asked_of_part, divides_tells, not_tells}

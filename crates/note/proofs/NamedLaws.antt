@@ -1,4 +1,5 @@
--- Fields by their names: in which order a writer lays them down, and which value of an answer each field of an enum's case is; a name's bytes.
+-- Fields by their names: in which order a writer lays them down, and which value of an answer each field of a struct or of an enum's case is; a
+-- name's bytes.
 -- Two fields exchanged wherever they stand together would leave every other law true.
 -- The idea: each computes, with the names written out.
 use Prim.Native.Nat.{ℕ, ◌+◌, ◌*◌, ◌^◌}
@@ -6,29 +7,37 @@ use mathlib.Core.Path.{◌≡◌, refl}
 use mathlib.Core.List.{List, [], ◌∷◌, ◌++◌, map}
 use lib.IntN.{ℤ, pos}
 use lib.ListN.{length, take}
+use Rattle.std.proofs.Common.{Ok, Err, Some, None}
 use Rattle.theory.specs.declared.Order.{Order}
 use Rattle.theory.specs.Layout.{Row}
 use Rattle.note.specs.Words.{words, unsigned}
+use Rattle.note.specs.Faults.{fault_number}
 use Rattle.note.specs.Answers.{whole, float, count, counts, wholes, accepted, refused, given_record, given_setting}
-use Rattle.note.specs.Answers.{given_code, given_sample, given_find, given_yield, given_writer}
+use Rattle.note.specs.Answers.{given_number, given_find, given_yield}
 use Rattle.note.specs.Channels.{name_of}
-use Rattle.note.specs.Phonon.{Phonon, phonon_bytes}
-use Rattle.note.specs.Charge.{Charge, charge_bytes}
-use Rattle.note.specs.Administrative.{Administrative, administrative_bytes}
+use Rattle.note.specs.declared.Phonon.{Phonon}
+use Rattle.note.specs.Phonon.{phonon_bytes}
+use Rattle.note.specs.declared.Charge.{Charge}
+use Rattle.note.specs.Charge.{charge_bytes}
+use Rattle.note.specs.declared.Administrative.{Administrative}
+use Rattle.note.specs.Administrative.{administrative_bytes}
 use Rattle.note.specs.Trace.{Trace, trace_bytes}
 use Rattle.note.specs.History.{History, section_bytes, history_bytes}
-use Rattle.note.specs.Gps.{Gps, bcd, gps_bytes}
-use Rattle.note.specs.Trigger.{Trigger, trigger_bytes}
-use Rattle.note.specs.Tlb.{Tlb, tlb_bytes}
+use Rattle.note.specs.declared.Gps.{Gps}
+use Rattle.note.specs.Gps.{bcd, gps_bytes}
+use Rattle.note.specs.declared.Trigger.{Trigger}
+use Rattle.note.specs.Trigger.{trigger_bytes}
+use Rattle.note.specs.declared.Tlb.{Tlb}
+use Rattle.note.specs.Tlb.{tlb_bytes}
 use Rattle.note.specs.Calls.{hundredth}
+use Rattle.note.specs.Writers.{trace_handed, history_handed}
+use Rattle.note.specs.declared.Trace as LentTrace
+use Rattle.note.specs.declared.History as LentHistory
 use Rattle.note.specs.Places.{section_parts}
+use Rattle.note.specs.declared.Refusal.{Refusal}
 use Rattle.note.specs.declared.RecordAnswer.TheVariants as Record
 use Rattle.note.specs.declared.SettingAnswer.TheVariants as Setting
-use Rattle.note.specs.declared.CodeAnswer.TheVariants as Code
-use Rattle.note.specs.declared.SampleAnswer.TheVariants as Sample
-use Rattle.note.specs.declared.FindAnswer.TheVariants as Find
 use Rattle.note.specs.declared.WalkerYield.TheVariants as Yield
-use Rattle.note.specs.declared.WriterAnswer.TheVariants as Writer
 
 -- ---- an entry
 
@@ -38,15 +47,14 @@ module _ (o : Order) (f : Phonon) where
   unfolding phonon_bytes
   phonon-words = refl
 
-  pub phonon-answer : given_record (Record.Phonon f.code f.tower f.gain f.qet_bias f.squid_bias f.lockpoint
-      f.rtf_offset f.variable_gain f.delta_t f.t0 f.trace_length)
+  pub phonon-answer : given_record (Record.Phonon f)
       ≡ accepted (count 3 ∷ wholes (f.code ∷ f.tower ∷ f.gain ∷ f.qet_bias ∷ f.squid_bias ∷ f.lockpoint
       ∷ f.rtf_offset ∷ f.variable_gain ∷ f.delta_t ∷ f.t0 ∷ f.trace_length ∷ []))
   unfolding given_record
   phonon-answer = refl
 
-  pub phonon_setting_answer : given_setting (Setting.Phonon f.code f.tower (hundredth f.gain) (hundredth f.qet_bias)
-      (hundredth f.squid_bias) (hundredth f.lockpoint) f.rtf_offset f.variable_gain f.delta_t f.t0 f.trace_length)
+  pub phonon_setting_answer : given_setting (Ok (Setting.Phonon f.code f.tower (hundredth f.gain) (hundredth f.qet_bias)
+      (hundredth f.squid_bias) (hundredth f.lockpoint) f.rtf_offset f.variable_gain f.delta_t f.t0 f.trace_length))
       ≡ accepted (count 3 ∷ whole f.code ∷ whole f.tower ∷ float (hundredth f.gain) ∷ float (hundredth f.qet_bias)
       ∷ float (hundredth f.squid_bias) ∷ float (hundredth f.lockpoint)
       ∷ wholes (f.rtf_offset ∷ f.variable_gain ∷ f.delta_t ∷ f.t0 ∷ f.trace_length ∷ []))
@@ -59,14 +67,13 @@ module _ (o : Order) (f : Charge) where
   unfolding charge_bytes
   charge-words = refl
 
-  pub charge-answer : given_record (Record.Charge f.code f.tower f.gain f.bias f.rtf_offset f.delta_t f.t0
-      f.trace_length)
+  pub charge-answer : given_record (Record.Charge f)
       ≡ accepted (count 4 ∷ wholes (f.code ∷ f.tower ∷ f.gain ∷ f.bias ∷ f.rtf_offset ∷ f.delta_t ∷ f.t0 ∷ f.trace_length ∷ []))
   unfolding given_record
   charge-answer = refl
 
-  pub charge_setting_answer : given_setting (Setting.Charge f.code f.tower (hundredth f.gain) f.bias f.rtf_offset
-      f.delta_t f.t0 f.trace_length)
+  pub charge_setting_answer : given_setting (Ok (Setting.Charge f.code f.tower (hundredth f.gain) f.bias f.rtf_offset
+      f.delta_t f.t0 f.trace_length))
       ≡ accepted (count 4 ∷ whole f.code ∷ whole f.tower ∷ float (hundredth f.gain)
       ∷ wholes (f.bias ∷ f.rtf_offset ∷ f.delta_t ∷ f.t0 ∷ f.trace_length ∷ []))
   unfolding given_setting
@@ -79,7 +86,7 @@ module _ (o : Order) (f : Administrative) where
   unfolding administrative_bytes
   administrative-words = refl
 
-  pub administrative-answer : given_record (Record.Administrative f.date f.clock f.number f.time f.since f.live)
+  pub administrative-answer : given_record (Record.Administrative f)
       ≡ accepted (count 6 ∷ counts (f.date ∷ f.clock ∷ f.number ∷ f.time ∷ f.since ∷ f.live ∷ []))
   unfolding given_record
   administrative-answer = refl
@@ -94,7 +101,7 @@ pub trace-answer : (f : Trace) → given_record (Record.Trace f.address f.channe
 unfolding given_record
 trace-answer f = refl
 
-pub gps-answer : (f : Gps) → given_record (Record.Gps f.year f.day f.status f.hour f.minute f.second f.tenths)
+pub gps-answer : (f : Gps) → given_record (Record.Gps f)
     ≡ accepted (count 9 ∷ counts (f.year ∷ f.day ∷ f.status ∷ f.hour ∷ f.minute ∷ f.second ∷ f.tenths ∷ []))
 unfolding given_record
 gps-answer f = refl
@@ -111,12 +118,25 @@ pub trace-words : (o : Order) (f : Trace)
 unfolding trace_bytes
 trace-words o f = refl
 
+-- What a caller hands over as a trace, and as a history, is laid down by the names of its own fields.
+pub trace-handed : (o : Order) (f : LentTrace.Trace)
+    → trace_bytes o (trace_handed f) ≡ words o (0x11 ∷ 12 ∷ f.address ∷ f.channel ∷ f.code ∷ 0x12 ∷ 12 ∷ unsigned f.t0 ∷ f.delta_t
+    ∷ f.n ∷ 0x13 ∷ f.n ∷ []) ++ f.samples.now
+unfolding trace_bytes
+trace-handed o f = refl
+
+pub history-handed : (o : Order) (h : LentHistory.History) → history_bytes o (history_handed h)
+    ≡ (words o (h.veto.count ∷ []) ++ (h.veto.times.now ++ (words o (h.veto.width ∷ []) ++ h.veto.masks.now)))
+    ++ (words o (h.trigger.count ∷ []) ++ (h.trigger.times.now ++ (words o (h.trigger.width ∷ []) ++ h.trigger.masks.now)))
+unfolding history_bytes section_bytes
+history-handed o h = refl
+
 module _ (o : Order) (f : Trigger) where
   pub trigger-words : trigger_bytes o f ≡ words o (0 ∷ f.mask1 ∷ f.mask2 ∷ f.mask3 ∷ f.mask4 ∷ f.mask5 ∷ f.mask6 ∷ [])
   unfolding trigger_bytes
   trigger-words = refl
 
-  pub trigger-answer : given_record (Record.Trigger f.mask1 f.mask2 f.mask3 f.mask4 f.mask5 f.mask6)
+  pub trigger-answer : given_record (Record.Trigger f)
       ≡ accepted (count 10 ∷ counts (f.mask1 ∷ f.mask2 ∷ f.mask3 ∷ f.mask4 ∷ f.mask5 ∷ f.mask6 ∷ []))
   unfolding given_record
   trigger-answer = refl
@@ -126,7 +146,7 @@ module _ (o : Order) (f : Tlb) where
   unfolding tlb_bytes
   tlb-words = refl
 
-  pub tlb-answer : given_record (Record.Tlb f.tower1 f.tower2 f.tower3 f.tower4 f.tower5 f.tower6)
+  pub tlb-answer : given_record (Record.Tlb f)
       ≡ accepted (count 11 ∷ counts (f.tower1 ∷ f.tower2 ∷ f.tower3 ∷ f.tower4 ∷ f.tower5 ∷ f.tower6 ∷ []))
   unfolding given_record
   tlb-answer = refl
@@ -152,24 +172,24 @@ name-bytes (a ∷ b ∷ []) = refl
 name-bytes (a ∷ b ∷ c ∷ []) = refl
 name-bytes (a ∷ b ∷ c ∷ d ∷ rest) = refl
 
--- ---- the other cases of the enums
+-- ---- the other answers
 
 pub history-answer : (veto_times veto_times_at veto_width veto_masks_at trigger_times trigger_times_at trigger_width trigger_masks_at : ℕ)
-    → given_record (Record.History veto_times veto_times_at veto_width veto_masks_at trigger_times trigger_times_at trigger_width trigger_masks_at)
+    → given_record (Record.History veto_times veto_times_at veto_width veto_masks_at
+    trigger_times trigger_times_at trigger_width trigger_masks_at)
     ≡ accepted (counts (8 ∷ veto_times ∷ veto_times_at ∷ veto_width ∷ veto_masks_at ∷ trigger_times ∷ trigger_times_at ∷ trigger_width
     ∷ trigger_masks_at ∷ []))
 unfolding given_record
 history-answer a b c d e f g h = refl
 
-pub refusals-told : (n p : ℕ) → (given_record (Record.Refused n p) ≡ refused n p) × (given_setting (Setting.Refused n p) ≡ refused n p)
-    × (given_code (Code.Refused n p) ≡ refused n p) × (given_sample (Sample.Refused n p) ≡ refused n p)
-    × (given_find (Find.Refused n p) ≡ refused n p) × (given_yield (Yield.Refused n p) ≡ refused n p)
-    × (given_writer (Writer.Refused n p) ≡ refused n p)
-unfolding given_record given_setting given_code given_sample given_find given_yield given_writer
-refusals-told n p = (refl, refl, refl, refl, refl, refl, refl)
+-- A refusal's number is its fault's.
+pub refusals-told : (r : Refusal) (n p : ℕ) → (given_record (Record.Refused r) ≡ refused (fault_number r.fault) r.place)
+    × (given_setting (Err r) ≡ refused (fault_number r.fault) r.place) × (given_number (Err r) ≡ refused (fault_number r.fault) r.place)
+    × (given_find (Err r) ≡ refused (fault_number r.fault) r.place) × (given_yield (Yield.Refused n p) ≡ refused n p)
+unfolding given_record given_setting given_number given_find given_yield
+refusals-told r n p = (refl, refl, refl, refl, refl)
 
-pub values-told : (n : ℕ) → (given_code (Code.Code n) ≡ accepted (counts (n ∷ []))) × (given_sample (Sample.Sample n) ≡ accepted (counts (n ∷ [])))
-    × (given_find (Find.Found n) ≡ accepted (counts (n ∷ []))) × (given_find Find.Nothing ≡ accepted [])
-    × (given_yield Yield.End ≡ accepted []) × (given_writer (Writer.Next n) ≡ accepted (counts (n ∷ [])))
-unfolding given_code given_sample given_find given_yield given_writer
-values-told n = (refl, refl, refl, refl, refl, refl)
+pub values-told : (n : ℕ) → (given_number (Ok n) ≡ accepted (counts (n ∷ []))) × (given_find (Ok (Some n)) ≡ accepted (counts (n ∷ [])))
+    × (given_find (Ok None) ≡ accepted []) × (given_yield Yield.End ≡ accepted [])
+unfolding given_number given_find given_yield
+values-told n = (refl, refl, refl, refl)

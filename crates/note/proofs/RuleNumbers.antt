@@ -12,9 +12,11 @@ use Rattle.note.specs.Charge.{charge_fault, charge_rule}
 use Rattle.note.specs.Administrative.{administrative_fault, administrative_rule}
 use Rattle.note.specs.Trace.{Trace, count_fault, bookkeeping_rule, timebase_rule, samples_rule, trace_rule, trace_fault}
 use Rattle.note.specs.History.{Section, History, section_rule, history_rule, section_fault, history_fault}
-use Rattle.note.specs.Gps.{Gps, gps_fault, gps_rule}
+use Rattle.note.specs.declared.Gps.{Gps}
+use Rattle.note.specs.Gps.{gps_fault, gps_rule}
 use Rattle.note.specs.Trigger.{trigger_rule}
-use Rattle.note.specs.Tlb.{Tlb, tlb_fault, tlb_rule}
+use Rattle.note.specs.declared.Tlb.{Tlb}
+use Rattle.note.specs.Tlb.{tlb_fault, tlb_rule}
 use Rattle.note.specs.Events.{event_fault, event_word_rule}
 use Rattle.note.specs.Records.{entry_kinds, record_rule}
 use Rattle.note.proofs.KindCases.{kind_cases}

@@ -16,7 +16,8 @@ use Rattle.note.specs.Charge.{charge_of, charge_bytes}
 use Rattle.note.specs.Administrative.{administrative_of, administrative_bytes}
 use Rattle.note.specs.Trace.{trace_of, trace_bytes}
 use Rattle.note.specs.History.{width_at, width_of, end_at, section_values, section_of, history_of, history_bytes}
-use Rattle.note.specs.Gps.{Gps, gps_of, gps_bytes}
+use Rattle.note.specs.declared.Gps.{Gps}
+use Rattle.note.specs.Gps.{gps_of, gps_bytes}
 use Rattle.note.specs.Trigger.{trigger_of, trigger_bytes}
 use Rattle.note.specs.Tlb.{tlb_of, tlb_bytes}
 use Rattle.note.specs.Records.{kind_of}

@@ -7,17 +7,10 @@ use Rattle.note.specs.Faults.{wrong_length, wrong_field}
 use Rattle.note.specs.Words.{word, words}
 use Rattle.note.specs.Answers.{counts}
 use Rattle.note.specs.Kinds.{Kind}
+use Rattle.note.specs.declared.Administrative.{Administrative}
 
--- FORMAT 5.1: the fields, in the order of their words: LLYYMMDD and HHMM of the series, the event's number and its time, the milliseconds since
--- the event before it, the milliseconds of live time.
-pub record Administrative : Type 0 where
-  pub date : ℕ
-  pub clock : ℕ
-  pub number : ℕ
-  pub time : ℕ
-  pub since : ℕ
-  pub live : ℕ
-
+-- FORMAT 5.1: the fields of the code's struct, in the order of their words: LLYYMMDD and HHMM of the series, the event's number and its time, the
+-- milliseconds since the event before it, the milliseconds of live time.
 abbrev pub administrative_words : Administrative → List ℕ
 administrative_words f = f.date ∷ f.clock ∷ f.number ∷ f.time ∷ f.since ∷ f.live ∷ []
 

@@ -1,21 +1,15 @@
--- Each call answers with a type of its own. Here every case of these types becomes a number and values, the terms in which FORMAT speaks: so one
+-- Each call answers with a result or a type of its own. Here each becomes a number and values, the terms in which FORMAT speaks: so one
 -- form of promise, `given r ≡ ..`, serves all calls, and a caller in C finds the same numbers. Each of these definitions is one-to-one, so that
 -- such a promise determines r (proofs/AnswerLaws.antt).
-use Rattle.std.specs.Prelude.{ℕ, List, [], ◌∷◌, map, ℤ, pos, Float}
+use Rattle.std.specs.Prelude.{ℕ, List, [], ◌∷◌, map, ℤ, pos, Float, Result, Ok, Err, Option, Some, None}
+use Rattle.note.specs.Faults.{fault_number}
+use Rattle.note.specs.declared.Refusal.{Refusal}
 use Rattle.note.specs.declared.RecordAnswer.{RecordAnswer}
 use Rattle.note.specs.declared.RecordAnswer.TheVariants as Record
 use Rattle.note.specs.declared.SettingAnswer.{SettingAnswer}
 use Rattle.note.specs.declared.SettingAnswer.TheVariants as Setting
-use Rattle.note.specs.declared.CodeAnswer.{CodeAnswer}
-use Rattle.note.specs.declared.CodeAnswer.TheVariants as Code
-use Rattle.note.specs.declared.SampleAnswer.{SampleAnswer}
-use Rattle.note.specs.declared.SampleAnswer.TheVariants as Sample
-use Rattle.note.specs.declared.FindAnswer.{FindAnswer}
-use Rattle.note.specs.declared.FindAnswer.TheVariants as Find
 use Rattle.note.specs.declared.WalkerYield.{WalkerYield}
 use Rattle.note.specs.declared.WalkerYield.TheVariants as Yield
-use Rattle.note.specs.declared.WriterAnswer.{WriterAnswer}
-use Rattle.note.specs.declared.WriterAnswer.TheVariants as Writer
 
 -- FORMAT 8.1: a value of an answer: a whole number, or a 64-bit float, which Setting alone gives.
 pub data Value : Type 0 where
@@ -37,58 +31,55 @@ counts ns = map count ns
 abbrev pub wholes : List ℤ → List Value
 wholes zs = map whole zs
 
--- FORMAT 8.5: Record's answer: the row kind, then the fields in the order of their words.
+-- FORMAT 8.1: a result by the values of what was granted; a refusal by its number and place.
+abbrev pub given : {A : Type 0} → (A → List Value) → Result A Refusal → Given
+given values (Ok a) = accepted (values a)
+given values (Err r) = refused (fault_number r.fault) r.place
+
+-- FORMAT 8.5: Record's answer: the row kind, then the fields in the order of their words; or the refusal.
 unfoldable pub given_record : RecordAnswer → Given
-given_record (Record.Phonon code tower gain qet squid lock rtf variable delta t0 trace) =
-    accepted (count 3 ∷ wholes (code ∷ tower ∷ gain ∷ qet ∷ squid ∷ lock ∷ rtf ∷ variable ∷ delta ∷ t0 ∷ trace ∷ []))
-given_record (Record.Charge code tower gain bias rtf delta t0 trace) =
-    accepted (count 4 ∷ wholes (code ∷ tower ∷ gain ∷ bias ∷ rtf ∷ delta ∷ t0 ∷ trace ∷ []))
-given_record (Record.Administrative date clock number time since live) =
-    accepted (count 6 ∷ counts (date ∷ clock ∷ number ∷ time ∷ since ∷ live ∷ []))
+given_record (Record.Phonon f) =
+    accepted (count 3 ∷ wholes (
+    f.code ∷ f.tower ∷ f.gain ∷ f.qet_bias ∷ f.squid_bias ∷ f.lockpoint ∷ f.rtf_offset ∷ f.variable_gain ∷ f.delta_t ∷ f.t0 ∷ f.trace_length ∷ []))
+given_record (Record.Charge f) =
+    accepted (count 4 ∷ wholes (f.code ∷ f.tower ∷ f.gain ∷ f.bias ∷ f.rtf_offset ∷ f.delta_t ∷ f.t0 ∷ f.trace_length ∷ []))
+given_record (Record.Administrative f) = accepted (count 6 ∷ counts (f.date ∷ f.clock ∷ f.number ∷ f.time ∷ f.since ∷ f.live ∷ []))
 given_record (Record.Trace address channel code t0 delta n) =
     accepted (count 7 ∷ count address ∷ count channel ∷ count code ∷ whole t0 ∷ count delta ∷ count n ∷ [])
 given_record (Record.History veto_times veto_times_at veto_width veto_masks_at trigger_times trigger_times_at trigger_width trigger_masks_at) =
     accepted (count 8 ∷ counts (
     veto_times ∷ veto_times_at ∷ veto_width ∷ veto_masks_at ∷
     trigger_times ∷ trigger_times_at ∷ trigger_width ∷ trigger_masks_at ∷ []))
-given_record (Record.Gps year day status hour minute second tenths) =
-    accepted (count 9 ∷ counts (year ∷ day ∷ status ∷ hour ∷ minute ∷ second ∷ tenths ∷ []))
-given_record (Record.Trigger m1 m2 m3 m4 m5 m6) = accepted (count 10 ∷ counts (m1 ∷ m2 ∷ m3 ∷ m4 ∷ m5 ∷ m6 ∷ []))
-given_record (Record.Tlb t1 t2 t3 t4 t5 t6) = accepted (count 11 ∷ counts (t1 ∷ t2 ∷ t3 ∷ t4 ∷ t5 ∷ t6 ∷ []))
-given_record (Record.Refused number place) = refused number place
+given_record (Record.Gps f) = accepted (count 9 ∷ counts (f.year ∷ f.day ∷ f.status ∷ f.hour ∷ f.minute ∷ f.second ∷ f.tenths ∷ []))
+given_record (Record.Trigger f) = accepted (count 10 ∷ counts (f.mask1 ∷ f.mask2 ∷ f.mask3 ∷ f.mask4 ∷ f.mask5 ∷ f.mask6 ∷ []))
+given_record (Record.Tlb f) = accepted (count 11 ∷ counts (f.tower1 ∷ f.tower2 ∷ f.tower3 ∷ f.tower4 ∷ f.tower5 ∷ f.tower6 ∷ []))
+given_record (Record.Refused r) = refused (fault_number r.fault) r.place
 
 -- FORMAT 8.6: Setting's answer: the row kind, then the words in order, those stored times 100 as floats.
-unfoldable pub given_setting : SettingAnswer → Given
-given_setting (Setting.Phonon code tower gain qet squid lock rtf variable delta t0 trace) =
-    accepted (count 3 ∷ whole code ∷ whole tower ∷ float gain ∷ float qet ∷ float squid ∷ float lock
-    ∷ wholes (rtf ∷ variable ∷ delta ∷ t0 ∷ trace ∷ []))
-given_setting (Setting.Charge code tower gain bias rtf delta t0 trace) =
-    accepted (count 4 ∷ whole code ∷ whole tower ∷ float gain ∷ wholes (bias ∷ rtf ∷ delta ∷ t0 ∷ trace ∷ []))
-given_setting (Setting.Refused number place) = refused number place
+abbrev pub setting_values : SettingAnswer → List Value
+setting_values (Setting.Phonon code tower gain qet squid lock rtf variable delta t0 trace) =
+    count 3 ∷ whole code ∷ whole tower ∷ float gain ∷ float qet ∷ float squid ∷ float lock
+    ∷ wholes (rtf ∷ variable ∷ delta ∷ t0 ∷ trace ∷ [])
+setting_values (Setting.Charge code tower gain bias rtf delta t0 trace) =
+    count 4 ∷ whole code ∷ whole tower ∷ float gain ∷ wholes (bias ∷ rtf ∷ delta ∷ t0 ∷ trace ∷ [])
 
--- FORMAT 3.4: Code's answer: the code.
-unfoldable pub given_code : CodeAnswer → Given
-given_code (Code.Code code) = accepted (counts (code ∷ []))
-given_code (Code.Refused number place) = refused number place
+unfoldable pub given_setting : Result SettingAnswer Refusal → Given
+given_setting r = given setting_values r
 
--- FORMAT 8.7: the answer for a sample by number: the sample.
-unfoldable pub given_sample : SampleAnswer → Given
-given_sample (Sample.Sample value) = accepted (counts (value ∷ []))
-given_sample (Sample.Refused number place) = refused number place
+-- FORMAT 3.4, 8.7, 9.1: the answer of Code, the code; for a sample by number, the sample; of a writer, the next place.
+unfoldable pub given_number : Result ℕ Refusal → Given
+given_number r = given (λ n. counts (n ∷ [])) r
 
 -- FORMAT 8.8: Find's answer: a place, or no value for nothing.
-unfoldable pub given_find : FindAnswer → Given
-given_find (Find.Found place) = accepted (counts (place ∷ []))
-given_find Find.Nothing = accepted []
-given_find (Find.Refused number place) = refused number place
+abbrev pub place_values : Option ℕ → List Value
+place_values (Some place) = counts (place ∷ [])
+place_values None = []
+
+unfoldable pub given_find : Result (Option ℕ) Refusal → Given
+given_find r = given place_values r
 
 -- FORMAT 8.3: a walker's yield: a row's six numbers, or no value for the end.
 unfoldable pub given_yield : WalkerYield → Given
 given_yield (Yield.Row kind start size parent one two) = accepted (counts (kind ∷ start ∷ size ∷ parent ∷ one ∷ two ∷ []))
 given_yield Yield.End = accepted []
 given_yield (Yield.Refused number place) = refused number place
-
--- FORMAT 9.1: a writer's answer: the next place.
-unfoldable pub given_writer : WriterAnswer → Given
-given_writer (Writer.Next place) = accepted (counts (place ∷ []))
-given_writer (Writer.Refused number place) = refused number place

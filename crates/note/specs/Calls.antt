@@ -8,8 +8,10 @@ use Rattle.theory.specs.Tests.{Res, ok, bad, need, unless}
 use Rattle.note.specs.Faults.{too_large, wrong_kind, wrong_count}
 use Rattle.note.specs.Limits.{file_limit}
 use Rattle.note.specs.Answers.{Value, whole, float, Given, accepted, refused, count, counts, wholes}
-use Rattle.note.specs.Phonon.{Phonon, phonon_kind, phonon_of}
-use Rattle.note.specs.Charge.{Charge, charge_kind, charge_of}
+use Rattle.note.specs.declared.Phonon.{Phonon}
+use Rattle.note.specs.Phonon.{phonon_kind, phonon_of}
+use Rattle.note.specs.declared.Charge.{Charge}
+use Rattle.note.specs.Charge.{charge_kind, charge_of}
 use Rattle.note.specs.Administrative.{administrative_of}
 use Rattle.note.specs.Trace.{trace_kind, trace_of, sample_in}
 use Rattle.note.specs.Records.{Record, record_size, alone, read_record, kind_of}

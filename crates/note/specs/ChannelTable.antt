@@ -1,11 +1,12 @@
 -- The channels as one table, each with its two names, line by line. Channels has them as lists to look a code up in; this is what those lists
 -- come to, in a form that can be held against FORMAT by eye. Then which codes there are, as ranges of channels, and the sides of the iZIPs.
-use Rattle.std.specs.Prelude.{ℕ, ◌+◌, ◌-◌, ◌*◌, ◌≤◌, ◌≡◌, ◌⊎◌, ◌≢◌, List, [], ◌∷◌, map, length, get_or}
+use Rattle.std.specs.Prelude.{ℕ, ◌+◌, ◌-◌, ◌*◌, ◌≤◌, ◌≡◌, ◌⊎◌, ◌≢◌, List, [], ◌∷◌, map, length, get_or, Result, Ok, Err}
 use Prim.Native.String.{String}
 use Rattle.std.proofs.Math.Option.{Option, some, none}
 use Rattle.note.specs.Asked.{OneOf}
-use Rattle.note.specs.Faults.{wrong_field}
 use Rattle.note.specs.Channels.{ascii, Channel, numbered, name_of}
+use Rattle.note.specs.declared.Fault.TheVariants as Fault
+use Rattle.note.specs.declared.Refusal.{Refusal}
 use Rattle.note.specs.declared.ChannelAnswer.{ChannelAnswer}
 
 -- FORMAT 3.2, 3.3: a line: a detector type, a channel's number, its analysis name, its name in the cold wiring.
@@ -43,21 +44,19 @@ channel_table =
 abbrev pub code_of : Names → ℕ → ℕ
 code_of r d = r.type * 1000000 + d * 1000 + r.channel
 
-abbrev pub answer_for : Names → ℕ → ChannelAnswer
-answer_for r d = record {
-  number = 0;
-  place = 0;
+abbrev pub answer_for : Names → ℕ → Result ChannelAnswer Refusal
+answer_for r d = Ok (record {
   detector_type = r.type;
   detector = d;
   analysis = name_of (ascii r.analysis);
   cold = name_of (ascii r.cold);
-}
+})
 
-abbrev pub not_listed : ChannelAnswer
-not_listed = record { number = wrong_field; place = 0; detector_type = 0; detector = 0; analysis = name_of []; cold = name_of [] }
+abbrev pub not_listed : Result ChannelAnswer Refusal
+not_listed = Err (record { fault = Fault.WrongField; place = 0 })
 
 -- FORMAT 3.4: the answer for a code is that of its line of the table, for a detector number of 0 to 999; a code of no line isn't listed.
-abbrev pub NamedAs : List Names → ℕ → ChannelAnswer → Type 0
+abbrev pub NamedAs : List Names → ℕ → Result ChannelAnswer Refusal → Type 0
 NamedAs [] w a = a ≡ not_listed
 NamedAs (r ∷ rs) w a =
     ((d : ℕ) × (d ≤ 999) × (w ≡ code_of r d) × (a ≡ answer_for r d))

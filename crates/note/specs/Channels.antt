@@ -1,12 +1,14 @@
 -- The channels of each detector type as lists, and a detector code as type, number and channel. What a code names is looked up and never computed:
 -- the two iZIP classes are two lists, and a side is what the list says, not what the channel's number would suggest.
-use Rattle.std.specs.Prelude.{ℕ, ◌+◌, ◌*◌, ◌/◌, ◌%◌, Bool, true, false, cond, ◌&&◌, ◌||◌, List, [], ◌∷◌, leb, eqb, length, get_or}
+use Rattle.std.specs.Prelude.{ℕ, ◌+◌, ◌*◌, ◌/◌, ◌%◌, Bool, true, false, cond, ◌&&◌, ◌||◌, List, [], ◌∷◌, leb, eqb, length, get_or, Result, Ok, Err}
 use Prim.Native.Char.{code}
 use Prim.Native.String as Str
 use Prim.Native.String.{String}
 use Rattle.std.proofs.Math.Option.{Option, some, none}
 use Rattle.note.specs.Faults.{wrong_field}
 use Rattle.note.specs.Answers.{Given, accepted, refused, counts}
+use Rattle.note.specs.declared.Fault.TheVariants as Fault
+use Rattle.note.specs.declared.Refusal.{Refusal}
 use Rattle.note.specs.declared.ChannelAnswer.{ChannelAnswer}
 use Rattle.note.specs.declared.Name.{Name}
 
@@ -127,18 +129,16 @@ padded name = get_or name 0 0 ∷ get_or name 1 0 ∷ get_or name 2 0 ∷ get_or
 abbrev pub name_of : List ℕ → Name
 name_of name = record { bytes = padded name; length = length name }
 
-abbrev pub channel_given : ℕ → Option Channel → ChannelAnswer
-channel_given w none = record { number = wrong_field; place = 0; detector_type = 0; detector = 0; analysis = name_of []; cold = name_of [] }
-channel_given w (some c) = record {
-  number = 0;
-  place = 0;
+abbrev pub channel_given : ℕ → Option Channel → Result ChannelAnswer Refusal
+channel_given w none = Err (record { fault = Fault.WrongField; place = 0 })
+channel_given w (some c) = Ok (record {
   detector_type = type_of w;
   detector = detector_of w;
   analysis = name_of c.analysis;
   cold = name_of c.cold;
-}
+})
 
-unfoldable pub channel_answer : ℕ → ChannelAnswer
+unfoldable pub channel_answer : ℕ → Result ChannelAnswer Refusal
 channel_answer w = channel_given w (channel_of w)
 
 -- FORMAT 3.4: Code's answer: the code of a type's channel by its analysis name, for a detector number up to 999; 10 at 0 where there is none.

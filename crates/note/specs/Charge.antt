@@ -7,18 +7,9 @@ use Rattle.note.specs.Words.{word, words, signed, unsigned}
 use Rattle.note.specs.Answers.{wholes}
 use Rattle.note.specs.Channels.{names_charge}
 use Rattle.note.specs.Kinds.{Kind}
+use Rattle.note.specs.declared.Charge.{Charge}
 
--- FORMAT 4.2: the fields, in the order of their words. Only the gain is stored times 100; the bias is whole.
-pub record Charge : Type 0 where
-  pub code : ℤ
-  pub tower : ℤ
-  pub gain : ℤ
-  pub bias : ℤ
-  pub rtf_offset : ℤ
-  pub delta_t : ℤ
-  pub t0 : ℤ
-  pub trace_length : ℤ
-
+-- FORMAT 4.2: the fields of the code's struct, in the order of their words. Only the gain is stored times 100; the bias is whole.
 abbrev pub charge_words : Charge → List ℤ
 charge_words f = f.code ∷ f.tower ∷ f.gain ∷ f.bias ∷ f.rtf_offset ∷ f.delta_t ∷ f.t0 ∷ f.trace_length ∷ []
 

@@ -1,8 +1,10 @@
 -- P1 to P14 as one table: each line is a code, words, samples or a file, and what must hold of the definitions for it. So the definitions are held
 -- against numbers that were worked out elsewhere; proofs/Examples.antt proves the whole table by one theorem.
-use Rattle.std.specs.Prelude.{ℕ, ◌≡◌, List, [], ◌∷◌, ◌++◌}
+use Rattle.std.specs.Prelude.{ℕ, ◌≡◌, List, [], ◌∷◌, ◌++◌, Ok}
 use Prim.Native.String.{String}
 use Rattle.theory.specs.declared.Order.TheVariants.{Little}
+use Rattle.theory.specs.Tests.{bad}
+use Rattle.note.specs.Faults.{res_of}
 use Rattle.note.specs.Words.{words}
 use Rattle.note.specs.Channels.{ascii, name_of, channel_answer}
 use Rattle.note.specs.Administrative.{administrative_fault}
@@ -29,23 +31,13 @@ typed (s ∷ ss) = ascii s ++ (10 ∷ typed ss)
 
 abbrev pub IsSo : Example → Type 0
 IsSo (channel code type detector analysis cold) =
-    channel_answer code ≡ record {
-      number = 0;
-      place = 0;
+    channel_answer code ≡ Ok (record {
       detector_type = type;
       detector = detector;
       analysis = name_of (ascii analysis);
       cold = name_of (ascii cold);
-    }
-IsSo (no_channel code number) =
-    channel_answer code ≡ record {
-      number = number;
-      place = 0;
-      detector_type = 0;
-      detector = 0;
-      analysis = name_of [];
-      cold = name_of [];
-    }
+    })
+IsSo (no_channel code number) = res_of (channel_answer code) ≡ bad number 0
 IsSo (series date clock number) = administrative_fault date clock ≡ number
 IsSo (gps first second third number) = gps_rule Little (words Little (first ∷ second ∷ third ∷ [])) ≡ number
 IsSo (two_samples bytes one two) = (sample_in Little bytes 1 ≡ one) × (sample_in Little bytes 2 ≡ two)

@@ -1,5 +1,8 @@
 -- The numbers that are given back, each named once. Every definition says a refusal by its name; 0 means that nothing is wrong.
-use Rattle.std.specs.Prelude.{ℕ}
+use Rattle.std.specs.Prelude.{ℕ, Result, Ok, Err}
+use Rattle.theory.specs.Tests.{Res, ok, bad}
+use Rattle.note.specs.declared.Fault.{Fault}
+use Rattle.note.specs.declared.Refusal.{Refusal}
 
 -- FORMAT 2.1: a lent file or output is over the limit.
 abbrev pub too_large : ℕ
@@ -52,3 +55,28 @@ few_rows = 12
 -- FORMAT 2.1: what is to be written doesn't lie in the output.
 abbrev pub no_room : ℕ
 no_room = 13
+
+-- FORMAT 2.1: the number of the code's fault; and of what a test of the code found: 0 where it holds.
+abbrev pub fault_number : Fault → ℕ
+fault_number Fault.TooLarge = too_large
+fault_number Fault.TooShort = too_short
+fault_number Fault.NotAFile = not_a_file
+fault_number Fault.WrongFormat = wrong_format
+fault_number Fault.WrongKind = wrong_kind
+fault_number Fault.WrongLength = wrong_length
+fault_number Fault.NotAdmitted = not_admitted
+fault_number Fault.Monitoring = monitoring
+fault_number Fault.Misplaced = misplaced
+fault_number Fault.WrongField = wrong_field
+fault_number Fault.WrongCount = wrong_count
+fault_number Fault.FewRows = few_rows
+fault_number Fault.NoRoom = no_room
+
+abbrev pub fault_in : Result Unit Fault → ℕ
+fault_in (Ok u) = 0
+fault_in (Err f) = fault_number f
+
+-- FORMAT 2.2: what the code read, or its refusal, as the definitions say it.
+abbrev pub res_of : {A : Type 0} → Result A Refusal → Res A
+res_of (Ok a) = ok a
+res_of (Err r) = bad (fault_number r.fault) r.place

@@ -7,17 +7,9 @@ use Rattle.note.specs.Faults.{wrong_length, wrong_field}
 use Rattle.note.specs.Words.{word, words}
 use Rattle.note.specs.Answers.{counts}
 use Rattle.note.specs.Kinds.{Kind}
+use Rattle.note.specs.declared.Gps.{Gps}
 
--- FORMAT 5.4: the fields, seven numbers.
-pub record Gps : Type 0 where
-  pub year : ℕ
-  pub day : ℕ
-  pub status : ℕ
-  pub hour : ℕ
-  pub minute : ℕ
-  pub second : ℕ
-  pub tenths : ℕ
-
+-- FORMAT 5.4: the fields of the code's struct, seven numbers.
 abbrev pub gps_numbers : Gps → List ℕ
 gps_numbers f = f.year ∷ f.day ∷ f.status ∷ f.hour ∷ f.minute ∷ f.second ∷ f.tenths ∷ []
 

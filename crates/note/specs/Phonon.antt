@@ -8,21 +8,9 @@ use Rattle.note.specs.Words.{word, words, signed, unsigned}
 use Rattle.note.specs.Answers.{wholes}
 use Rattle.note.specs.Channels.{names_phonon}
 use Rattle.note.specs.Kinds.{Kind}
+use Rattle.note.specs.declared.Phonon.{Phonon}
 
--- FORMAT 4.1: the fields, in the order of their words. Gain, both biases and lockpoint are stored times 100.
-pub record Phonon : Type 0 where
-  pub code : ℤ
-  pub tower : ℤ
-  pub gain : ℤ
-  pub qet_bias : ℤ
-  pub squid_bias : ℤ
-  pub lockpoint : ℤ
-  pub rtf_offset : ℤ
-  pub variable_gain : ℤ
-  pub delta_t : ℤ
-  pub t0 : ℤ
-  pub trace_length : ℤ
-
+-- FORMAT 4.1: the fields of the code's struct, in the order of their words. Gain, both biases and lockpoint are stored times 100.
 abbrev pub phonon_words : Phonon → List ℤ
 phonon_words f =
     f.code ∷ f.tower ∷

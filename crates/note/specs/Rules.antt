@@ -6,7 +6,7 @@ use Rattle.note.specs.Asked.{asks, fine, Divides}
 use Rattle.note.specs.Words.{word, words}
 use Rattle.note.specs.Trace.{Trace}
 use Rattle.note.specs.History.{Section}
-use Rattle.note.specs.Gps.{Gps}
+use Rattle.note.specs.declared.Gps.{Gps}
 use Rattle.note.specs.ChannelTable.{channel_lines, phonon_lines, charge_lines, CodeListed}
 use Rattle.note.specs.Series.{ClockTime, SeriesDate}
 use Rattle.note.specs.Places.{times_in, width_in, section_end}

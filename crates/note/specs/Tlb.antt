@@ -7,16 +7,9 @@ use Rattle.note.specs.Faults.{wrong_length, wrong_field}
 use Rattle.note.specs.Words.{word, words}
 use Rattle.note.specs.Answers.{counts}
 use Rattle.note.specs.Kinds.{Kind}
+use Rattle.note.specs.declared.Tlb.{Tlb}
 
--- FORMAT 5.6: the fields, in the order of the towers.
-pub record Tlb : Type 0 where
-  pub tower1 : ℕ
-  pub tower2 : ℕ
-  pub tower3 : ℕ
-  pub tower4 : ℕ
-  pub tower5 : ℕ
-  pub tower6 : ℕ
-
+-- FORMAT 5.6: the fields of the code's struct, in the order of the towers.
 abbrev pub tlb_words : Tlb → List ℕ
 tlb_words f = f.tower1 ∷ f.tower2 ∷ f.tower3 ∷ f.tower4 ∷ f.tower5 ∷ f.tower6 ∷ []
 

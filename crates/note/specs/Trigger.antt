@@ -6,16 +6,9 @@ use Rattle.note.specs.Faults.{wrong_length, wrong_field}
 use Rattle.note.specs.Words.{word, words}
 use Rattle.note.specs.Answers.{counts}
 use Rattle.note.specs.Kinds.{Kind}
+use Rattle.note.specs.declared.Trigger.{Trigger}
 
--- FORMAT 5.5: the fields: the masks alone, since the time is known.
-pub record Trigger : Type 0 where
-  pub mask1 : ℕ
-  pub mask2 : ℕ
-  pub mask3 : ℕ
-  pub mask4 : ℕ
-  pub mask5 : ℕ
-  pub mask6 : ℕ
-
+-- FORMAT 5.5: the fields of the code's struct: the masks alone, since the time is known.
 abbrev pub trigger_masks : Trigger → List ℕ
 trigger_masks f = f.mask1 ∷ f.mask2 ∷ f.mask3 ∷ f.mask4 ∷ f.mask5 ∷ f.mask6 ∷ []
 

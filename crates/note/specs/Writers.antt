@@ -9,14 +9,23 @@ use Rattle.note.specs.Limits.{file_limit}
 use Rattle.note.specs.Words.{words, unsigned}
 use Rattle.note.specs.Answers.{Given, accepted, refused, counts}
 use Rattle.note.specs.Kinds.{Kind}
-use Rattle.note.specs.Phonon.{Phonon, phonon_kind, phonon_bytes, phonon_fault}
-use Rattle.note.specs.Charge.{Charge, charge_kind, charge_bytes, charge_fault}
-use Rattle.note.specs.Administrative.{Administrative, administrative_kind, administrative_bytes, administrative_fault}
+use Rattle.note.specs.declared.Phonon.{Phonon}
+use Rattle.note.specs.Phonon.{phonon_kind, phonon_bytes, phonon_fault}
+use Rattle.note.specs.declared.Charge.{Charge}
+use Rattle.note.specs.Charge.{charge_kind, charge_bytes, charge_fault}
+use Rattle.note.specs.declared.Administrative.{Administrative}
+use Rattle.note.specs.Administrative.{administrative_kind, administrative_bytes, administrative_fault}
+use Rattle.note.specs.declared.Trace as LentTrace
+use Rattle.note.specs.declared.Section as LentSection
+use Rattle.note.specs.declared.History as LentHistory
 use Rattle.note.specs.Trace.{Trace, trace_kind, trace_bytes, trace_fault}
-use Rattle.note.specs.History.{History, history_kind, history_bytes, history_fault}
-use Rattle.note.specs.Gps.{Gps, gps_kind, gps_bytes, gps_fault}
-use Rattle.note.specs.Trigger.{Trigger, trigger_kind, trigger_bytes}
-use Rattle.note.specs.Tlb.{Tlb, tlb_kind, tlb_bytes, tlb_fault}
+use Rattle.note.specs.History.{History, Section, history_kind, history_bytes, history_fault}
+use Rattle.note.specs.declared.Gps.{Gps}
+use Rattle.note.specs.Gps.{gps_kind, gps_bytes, gps_fault}
+use Rattle.note.specs.declared.Trigger.{Trigger}
+use Rattle.note.specs.Trigger.{trigger_kind, trigger_bytes}
+use Rattle.note.specs.declared.Tlb.{Tlb}
+use Rattle.note.specs.Tlb.{tlb_kind, tlb_bytes, tlb_fault}
 use Rattle.note.specs.Records.{Record, record_bytes, records_bytes, entry, event, unseen, read_records, kind_of}
 use Rattle.note.specs.Events.{Container, event_fault, event_word, event_late}
 use Rattle.note.specs.Files.{File, order_in, version_of, configuration_of, events_of, configuration_word, header_bytes, version_word, read_file}
@@ -46,6 +55,24 @@ output_after (ok next) out place bytes = take place out ++ (bytes ++ drop (place
 output_after (bad c p) out place bytes = out
 
 -- ---- the eight record and entry writers
+
+-- FORMAT 9.2: the fields that hold bytes, as a caller hands them over.
+abbrev pub trace_handed : LentTrace.Trace → Trace
+trace_handed f = record {
+  address = f.address;
+  channel = f.channel;
+  code = f.code;
+  t0 = f.t0;
+  delta = f.delta_t;
+  n = f.n;
+  samples = f.samples.now;
+}
+
+abbrev pub section_handed : LentSection.Section → Section
+section_handed s = record { count = s.count; times = s.times.now; width = s.width; masks = s.masks.now }
+
+abbrev pub history_handed : LentHistory.History → History
+history_handed h = record { veto = section_handed h.veto; trigger = section_handed h.trigger }
 
 -- FORMAT 9.2: a kind's structure around its body.
 abbrev pub wrapped : Order → Kind → List ℕ → List ℕ

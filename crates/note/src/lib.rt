@@ -1,48 +1,65 @@
 // The answers that the calls give, as types; what each must hold is defined in specs/, in the order of FORMAT.
-// There is no function here.
 #![tactic(auto)]
 
-// The numbers that are given back (FORMAT 2.1), as specs/Faults has them.
-/// A lent file or output is over the limit.
-pub const TOO_LARGE: u32 = 1;
+ghost use Rattle.std.specs.Prelude.{◌≡◌};
+ghost use Rattle.note.specs.Faults.{fault_number};
 
-/// Fewer than eight bytes are left for a structure, or its length passes what holds it.
-pub const TOO_SHORT: u32 = 2;
+/// Why something is refused, with the number that is given back (FORMAT 2.1), as specs/Faults has it.
+#[derive(Clone, Copy, Debug, PartialEq, Eq)]
+pub enum Fault {
+    /// A lent file or output is over the limit.
+    TooLarge = 1,
+    /// Fewer than eight bytes are left for a structure, or its length passes what holds it.
+    TooShort = 2,
+    /// The file's first word is another one.
+    NotAFile = 3,
+    /// The version word says another format than 2.0.
+    WrongFormat = 4,
+    /// A kind word, a trace's inner kind or the mark of an event isn't one of those allowed there.
+    WrongKind = 5,
+    /// A length is wrong for its kind or for its counts.
+    WrongLength = 6,
+    /// An event's class, category or type isn't admitted.
+    NotAdmitted = 7,
+    /// An event of type 7, a monitoring event.
+    Monitoring = 8,
+    /// An event is empty, its first record isn't administrative, or a kind comes a second time.
+    Misplaced = 9,
+    /// A field is outside its rule.
+    WrongField = 10,
+    /// A trace's count of samples is outside its rule, or a sample's number is out of range.
+    WrongCount = 11,
+    /// Table's rows don't fit the lent buffer.
+    FewRows = 12,
+    /// What is to be written doesn't lie in the output.
+    NoRoom = 13,
+}
 
-/// The file's first word is another one.
-pub const NOT_A_FILE: u32 = 3;
+/// A refusal: why, and at which byte.
+#[derive(Clone, Copy, Debug, PartialEq, Eq)]
+pub struct Refusal {
+    pub fault: Fault,
+    pub place: usize,
+}
 
-/// The version word says another format than 2.0.
-pub const WRONG_FORMAT: u32 = 4;
+impl Fault {
+    /// The refusal for this fault at a place.
+    pub fn at(self, place: usize) -> Refusal
+        ensures { result ≡ record { fault = self; place = place } }
+    {
+        Refusal { fault: self, place }
+    }
+}
 
-/// A kind word, a trace's inner kind or the mark of an event isn't one of those allowed there.
-pub const WRONG_KIND: u32 = 5;
+impl From<Fault> for u32 {
+    ghost from_gives = { λ fault number. number ≡ fault_number fault };
 
-/// A length is wrong for its kind or for its counts.
-pub const WRONG_LENGTH: u32 = 6;
+    fn from(fault: Fault) -> u32 {
+        fault as u32
+    }
+}
 
-/// An event's class, category or type isn't admitted.
-pub const NOT_ADMITTED: u32 = 7;
-
-/// An event of type 7, a monitoring event.
-pub const MONITORING: u32 = 8;
-
-/// An event is empty, its first record isn't administrative, or a kind comes a second time.
-pub const MISPLACED: u32 = 9;
-
-/// A field is outside its rule.
-pub const WRONG_FIELD: u32 = 10;
-
-/// A trace's count of samples is outside its rule, or a sample's number is out of range.
-pub const WRONG_COUNT: u32 = 11;
-
-/// Table's rows don't fit the lent buffer.
-pub const FEW_ROWS: u32 = 12;
-
-/// What is to be written doesn't lie in the output.
-pub const NO_ROOM: u32 = 13;
-
-// The kinds of rows (FORMAT 7.2).
+// The kinds of rows (FORMAT 7.2): numbers and no enum, since a row is six numbers in a lent buffer, in Table's definition and for C.
 pub const HEADER_ROW: u32 = 1;
 
 pub const CONFIGURATION_ROW: u32 = 2;
@@ -65,48 +82,128 @@ pub const TRIGGER_ROW: u32 = 10;
 
 pub const TLB_ROW: u32 = 11;
 
-/// Table: the number (0 accepted, 12 too few rows lent), the count of rows, the place.
-#[derive(Drop)]
+/// Table: the number (0 accepted, 12 too few rows lent), the count of rows, the place. Three numbers and no `Result`: `table_answer` and what is
+/// proved of it (`TableGives`) say all three of every file.
+#[derive(Clone, Copy, Debug, PartialEq, Eq)]
 pub struct TableAnswer {
     pub number: u32,
     pub count: usize,
     pub place: usize,
 }
 
-/// Record: one of two entries and six records with its fields, or a refusal.
-#[derive(Drop)]
+// ---- the fields of the kinds, in the order of their words
+
+/// A phonon entry's fields (FORMAT 4.1). Gain, both biases and lockpoint are times 100.
+#[derive(Clone, Copy, Debug, PartialEq, Eq)]
+pub struct Phonon {
+    pub code: i32,
+    pub tower: i32,
+    pub gain: i32,
+    pub qet_bias: i32,
+    pub squid_bias: i32,
+    pub lockpoint: i32,
+    pub rtf_offset: i32,
+    pub variable_gain: i32,
+    pub delta_t: i32,
+    pub t0: i32,
+    pub trace_length: i32,
+}
+
+/// A charge entry's fields (FORMAT 4.2). The gain is times 100.
+#[derive(Clone, Copy, Debug, PartialEq, Eq)]
+pub struct Charge {
+    pub code: i32,
+    pub tower: i32,
+    pub gain: i32,
+    pub bias: i32,
+    pub rtf_offset: i32,
+    pub delta_t: i32,
+    pub t0: i32,
+    pub trace_length: i32,
+}
+
+/// An administrative record's fields (FORMAT 5.1): the series by its digits, LLYYMMDD and HHMM; since and live in milliseconds.
+#[derive(Clone, Copy, Debug, PartialEq, Eq)]
+pub struct Administrative {
+    pub date: u32,
+    pub clock: u32,
+    pub number: u32,
+    pub time: u32,
+    pub since: u32,
+    pub live: u32,
+}
+
+/// A trace's fields (FORMAT 5.2), its samples as the bytes of the part that holds them.
+#[derive(Clone, Copy)]
+pub struct Trace<'a> {
+    pub address: u32,
+    pub channel: u32,
+    pub code: u32,
+    pub t0: i32,
+    pub delta_t: u32,
+    pub n: u32,
+    pub samples: &'a [u8],
+}
+
+/// A history's section (FORMAT 5.3): how many times, the part of bytes that holds them, how many masks for each, and the part that holds the masks.
+#[derive(Clone, Copy)]
+pub struct Section<'a> {
+    pub count: u32,
+    pub times: &'a [u8],
+    pub width: u32,
+    pub masks: &'a [u8],
+}
+
+/// A history's fields (FORMAT 5.3).
+#[derive(Clone, Copy)]
+pub struct History<'a> {
+    pub veto: Section<'a>,
+    pub trigger: Section<'a>,
+}
+
+/// A GPS record's fields (FORMAT 5.4): the numbers that its digits write.
+#[derive(Clone, Copy, Debug, PartialEq, Eq)]
+pub struct Gps {
+    pub year: u32,
+    pub day: u32,
+    pub status: u32,
+    pub hour: u32,
+    pub minute: u32,
+    pub second: u32,
+    pub tenths: u32,
+}
+
+/// A trigger record's fields (FORMAT 5.5): its masks.
+#[derive(Clone, Copy, Debug, PartialEq, Eq)]
+pub struct Trigger {
+    pub mask1: u32,
+    pub mask2: u32,
+    pub mask3: u32,
+    pub mask4: u32,
+    pub mask5: u32,
+    pub mask6: u32,
+}
+
+/// A TLB record's fields (FORMAT 5.6): a word for each tower.
+#[derive(Clone, Copy, Debug, PartialEq, Eq)]
+pub struct Tlb {
+    pub tower1: u32,
+    pub tower2: u32,
+    pub tower3: u32,
+    pub tower4: u32,
+    pub tower5: u32,
+    pub tower6: u32,
+}
+
+// ---- what the calls answer
+
+/// Record: one of two entries and six records with its fields, or a refusal; a trace without its samples, a history with the places of its lists.
+/// It has a case for the refusal, and is no `Result`: that form was asked for (docs/DECISIONS.md, 'Forms of the code').
+#[derive(Clone, Copy)]
 pub enum RecordAnswer {
-    Phonon {
-        code: i32,
-        tower: i32,
-        gain: i32,
-        qet_bias: i32,
-        squid_bias: i32,
-        lockpoint: i32,
-        rtf_offset: i32,
-        variable_gain: i32,
-        delta_t: i32,
-        t0: i32,
-        trace_length: i32,
-    },
-    Charge {
-        code: i32,
-        tower: i32,
-        gain: i32,
-        bias: i32,
-        rtf_offset: i32,
-        delta_t: i32,
-        t0: i32,
-        trace_length: i32,
-    },
-    Administrative {
-        date: u32,
-        clock: u32,
-        number: u32,
-        time: u32,
-        since: u32,
-        live: u32,
-    },
+    Phonon(Phonon),
+    Charge(Charge),
+    Administrative(Administrative),
     Trace {
         address: u32,
         channel: u32,
@@ -125,39 +222,14 @@ pub enum RecordAnswer {
         trigger_width: u32,
         trigger_masks_at: u32,
     },
-    Gps {
-        year: u32,
-        day: u32,
-        status: u32,
-        hour: u32,
-        minute: u32,
-        second: u32,
-        tenths: u32,
-    },
-    Trigger {
-        mask1: u32,
-        mask2: u32,
-        mask3: u32,
-        mask4: u32,
-        mask5: u32,
-        mask6: u32,
-    },
-    Tlb {
-        tower1: u32,
-        tower2: u32,
-        tower3: u32,
-        tower4: u32,
-        tower5: u32,
-        tower6: u32,
-    },
-    Refused {
-        number: u32,
-        place: usize,
-    },
+    Gps(Gps),
+    Trigger(Trigger),
+    Tlb(Tlb),
+    Refused(Refusal),
 }
 
-/// Setting: an entry in working units, or a refusal.
-#[derive(Drop)]
+/// Setting: an entry in working units. Its cases have fields of their own and no structs of Record's: those stored times 100 are floats here.
+#[derive(Clone, Copy)]
 pub enum SettingAnswer {
     Phonon {
         code: i32,
@@ -182,53 +254,26 @@ pub enum SettingAnswer {
         t0: i32,
         trace_length: i32,
     },
-    Refused {
-        number: u32,
-        place: usize,
-    },
 }
 
-/// A channel's name: its ASCII bytes stand first, zeros after them.
+/// A channel's name: its ASCII bytes stand first, zeros after them; bytes and length, as `channel_answer` has them and C is lent them.
 #[derive(Clone, Copy)]
 pub struct Name {
     pub bytes: [u8; 4],
     pub length: u32,
 }
 
-/// Channel of a code: number 0 with type, detector number and both names, or 10 at place 0 with the rest zero.
-#[derive(Drop)]
+/// Channel of a code: type, detector number and both names.
+#[derive(Clone, Copy)]
 pub struct ChannelAnswer {
-    pub number: u32,
-    pub place: usize,
     pub detector_type: u32,
     pub detector: u32,
     pub analysis: Name,
     pub cold: Name,
 }
 
-/// Code of type, number and analysis name.
-#[derive(Drop)]
-pub enum CodeAnswer {
-    Code { code: u32 },
-    Refused { number: u32, place: usize },
-}
-
-/// A sample by number.
-#[derive(Drop)]
-pub enum SampleAnswer {
-    Sample { value: u16 },
-    Refused { number: u32, place: usize },
-}
-
-/// Find: the place of the trace, nothing, or the file's refusal.
-#[derive(Drop)]
-pub enum FindAnswer {
-    Found { place: usize },
-    Nothing,
-    Refused { number: u32, place: usize },
-}
-
-/// What a walker yields: a row, the end, or the file's refusal.
+/// What a walker yields: a row, the end, or the file's refusal. Its numbers, the refusal's too, are those of a spot, of which a caller in C may hand
+/// over any (`dwj_next`).
 #[derive(Clone, Copy)]
 pub enum WalkerYield {
     Row {
@@ -244,11 +289,4 @@ pub enum WalkerYield {
         number: u32,
         place: usize,
     },
-}
-
-/// A writer: the next place, or a refusal.
-#[derive(Drop)]
-pub enum WriterAnswer {
-    Next { place: usize },
-    Refused { number: u32, place: usize },
 }

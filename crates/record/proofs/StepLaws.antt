@@ -1,7 +1,7 @@
 -- One law for each way through record_in, and what a good step shows.
 -- The idea: each premise is a test that the code has taken, in the definition's order, so the definition computes to the answer.
 use mathlib.Core.Path.{◌≡◌, refl, sym, ap, ◌∙◌, subst}
-use mathlib.Core.Bool.{true, false}
+use mathlib.Core.Bool.{Bool, true, false, false≢true, ◌||◌}
 use mathlib.Core.List.{List}
 use Prim.Native.Nat.{ℕ, ◌+◌, ◌-◌, ◌≤◌, ◌<◌}
 use native.Mathlib.Omega.{arith}
@@ -15,12 +15,33 @@ use Rattle.theory.proofs.WordLaws.{Bytes-part}
 use Rattle.theory.proofs.TestLaws.{need-ok, ok_inj, positive}
 use Rattle.theory.proofs.StructureLaws.{opens}
 use Rattle.note.specs.Words.{word}
-use Rattle.note.specs.Records.{Record, Context, is_kind, is_allowed, record_rule, record_head, record_late, read_record}
-use Rattle.record.specs.declared.Step.{Step}
-use Rattle.record.specs.declared.Step.TheVariants.{Good, Bad}
-use Rattle.record.specs.Steps.{step_of}
-use Rattle.note.specs.Faults.{too_short}
-use Rattle.note.proofs.FaultLaws.{short-some}
+use Rattle.note.specs.Records.{Record, Context, entry, event, alone, is_kind, is_allowed, record_rule, record_head, record_late, read_record}
+use Rattle.record.specs.Steps.{Measure, step_of}
+use Rattle.note.specs.Faults.{too_short, fault_number}
+use Rattle.note.specs.declared.Fault.{Fault}
+use Rattle.note.proofs.FaultLaws.{short-some, numbered_fault, fault_undone}
+
+-- A word that names no kind is allowed in no context.
+neither : {a b : Bool} → (a || b) ≡ false → (a ≡ false) × (b ≡ false)
+neither {a = true} {b} e = absurd (false≢true (sym e))
+neither {a = false} {b} e = (refl, e)
+
+pub nowhere : (c : Context) (word : ℕ) → is_kind alone word ≡ false → is_kind c word ≡ false
+unfolding is_kind
+nowhere entry word e = (neither e).0
+nowhere (event seen) word e = (neither e).1
+nowhere alone word e = e
+
+-- No fault has the number 0.
+pub fault-some : (f : Fault) → fault_number f ≡ 0 → ⊥
+fault-some f z =
+    let last : numbered_fault 0 ≡ f = ap numbered_fault (sym z) ∙ fault_undone f in
+    let none : ◌≡◌ {A = ℕ} 13 0 = ap fault_number last ∙ z in
+    omega arith
+
+-- A step that is good: a record's kind word, its body's length.
+abbrev pub measure : ℕ → ℕ → Measure
+measure k n = record { word = k; length = n }
 
 -- The body of a structure whose length word is n, as code cuts it out of its part.
 abbrev pub cut_body : ℕ → List ℕ → List ℕ
@@ -36,11 +57,11 @@ pub cut-bytes : (n : ℕ) (bs : List ℕ) → Bytes bs → Bytes (cut_body n bs)
 cut-bytes n bs = Bytes-part (8 + n - 8) 8 bs
 
 module _ (o : Order) (s : Context) (at : ℕ) (bs : List ℕ) where
-  pub short : length bs < 8 → Bad 2 at ≡ step_of (read_record o s at bs)
+  pub short : length bs < 8 → bad 2 at ≡ step_of (read_record o s at bs)
   unfolding read_record step_of
   short h = rw (lt-leb 8 (length bs) h)
 
-  pub unknown : 8 ≤ length bs → (k : ℕ) → k ≡ word o 0 bs → is_kind s k ≡ false → Bad 5 at ≡ step_of (read_record o s at bs)
+  pub unknown : 8 ≤ length bs → (k : ℕ) → k ≡ word o 0 bs → is_kind s k ≡ false → bad 5 at ≡ step_of (read_record o s at bs)
   unfolding read_record step_of
   unknown h k ek f = rw (← ek, le-leb 8 (length bs) h, f)
 
@@ -51,7 +72,7 @@ pub record Named (o : Order) (s : Context) (bs : List ℕ) (k : ℕ) : Type 0 wh
   pub known : is_kind s k ≡ true
 
 pub long : {o : Order} {s : Context} {bs : List ℕ} {k : ℕ} → Named o s bs k → (at n : ℕ) → n ≡ word o 4 bs → length bs - 8 < n
-    → Bad 2 at ≡ step_of (read_record o s at bs)
+    → bad 2 at ≡ step_of (read_record o s at bs)
 unfolding read_record step_of
 long {o} {s} {bs} {k} a at n en l =
     rw (← a.kind-is, ← en, le-leb 8 (length bs) a.room, a.known, lt-leb (8 + n) (length bs) (omega (arith, l, a.room)))
@@ -73,7 +94,7 @@ module _ {o : Order} {s : Context} {bs : List ℕ} {k n : ℕ} (a : Sized o s bs
   unfolding read_record
   sized_reads = rw (← a.named.kind-is, ← a.length-is, le-leb 8 (length bs) a.named.room, a.named.known, le-leb (8 + n) (length bs) whole)
 
-  pub misplaced : is_allowed s k ≡ false → Bad 9 at ≡ step_of (read_record o s at bs)
+  pub misplaced : is_allowed s k ≡ false → bad 9 at ≡ step_of (read_record o s at bs)
   unfolding step_of
   misplaced p = rw (sized_reads, p)
 
@@ -81,11 +102,11 @@ module _ {o : Order} {s : Context} {bs : List ℕ} {k n : ℕ} (a : Sized o s bs
     is : record_rule o k (take n (drop 8 bs)) ≡ c
     is = ap (record_rule o k) (sym (cut n bs)) ∙ sym ec
 
-    pub fault : (c ≡ 0 → ⊥) → Bad c at ≡ step_of (read_record o s at bs)
+    pub fault : (c ≡ 0 → ⊥) → bad c at ≡ step_of (read_record o s at bs)
     unfolding step_of
     fault z = rw (sized_reads, p, is, positive c z)
 
-    pub good : c ≡ 0 → Good k n ≡ step_of (read_record o s at bs)
+    pub good : c ≡ 0 → ok (measure k n) ≡ step_of (read_record o s at bs)
     unfolding step_of
     good z =
         let size : length (take n (drop 8 bs)) ≡ n = length-take-le n (drop 8 bs) (omega (arith, length-drop 8 bs, whole)) in
@@ -100,16 +121,14 @@ pub record Read (o : Order) (s : Context) (at : ℕ) (bs : List ℕ) (k n : ℕ)
   pub length-is : n ≡ word o 4 bs
   pub follows : record_rule o k (take n (drop 8 bs)) ≡ 0
 
-abbrev is_good : Step → Type 0
-is_good (Good k n) = Unit {0}
-is_good (Bad c p) = ⊥
-
-step_good : (r : Res Record) (k n : ℕ) → Good k n ≡ step_of r → (a : Record) × (r ≡ ok a) × (a.word ≡ k) × (length a.body ≡ n)
+step_good : (r : Res Record) (k n : ℕ) → ok (measure k n) ≡ step_of r → (a : Record) × (r ≡ ok a) × (a.word ≡ k) × (length a.body ≡ n)
 unfolding step_of
-step_good (ok a) k n e = (a, refl, cc, cc)
-step_good (bad c p) k n e = absurd (subst is_good e tt)
+step_good (ok a) k n e =
+    let is : measure k n ≡ measure a.word (length a.body) = ok_inj e in
+    (a, refl, sym (ap (λ (m : Measure). m.word) is), sym (ap (λ (m : Measure). m.length) is))
+step_good (bad c p) k n e = cc
 
-pub step_bad : (r : Res Record) (c p : ℕ) → Bad c p ≡ step_of r → r ≡ bad c p
+pub step_bad : (r : Res Record) (c p : ℕ) → bad c p ≡ step_of r → r ≡ bad c p
 unfolding step_of
 step_bad (ok a) c p e = cc
 step_bad (bad c' p') c p e = cc
@@ -129,7 +148,7 @@ read-shows o s at bs a ea =
     let along : ◌≡◌ {A = Record} a (record { word = word o 0 bs; body = b }) = λ i. record { word = shown.kind-is i; body = sym same i } in
     (record { reads = ea ∙ ap ok along; fits = fits; size = size; kind-is = refl; length-is = refl; follows = z }, along)
 
-pub read-good : (o : Order) (s : Context) (at : ℕ) (bs : List ℕ) (k n : ℕ) → Good k n ≡ step_of (read_record o s at bs) → Read o s at bs k n
+pub read-good : (o : Order) (s : Context) (at : ℕ) (bs : List ℕ) (k n : ℕ) → ok (measure k n) ≡ step_of (read_record o s at bs) → Read o s at bs k n
 read-good o s at bs k n e =
     let (a, ea, e1, e2) = step_good (read_record o s at bs) k n e in
     let (r, is) = read-shows o s at bs a ea in

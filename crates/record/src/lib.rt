@@ -1,14 +1,15 @@
-// One record: what stands at the front of a part, in its context. Every loop over records takes this step.
+// One record: what stands at the front of a part, in its context. Whoever checks records takes this step.
 #![tactic(auto)]
 
-ghost use Rattle.std.specs.Prelude.{◌≡◌, length, ◌<◌};
-ghost use Rattle.theory.specs.Words.{order_from};
+ghost use Rattle.std.specs.Prelude.{◌≡◌, length};
 ghost use Rattle.theory.specs.Tests.{among};
 ghost use Rattle.note.specs.Records.{entry_kinds, record_kinds, event, unseen, is_kind, is_placed, is_allowed, behind, read_record};
-ghost use Rattle.record.specs.Steps.{seen_of, context_of, step_of};
+ghost use Rattle.rules.specs.Kinds.{kind_word};
+ghost use Rattle.record.specs.Steps.{seen_of, context_of, KindIn, head_in, step_of};
 
-use note::{MISPLACED, TOO_SHORT, WRONG_KIND};
-use rules::{ADMINISTRATIVE, CHARGE, GPS, HISTORY, PHONON, TLB, TRACE, TRIGGER, rule};
+use note::{Fault, Refusal};
+use rules::{Kind, rule};
+use theory::Order;
 use words::word_at;
 
 /// The greatest length of a lent file.
@@ -17,166 +18,162 @@ pub const FILE_LIMIT: usize = 16_777_216;
 /// The bytes of a structure's two words, kind and length, in front of its body.
 pub const FRONT: usize = 8;
 
-/// Where a record is read, as a number: as an entry of a configuration. A number below this is an event, and its bits are the kinds that
-/// came before, of those that occur at most once: administrative 1, history 2, GPS 4, trigger 8, TLB 16.
-pub const ENTRY: u32 = 32;
+/// Which kinds came before in an event, of those that occur at most once (FORMAT 6.2).
+#[derive(Clone, Copy, Debug, PartialEq, Eq)]
+pub struct Seen {
+    pub administrative: bool,
+    pub history: bool,
+    pub gps: bool,
+    pub trigger: bool,
+    pub tlb: bool,
+}
 
-/// Where a record is read: alone.
-pub const ALONE: u32 = 33;
+/// Where a record is read (FORMAT 6.1): as an entry of a configuration, in an event after what came before, or alone.
+#[derive(Clone, Copy, Debug, PartialEq, Eq)]
+pub enum Context {
+    Entry,
+    Event(Seen),
+    Alone,
+}
 
-/// What stands at the front of a part: a record's kind word and its body's length, or the refusal.
-#[derive(Drop)]
-pub enum Step {
-    Good { word: u32, length: usize },
-    Bad { number: u32, place: usize },
+/// What stands at the front of a part: a record's kind and its body's length.
+#[derive(Clone, Copy, Debug, PartialEq, Eq)]
+pub struct Head {
+    pub kind: Kind,
+    pub length: usize,
 }
 
 /// An event before its first record.
-pub fn fresh() -> u32
+pub fn fresh() -> Context
     ensures { context_of result ≡ event unseen }
 {
-    0
+    Context::Event(Seen {
+        administrative: false,
+        history: false,
+        gps: false,
+        trigger: false,
+        tlb: false,
+    })
 }
 
-fn is_entry_kind(word: u32) -> bool
-    ensures { result ≡ among word entry_kinds }
+fn is_entry_kind(kind: Kind) -> bool
+    ensures { result ≡ among (kind_word kind) entry_kinds }
 {
-    match word {
-        PHONON => true,
-        CHARGE => true,
-        _ => false,
-    }
+    matches!(kind, Kind::Phonon | Kind::Charge)
 }
 
-// A trace is asked for first: most records are traces.
-fn is_record_kind(word: u32) -> bool
-    ensures { result ≡ among word record_kinds }
+fn is_record_kind(kind: Kind) -> bool
+    ensures { result ≡ among (kind_word kind) record_kinds }
 {
-    if word == TRACE {
-        return true;
-    }
-    match word {
-        ADMINISTRATIVE => true,
-        HISTORY => true,
-        GPS => true,
-        TRIGGER => true,
-        TLB => true,
-        _ => false,
-    }
+    !matches!(kind, Kind::Phonon | Kind::Charge)
 }
 
-// Whether a kind is allowed here.
-fn is_kind(context: u32, word: u32) -> bool
-    ensures { result ≡ is_kind (context_of context) word }
+// Whether a kind is allowed here. A context and a kind go together below: a state, and what comes to it.
+#[tactic(auto, unfolding(note::specs::Records::is_kind))]
+fn is_kind(context: Context, kind: Kind) -> bool
+    ensures { result ≡ is_kind (context_of context) (kind_word kind) }
 {
-    if context < ENTRY {
-        return is_record_kind(word);
+    match context {
+        Context::Entry => is_entry_kind(kind),
+        Context::Event(_) => is_record_kind(kind),
+        Context::Alone => true,
     }
-    if context == ENTRY {
-        return is_entry_kind(word);
-    }
-    if is_entry_kind(word) {
-        return true;
-    }
-    is_record_kind(word)
 }
 
 // Whether a record may stand after those that came before.
-fn is_placed(seen: u32, word: u32) -> bool
-    ensures { result ≡ is_placed (seen_of seen) word }
+#[tactic(auto, unfolding(note::specs::Records::is_placed))]
+fn is_placed(seen: Seen, kind: Kind) -> bool
+    ensures { result ≡ is_placed (seen_of seen) (kind_word kind) }
 {
-    if word == TRACE {
-        return seen % 2 == 1;
+    match kind {
+        Kind::Administrative => !seen.administrative,
+        Kind::History => seen.administrative && !seen.history,
+        Kind::Gps => seen.administrative && !seen.gps,
+        Kind::Trigger => seen.administrative && !seen.trigger,
+        Kind::Tlb => seen.administrative && !seen.tlb,
+        _ => seen.administrative,
     }
-    if word == ADMINISTRATIVE {
-        return seen % 2 != 1;
-    }
-    if seen % 2 != 1 {
-        return false;
-    }
-    match word {
-        HISTORY => seen / 2 % 2 != 1,
-        GPS => seen / 4 % 2 != 1,
-        TRIGGER => seen / 8 % 2 != 1,
-        TLB => seen / 16 % 2 != 1,
+}
+
+#[tactic(auto, unfolding(note::specs::Records::is_allowed))]
+fn is_allowed(context: Context, kind: Kind) -> bool
+    ensures { result ≡ is_allowed (context_of context) (kind_word kind) }
+{
+    match context {
+        Context::Event(seen) => is_placed(seen, kind),
         _ => true,
     }
 }
 
-fn is_allowed(context: u32, word: u32) -> bool
-    ensures { result ≡ is_allowed (context_of context) word }
-{
-    if context < ENTRY {
-        return is_placed(context, word);
-    }
-    true
-}
-
 // What came before in an event, with one record more.
-fn noted(seen: u32, word: u32) -> u32
-    requires { seen < 32 }
-    ensures { context_of result ≡ event (Rattle.note.specs.Records.noted (seen_of seen) word) }
+#[tactic(auto, unfolding(note::specs::Records::noted))]
+fn noted(seen: Seen, kind: Kind) -> Seen
+    ensures { seen_of result ≡ Rattle.note.specs.Records.noted (seen_of seen) (kind_word kind) }
 {
-    match word {
-        ADMINISTRATIVE => seen | 1,
-        HISTORY => seen | 2,
-        GPS => seen | 4,
-        TRIGGER => seen | 8,
-        TLB => seen | 16,
+    match kind {
+        Kind::Administrative => Seen {
+            administrative: true,
+            ..seen
+        },
+        Kind::History => Seen {
+            history: true,
+            ..seen
+        },
+        Kind::Gps => Seen { gps: true, ..seen },
+        Kind::Trigger => Seen {
+            trigger: true,
+            ..seen
+        },
+        Kind::Tlb => Seen { tlb: true, ..seen },
         _ => seen,
     }
 }
 
 /// The context behind a record of that kind. Most records are traces, which change none.
-pub fn next_context(context: u32, word: u32) -> u32
-    ensures { context_of result ≡ behind (context_of context) word }
+#[tactic(auto, unfolding(note::specs::Records::behind))]
+pub fn next_context(context: Context, kind: Kind) -> Context
+    ensures { context_of result ≡ behind (context_of context) (kind_word kind) }
 {
-    if word == TRACE {
-        return context;
+    match context {
+        Context::Event(seen) => Context::Event(noted(seen, kind)),
+        _ => context,
     }
-    if context < ENTRY {
-        return noted(context, word);
+}
+
+// The kind that a word names, of those that are allowed here.
+#[tactic(auto, using(crate::proofs::StepLaws::nowhere))]
+fn kind_in(context: Context, word: u32) -> Result<Kind, Fault>
+    ensures { KindIn (context_of context) word result }
+{
+    let kind = Kind::try_from(word)?;
+    if is_kind(context, kind) {
+        Ok(kind)
+    } else {
+        Err(Fault::WrongKind)
     }
-    context
 }
 
 /// The record at the front of a part, whose first byte stands at the place `at`.
-pub fn record_in(part: &[u8], at: usize, context: u32, big: bool) -> Step
-    ensures { result ≡ step_of (read_record (order_from big) (context_of context) at part.now) }
+pub fn record_in(part: &[u8], at: usize, context: Context, order: Order) -> Result<Head, Refusal>
+    ensures { head_in result ≡ step_of (read_record order (context_of context) at part.now) }
 {
     let room = part.len();
     if room < FRONT {
-        return Step::Bad {
-            number: TOO_SHORT,
-            place: at,
-        };
+        return Err(Fault::TooShort.at(at));
     }
-    let word = word_at(part, 0, big);
-    if !is_kind(context, word) {
-        return Step::Bad {
-            number: WRONG_KIND,
-            place: at,
-        };
-    }
-    let length = word_at(part, 4, big) as usize;
+    let Ok(kind) = kind_in(context, word_at(part, 0, order)) else {
+        return Err(Fault::WrongKind.at(at));
+    };
+    let length = word_at(part, 4, order) as usize;
     if room - FRONT < length {
-        return Step::Bad {
-            number: TOO_SHORT,
-            place: at,
-        };
+        return Err(Fault::TooShort.at(at));
     }
-    if !is_allowed(context, word) {
-        return Step::Bad {
-            number: MISPLACED,
-            place: at,
-        };
+    if !is_allowed(context, kind) {
+        return Err(Fault::Misplaced.at(at));
     }
-    let fault = rule(word, &part[FRONT..FRONT + length], big);
-    if fault != 0 {
-        return Step::Bad {
-            number: fault,
-            place: at,
-        };
+    // A fault gets its place here: `map_err` would give it by a closure.
+    if let Err(fault) = rule(kind, &part[FRONT..FRONT + length], order) {
+        return Err(fault.at(at));
     }
-    Step::Good { word, length }
+    Ok(Head { kind, length })
 }

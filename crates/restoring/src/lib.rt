@@ -10,8 +10,8 @@ use telling::told;
 #[unsafe(no_mangle)]
 pub extern "C" fn dwj_rewrite(file: &[u8], out: &mut [u8], next: &mut u64, refusal: &mut u64) -> u32
     ensures { Told (rewrite_next file.now out.old) (rewrite_output file.now out.old)
-        (record { next = next.entry.now; refusal = refusal.old })
-        (record { number = result; next = next.exit.now; refusal = refusal.new }) out.new }
+        (record { next = next.old; refusal = refusal.old })
+        (record { number = result; next = next.new; refusal = refusal.new }) out.new }
 {
     let answer = dwejrasq::rewrite(file, out);
     told(answer, next, refusal)

@@ -12,6 +12,11 @@ use Rattle.theory.proofs.TestLaws.{first-at, most_passed}
 use Rattle.note.specs.Words.{word}
 use Rattle.note.specs.History.{width_at, width_of, end_at, section_tests, section_rule}
 
+-- Where a section's width stands, its width and its end, open.
+unfoldable pub places : ℕ
+unfolding width_at width_of end_at
+places = 0
+
 pub product : (n w : ℕ) → n ≤ 0x40000000 → w ≤ 0x7FFFFFFF → n * w ≤ 0x40000000 * 0x7FFFFFFF
 product n w h k = mul-le-mul h k
 
@@ -30,3 +35,6 @@ module _ (o : Order) (t : Bool) (p : ℕ) (b : List ℕ) (e : section_rule o t p
       let r : p + 4 + 4 * word o p b + 4 ≤ length b = room in
       let q : word o p b * width_of o p b ≤ 0x40000000 * 0x7FFFFFFF = product (word o p b) (width_of o p b) (omega arith) thin in
       omega (arith, q, r)
+
+-- The three, for the search.
+pub ruleset followed = (room, thin, small)

@@ -1,13 +1,18 @@
--- Runs of stores, one after the other: of lists, of a list block by block, of words.
+-- Runs of stores, one after the other: of lists, of words; and a part that is copied.
 -- The idea: `sets` of one list after another is `sets` of both, whatever the room.
-use Prim.Native.Nat.{ℕ, ◌+◌, ◌-◌, ◌*◌, ◌≤◌, ◌<◌}
+use Prim.Native.Nat.{ℕ, ◌+◌, ◌-◌, ◌*◌, ◌/◌, ◌≤◌, ◌<◌}
 use mathlib.Core.Path.{◌≡◌, refl, sym, ap, ◌∙◌}
-use mathlib.Core.List.{List, [], ◌∷◌, ◌++◌}
+use mathlib.Core.List.{List, [], ◌∷◌, ◌++◌, append_assoc}
 use native.Mathlib.Omega.{arith}
 use native.Mathlib.Numerals.{add-one}
-use lib.ListN.{length, take, drop, get_or, set}
-use lib.Seq.{sets, sets-eq, length-take-le, take-add, take-suc, take-append_seam}
+use lib.ListN.{length, take, drop, get_or}
+use lib.Seq.{sets, sets-eq, length-take-le, take-suc}
+use borrow.Rule.Slice.PartMut.{put_mid}
+use Rattle.std.specs.Int.{w32, to_le_bytes}
+use Rattle.std.proofs.lemmas.List.Edits.{paste_all}
+use Rattle.std.proofs.lemmas.Slice.{put_mid-paste}
 use Rattle.theory.specs.declared.Order.{Order}
+use Rattle.theory.specs.Words.{bytes}
 use Rattle.theory.proofs.WordLaws.{length-puts, puts-append}
 use Rattle.theory.proofs.StoreLaws.{sets-append}
 use Rattle.note.specs.Words.{words}
@@ -31,26 +36,30 @@ in_a_row l at [] = refl
 in_a_row l at (x ∷ []) = refl
 in_a_row l at (x ∷ (y ∷ ys)) = in_a_row (sets l at x) (at + length x) (y ∷ ys) ∙ sets-append l at x (joined (y ∷ ys))
 
--- A block more of a part, one element more of it, and one word more of a list of words that is stored as bytes.
-pub block_more : (l s : List ℕ) (at i j : ℕ) → i ≤ j → j ≤ length s
-    → sets (sets l at (take i s)) (at + i) (take (j - i) (drop i s)) ≡ sets l at (take j s)
-block_more l s at i j h k =
-    let both : i + (j - i) ≡ j = omega arith in
-    stored_next l at (at + i) (take i s) (take (j - i) (drop i s)) (omega (arith, length-take-le i s (omega arith)))
-    ∙ ap (sets l at) (sym (take-add i (j - i) s) ∙ ap (λ (m : ℕ). take m s) both)
+-- What was copied into `&mut l[at..end]`, seen in the whole.
+pub copied : (l : List ℕ) (at end : ℕ) (part vs : List ℕ) → part ≡ vs → at + length vs ≡ end → end ≤ length l
+    → put_mid at (end - at) l part ≡ sets l at vs
+copied l at end part vs e size room =
+    put_mid-paste at (end - at) l part vs (length vs) e (omega arith) refl
+    ∙ paste_all l at vs (length vs) refl
+    ∙ sym (sets-eq vs l at (omega arith) ∙ append_assoc (take at l) vs (drop (at + length vs) l))
 
-pub one_more : (l s : List ℕ) (at i : ℕ) → i < length s → set (sets l at (take i s)) (at + i) (get_or s i 0) ≡ sets l at (take (i + 1) s)
-one_more l s at i h =
-    stored_next l at (at + i) (take i s) (get_or s i 0 ∷ []) (omega (arith, length-take-le i s (omega arith)))
-    ∙ rw (add-one, take-suc s i 0)
+-- A word's bytes, the lowest first, as the machine gives them.
+pub low_first : (w : ℕ) → to_le_bytes w32 w ≡ bytes 4 w
+unfolding bytes
+low_first w =
+    let third : w / 65536 ≡ w / 256 / 256 = omega arith in
+    let fourth : w / 16777216 ≡ w / 256 / 256 / 256 = omega arith in
+    rw (third, fourth)
 
-pub word_more : (o : Order) (l ws : List ℕ) (at i : ℕ) → i < length ws
-    → sets (sets l at (words o (take i ws))) (at + 4 * i) (words o (get_or ws i 0 ∷ [])) ≡ sets l at (words o (take (i + 1) ws))
-word_more o l ws at i h =
-    stored_next l at (at + 4 * i) (words o (take i ws)) (words o (get_or ws i 0 ∷ []))
+-- The first i words are stored, and the next one's bytes were copied behind them.
+pub word_more : (o : Order) (out ws : List ℕ) (at i : ℕ) {l part : List ℕ} → i < length ws → at + 4 * i + 4 ≤ length l
+    → l ≡ sets out at (words o (take i ws)) → part ≡ words o (get_or ws i 0 ∷ [])
+    → put_mid (at + 4 * i) (at + 4 * i + 4 - (at + 4 * i)) l part ≡ sets out at (words o (take (i + 1) ws))
+word_more o out ws at i {l} {part} h room stored e =
+    let word : List ℕ = words o (get_or ws i 0 ∷ []) in
+    copied l (at + 4 * i) (at + 4 * i + 4) part word e (omega (arith, length-puts o 4 (get_or ws i 0 ∷ []))) room
+    ∙ ap (λ (x : List ℕ). sets x (at + 4 * i) word) stored
+    ∙ stored_next out at (at + 4 * i) (words o (take i ws)) word
     (omega (arith, length-puts o 4 (take i ws), length-take-le i ws (omega arith)))
     ∙ rw (add-one, take-suc ws i 0, puts-append)
-
--- What was stored at the front stands there.
-pub front-stored : (l a : List ℕ) → 0 + length a ≤ length l → take (length a) (sets l 0 a) ≡ a
-front-stored l a h = ap (take (length a)) (sets-eq a l 0 h) ∙ take-append_seam a (drop (0 + length a) l)

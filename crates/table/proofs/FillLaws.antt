@@ -1,7 +1,7 @@
 -- Filling the rows of records that were checked: what is known at each turn, and what a turn leads to.
 -- The idea: the whole is known to be read, so what stands next is read too, and its kind and length words say what it is.
 use mathlib.Core.Path.{◌≡◌, refl, sym, ap, ap₂, ◌∙◌, subst}
-use mathlib.Core.Bool.{true}
+use mathlib.Core.Bool.{true, false}
 use mathlib.Core.List.{List, [], ◌∷◌, ◌++◌, map-append}
 use Prim.Native.Nat.{ℕ, ◌+◌, ◌*◌, ◌≤◌, ◌<◌}
 use native.Mathlib.Nat.{add-zero}
@@ -15,11 +15,15 @@ use Rattle.theory.proofs.LayoutLaws.{length-child_rows}
 use Rattle.theory.proofs.LoopLaws.{At, start, ended, prefix, reads}
 use Rattle.note.specs.Limits.{file_limit, row_width}
 use Rattle.note.specs.Words.{word}
-use Rattle.note.specs.Records.{Record, Context, behind, read_records}
+use Rattle.note.specs.Records.{Record, Context, behind, record_rule, read_records}
 use Rattle.note.specs.Rows.{child_of, children_of}
 use Rattle.demands.proofs.Bundles.{record_item, same_record, same-records}
-use Rattle.record.proofs.StepLaws.{Read, read-shows, cut_body, cut, body-follows, cut-length}
-use Rattle.containers.proofs.RecordLoop.{record_at, behind_of, on}
+use Rattle.record.proofs.StepLaws.{Read, read-shows}
+use Rattle.structures.specs.declared.Structure.{Structure}
+use Rattle.structures.specs.declared.Sequence.{Sequence}
+use Rattle.structures.specs.Standing.{stands, Given}
+use Rattle.structures.proofs.StandingLaws.{none_over, given_fits, given_some, given_length, in_order}
+use Rattle.containers.proofs.RecordLoop.{record_at, left, on}
 use Rattle.rows.specs.declared.Row as code
 use Rattle.rows.specs.declared.Values.{Values}
 use Rattle.rows.specs.Buffers.{row_of, stored}
@@ -42,59 +46,86 @@ rows_append p at (x ∷ xs) c =
     (rows_append p (at + x.size) xs c ∙ ap (λ (q : ℕ). child_rows p (at + x.size) xs ++ (child_row p q c ∷ [])) e)
 
 -- What is known at a turn, in one context: the records so far, the place behind them, and their rows in the buffer.
-pub record FillingIn (o : Order) (s₀ : Context) (from : ℕ) (bs rows₀ : List ℕ) (first parent : ℕ) (rows rest : List ℕ) (at n : ℕ) : Type 0 where
+pub record FillingIn (o : Order) (s₀ : Context) (from : ℕ) (bs rows₀ : List ℕ) (first parent : ℕ) (rows : List ℕ) (s : Sequence) (n : ℕ)
+    : Type 0 where
   pub state : Context
   pub xs : List Record
-  pub is : At (record_item o) s₀ from bs state at rest xs
-  pub here : at ≡ from + total (children_of o xs)
+  pub is : At (record_item o) s₀ from bs state s.at s.rest.now xs
+  pub here : s.at ≡ from + total (children_of o xs)
   pub row : n ≡ first + length xs
   pub held : rows ≡ stored rows₀ first (child_rows parent from (children_of o xs))
 
 -- What is known at a turn: that, in each context in which the part is read.
-abbrev pub Filling : Order → ℕ → List ℕ → List ℕ → ℕ → ℕ → List ℕ → List ℕ → ℕ → ℕ → Type 0
-Filling o from bs rows₀ first parent rows rest at n =
-    (s : Context) (rs : List Record) → read_records o s from bs ≡ ok rs → FillingIn o s from bs rows₀ first parent rows rest at n
+pub record Filling (o : Order) (from : ℕ) (bs rows₀ : List ℕ) (first parent : ℕ) (rows : List ℕ) (s : Sequence) (n : ℕ) : Type 0 where
+  pub order : s.order ≡ o
+  pub in_each : (c : Context) (rs : List Record) → read_records o c from bs ≡ ok rs → FillingIn o c from bs rows₀ first parent rows s n
 
-pub begin : (o : Order) (from : ℕ) (bs rows : List ℕ) (first parent : ℕ) → Filling o from bs rows first parent rows bs from first
+pub begin : (o : Order) (from : ℕ) (bs rows : List ℕ) (first parent : ℕ) (s : Sequence) → s.rest.now ≡ bs → s.at ≡ from → s.order ≡ o
+    → Filling o from bs rows first parent rows s first
 unfolding child_rows
-begin o from bs rows first parent s rs e =
-    record { state = s; xs = []; is = start (record_item o) s from bs; here = omega arith; row = omega arith; held = sym (stored-nil rows first) }
+begin o from bs rows first parent s eb ef eo = record {
+  order = eo;
+  in_each = λ c rs e. record {
+    state = c;
+    xs = [];
+    is = rw (eb, ef) (start (record_item o) c from bs);
+    here = omega (arith, ef);
+    row = omega arith;
+    held = sym (stored-nil rows first);
+  };
+}
 
--- The row that code stores for a record: its values, where it begins, its length word, its parent's number.
-abbrev put_row : Values → ℕ → ℕ → ℕ → code.Row
-put_row v at m parent = record { kind = v.kind; start = at; whole = 8 + m; parent = parent; one = v.one; two = v.two }
+-- The row that code stores for a record: its values, its structure's place and length, its parent's number.
+abbrev put_row : Values → Structure → ℕ → code.Row
+put_row v x parent = record { kind = v.kind; start = x.place; whole = 8 + length x.body.now; parent = parent; one = v.one; two = v.two }
 
 -- In one context.
-module _ {o : Order} {s₀ : Context} {from : ℕ} {bs rows₀ : List ℕ} {first parent : ℕ} {rows rest : List ℕ} {at n : ℕ}
-    (i : FillingIn o s₀ from bs rows₀ first parent rows rest at n) (rs : List Record) (w : read_records o s₀ from bs ≡ ok rs) where
+module _ {o : Order} {s₀ : Context} {from : ℕ} {bs rows₀ : List ℕ} {first parent : ℕ} {rows : List ℕ} {s : Sequence} {n : ℕ}
+    (i : FillingIn o s₀ from bs rows₀ first parent rows s n) (rs : List Record) (w : read_records o s₀ from bs ≡ ok rs) where
   -- the rows so far
   abbrev old : List Row
   old = child_rows parent from (children_of o i.xs)
 
+  abbrev rest : List ℕ
+  rest = s.rest.now
+
+  abbrev k : ℕ
+  k = word o 0 rest
+
+  abbrev m : ℕ
+  m = word o 4 rest
+
   same_rows_in : length rows ≡ length rows₀
   same_rows_in = ap length i.held ∙ length-stored rows₀ first old
 
-  done_in : length rest ≤ 0 → (rows ≡ stored rows₀ first (child_rows parent from (children_of o rs))) × (n ≡ first + length rs)
-  done_in h =
-      let same : i.xs ≡ rs = ok_inj (ended (record_item o) i.is (omega arith) ∙ sym (same-records o s₀ from bs) ∙ w) in (
+  -- what stands next was read
+  shown : 0 < length rest → Read o i.state s.at rest k m
+  shown l =
+      let (a, e) = reads (record_item o) i.is l rs (sym (same-records o s₀ from bs) ∙ w) in
+      (read-shows o i.state s.at rest a (same_record o i.state s.at rest ∙ e)).0
+
+  done_in : stands o rest ≡ false → (rows ≡ stored rows₀ first (child_rows parent from (children_of o rs))) × (n ≡ first + length rs)
+  done_in none =
+      let over : length rest ≤ 0 = none_over o rest none (λ l. (shown l).fits) in
+      let same : i.xs ≡ rs = ok_inj (ended (record_item o) i.is (omega (arith, over)) ∙ sym (same-records o s₀ from bs) ∙ w) in (
         i.held ∙ ap (λ (x : List Record). stored rows₀ first (child_rows parent from (children_of o x))) same,
         i.row ∙ ap (λ (x : List Record). first + length x) same,
       )
 
-  module _ (l : 0 < length rest) (k m : ℕ) (ek : k ≡ word o 0 rest) (em : m ≡ word o 4 rest) where
-    -- what stands next was read
-    shown : Read o i.state at rest k m
-    shown =
-        let (a, e) = reads (record_item o) i.is l rs (sym (same-records o s₀ from bs) ∙ w) in
-        let r = (read-shows o i.state at rest a (same_record o i.state at rest ∙ e)).0 in
-        subst (λ (x : ℕ). Read o i.state at rest x m) (sym ek) (subst (Read o i.state at rest (word o 0 rest)) (sym em) r)
+  module _ {t : Sequence} {x : Structure} (g : Given o s x t) where
+    read : Read o i.state s.at rest k m
+    read = shown (given_some g)
 
     abbrev this : Record
     this = record_at k m rest
 
     -- the loop behind it
-    moved : At (record_item o) s₀ from bs (behind i.state k) (at + (8 + m)) (behind_of (8 + m) rest) (i.xs ++ this ∷ [])
-    moved = on i.is l k m shown (behind i.state k) refl
+    moved : At (record_item o) s₀ from bs (behind i.state k) t.at t.rest.now (i.xs ++ this ∷ [])
+    moved =
+        subst (λ (p : ℕ). At (record_item o) s₀ from bs (behind i.state k) p t.rest.now (i.xs ++ this ∷ [])) (sym g.at_is)
+        (subst (λ (r : List ℕ). At (record_item o) s₀ from bs (behind i.state k) (s.at + (8 + m)) r (i.xs ++ this ∷ []))
+        (sym (left (8 + m) rest) ∙ sym g.rest_is)
+        (on i.is (given_some g) k m read (behind i.state k) refl))
 
     row_fits_in : (first + length rs) * row_width ≤ length rows₀ → n * row_width + row_width ≤ length rows
     row_fits_in h =
@@ -114,65 +145,65 @@ module _ {o : Order} {s₀ : Context} {from : ℕ} {bs rows₀ : List ℕ} {firs
     row_is : n ≡ first + length old
     row_is = omega (arith, i.row, length-child_rows parent from (children_of o i.xs), length-map i.xs (child_of o))
 
-    module _ (v : Values) (ev : v ≡ values_of o k (cut_body m rest)) where
-      mine-is : row_of (put_row v at m parent) ≡ mine
+    module _ (v : Values) (ev : v ≡ values_of o x.word x.body.now) where
+      mine-is : row_of (put_row v x parent) ≡ mine
       unfolding child_of values_of row_of
       mine-is =
-          let v-is : v ≡ values_of o k (take m (drop 8 rest)) = ev ∙ ap (values_of o k) (cut m rest) in
-          rw (v-is, shown.size, i.here)
+          let v-is : v ≡ values_of o k (take m (drop 8 rest)) = rw (g.word_is, g.body_is) at ev in
+          rw (v-is, g.place_is, g.body_is, i.here)
 
-      next_in : (rows' : List ℕ) → rows' ≡ stored rows n (row_of (put_row v at m parent) ∷ [])
-          → FillingIn o s₀ from bs rows₀ first parent rows' (behind_of (8 + m) rest) (at + (8 + m)) (n + 1)
+      next_in : (rows' : List ℕ) → rows' ≡ stored rows n (row_of (put_row v x parent) ∷ [])
+          → FillingIn o s₀ from bs rows₀ first parent rows' t (n + 1)
       unfolding child_of
       next_in rows' ew = record {
         state = behind i.state k;
         xs = i.xs ++ this ∷ [];
         is = moved;
-        here = omega (arith, i.here, ap total with_this, total-append (children_of o i.xs) (child_of o this), shown.size);
+        here = omega (arith, i.here, ap total with_this, total-append (children_of o i.xs) (child_of o this), read.size, g.at_is);
         row = omega (arith, i.row, length-append i.xs (this ∷ []));
         held = ew
             ∙ ap (λ (r : Row). stored rows n (r ∷ [])) mine-is
-            ∙ ap₂ (λ (x : List ℕ) (y : ℕ). stored x y (mine ∷ [])) i.held row_is
+            ∙ ap₂ (λ (z : List ℕ) (y : ℕ). stored z y (mine ∷ [])) i.held row_is
             ∙ sym (stored-append rows₀ first old (mine ∷ []))
             ∙ ap (stored rows₀ first) (sym with_mine);
       }
 
 -- At a turn of the loop over a part that can be filled.
-module _ {o : Order} {from : ℕ} {bs rows₀ : List ℕ} {first parent : ℕ} {rows rest : List ℕ} {at n : ℕ}
-    (i : Filling o from bs rows₀ first parent rows rest at n) (p : Fillable o from bs (length rows₀) first) where
-  abbrev here : FillingIn o p.context from bs rows₀ first parent rows rest at n
-  here = i p.context p.records p.reads
+module _ {o : Order} {from : ℕ} {bs rows₀ : List ℕ} {first parent : ℕ} {rows : List ℕ} {s : Sequence} {n : ℕ}
+    (i : Filling o from bs rows₀ first parent rows s n) (p : Fillable o from bs (length rows₀) first) where
+  abbrev here : FillingIn o p.context from bs rows₀ first parent rows s n
+  here = i.in_each p.context p.records p.reads
 
   pub same_rows : length rows ≡ length rows₀
   same_rows = same_rows_in here p.records p.reads
 
-  module _ (l : 0 < length rest) where
-    -- the record that stands next fits what is left, which ends within the limit
-    pub sized : (m : ℕ) → m ≡ word o 4 rest → (8 + m ≤ length rest) × (at + (8 + m) ≤ file_limit)
-    sized m em =
-        let r = shown here p.records p.reads l _ m refl em in
-        (r.fits, omega (arith, r.fits, here.is.place, p.within))
+  module _ {t : Sequence} {x : Structure} (given : Given s.order s x t) where
+    g : Given o s x t
+    g = in_order i.order given
 
-    -- its body, as code cuts it, holds its row's values
-    pub valued : (k m : ℕ) → k ≡ word o 0 rest → m ≡ word o 4 rest
-        → (has_values o k (cut_body m rest) ≡ true) × (length (cut_body m rest) ≤ file_limit)
-    valued k m ek em =
-        let r = shown here p.records p.reads l k m ek em in (
-          rule_has_values o k _ (body-follows o here.state at rest k m r),
-          omega (arith, cut-length m rest r.fits, (sized m em).1),
-        )
+    -- the record that stands next ends within the limit
+    pub sized : x.place + (8 + length x.body.now) ≤ file_limit
+    sized = omega (arith, g.place_is, given_length g, given_fits g, here.is.place, p.within)
+
+    -- its body holds its row's values
+    pub valued : (has_values o x.word x.body.now ≡ true) × (length x.body.now ≤ file_limit)
+    valued =
+        let follows : record_rule o (word o 0 s.rest.now) (take (word o 4 s.rest.now) (drop 8 s.rest.now)) ≡ 0 =
+        (read here p.records p.reads g).follows in
+        (rule_has_values o x.word x.body.now (rw (g.word_is, g.body_is) follows), omega (arith, sized))
 
     -- its row fits the buffer
     pub row_fits : n * row_width + row_width ≤ length rows
-    row_fits = row_fits_in here p.records p.reads l _ _ refl refl p.fits
+    row_fits = row_fits_in here p.records p.reads g p.fits
 
 -- Behind a turn, and at the end.
-module _ {o : Order} {from : ℕ} {bs rows₀ : List ℕ} {first parent : ℕ} {rows rest : List ℕ} {at n : ℕ}
-    (i : Filling o from bs rows₀ first parent rows rest at n) where
-  pub next : 0 < length rest → (k m : ℕ) → k ≡ word o 0 rest → m ≡ word o 4 rest → (v : Values) → v ≡ values_of o k (cut_body m rest)
-      → (rows' : List ℕ) → rows' ≡ stored rows n (row_of (put_row v at m parent) ∷ [])
-      → Filling o from bs rows₀ first parent rows' (behind_of (8 + m) rest) (at + (8 + m)) (n + 1)
-  next l k m ek em v ev rows' ew s rs w = next_in (i s rs w) rs w l k m ek em v ev rows' ew
+module _ {o : Order} {from : ℕ} {bs rows₀ : List ℕ} {first parent : ℕ} {rows : List ℕ} {s : Sequence} {n : ℕ}
+    (i : Filling o from bs rows₀ first parent rows s n) where
+  pub next : {t : Sequence} {x : Structure} → Given s.order s x t → (v : Values) → v ≡ values_of o x.word x.body.now
+      → (rows' : List ℕ) → rows' ≡ stored rows n (row_of (put_row v x parent) ∷ []) → Filling o from bs rows₀ first parent rows' t (n + 1)
+  next given v ev rows' ew =
+      let g = in_order i.order given in
+      record { order = g.order_is ∙ i.order; in_each = λ c rs w. next_in (i.in_each c rs w) rs w g v ev rows' ew }
 
-  pub done : length rest ≤ 0 → Filled o from bs rows₀ first parent rows n
-  done h s rs w = done_in (i s rs w) rs w h
+  pub done : stands s.order s.rest.now ≡ false → Filled o from bs rows₀ first parent rows n
+  done none c rs w = done_in (i.in_each c rs w) rs w (ap (λ (q : Order). stands q s.rest.now) (sym i.order) ∙ none)

@@ -1,10 +1,9 @@
 -- What a C caller finds in the numbers that it lent to a writer: the next place, or a refusal's place; otherwise what stood there. Said once for
 -- all writers, closings and Rewrite.
-use Rattle.std.specs.Prelude.{ℕ, ◌≡◌, List}
+use Rattle.std.specs.Prelude.{ℕ, ◌≡◌, List, Result}
 use Rattle.theory.specs.Tests.{Res, ok, bad}
-use Rattle.note.specs.Answers.{given_writer}
-use Rattle.note.specs.declared.WriterAnswer.{WriterAnswer}
-use Rattle.note.specs.Writers.{writer_given}
+use Rattle.note.specs.Faults.{res_of}
+use Rattle.note.specs.declared.Refusal.{Refusal}
 
 -- The two numbers that a caller lends, as they stand before the call.
 pub record Before : Type 0 where
@@ -26,6 +25,6 @@ after_of (bad number place) before = record { number = number; next = before.nex
 abbrev pub Told : Res ℕ → List ℕ → Before → After → List ℕ → Type 0
 Told r output before after out = (after ≡ after_of r before) × (out ≡ output)
 
--- An answer told, whatever result it is the answer of.
-abbrev pub Tells : WriterAnswer → Before → After → Type 0
-Tells answer before after = (r : Res ℕ) → given_writer answer ≡ writer_given r → after ≡ after_of r before
+-- An answer told.
+abbrev pub Tells : Result ℕ Refusal → Before → After → Type 0
+Tells answer before after = after ≡ after_of (res_of answer) before

@@ -32,38 +32,18 @@ row_of_yield (Yield.Row k s w p a b) = record { kind = k; start = s; whole = w; 
 row_of_yield Yield.End = no_row
 row_of_yield (Yield.Refused c p) = no_row
 
-abbrev is_row : WalkerYield → Type 0
-is_row (Yield.Row k s w p a b) = Unit {0}
-is_row Yield.End = ⊥
-is_row (Yield.Refused c p) = ⊥
-
-abbrev is_end : WalkerYield → Type 0
-is_end (Yield.Row k s w p a b) = ⊥
-is_end Yield.End = Unit {0}
-is_end (Yield.Refused c p) = ⊥
-
--- Of a walk that stands before rows: it yields a row where there is one.
-record Next (bs : List ℕ) (at : Spot) (xs : List Row) : Type 0 where
-  one : Row
-  others : List Row
-  splits : xs ≡ one ∷ others
-  here : at.last ≡ row_yield one
-  on : Yields bs (step_of bs at) others
-
-coming : (bs : List ℕ) (at : Spot) (xs : List Row) → Yields bs at xs → is_row at.last → Next bs at xs
+-- Of a walk that stands before rows: where it yields a row, that one is next.
+coming : (bs : List ℕ) (at : Spot) (xs : List Row) → Yields bs at xs → {a b c d e f : ℕ} → at.last ≡ Yield.Row a b c d e f
+    → (others : List Row) × (xs ≡ row_of_yield at.last ∷ others) × Yields bs (step_of bs at) others
 unfolding Yields steps_from
-coming bs at [] h r = absurd (subst is_row (h 0) r)
-coming bs at (x ∷ xs) h r = record { one = x; others = xs; splits = refl; here = h.0; on = h.1 }
+coming bs at [] h r = let never : Yield.End ≡ _ = sym (h 0) ∙ r in cc
+coming bs at (x ∷ xs) h r = (xs, ap (λ (z : Row). z ∷ xs) (sym (ap row_of_yield h.0)), h.1)
 
-none_left : (bs : List ℕ) (at : Spot) (xs : List Row) → Yields bs at xs → is_end at.last → xs ≡ []
+-- Where it yields none, none is left.
+none_left : (bs : List ℕ) (at : Spot) (xs : List Row) → Yields bs at xs → ((a b c d e f : ℕ) → at.last ≡ Yield.Row a b c d e f → ⊥) → xs ≡ []
 unfolding Yields
-none_left bs at [] h e = refl
-none_left bs at (x ∷ xs) h e = absurd (subst is_end h.0 e)
-
-never_refused : (bs : List ℕ) (at : Spot) (xs : List Row) → Yields bs at xs → (c p : ℕ) → at.last ≡ Yield.Refused c p → ⊥
-unfolding Yields steps_from
-never_refused bs at [] h c p e = subst is_end (sym (h 0) ∙ e) tt
-never_refused bs at (x ∷ xs) h c p e = subst is_row (sym h.0 ∙ e) tt
+none_left bs at [] h n = refl
+none_left bs at (x ∷ xs) h n = absurd (n _ _ _ _ _ _ h.0)
 
 -- ---- pieces of lists
 
@@ -88,58 +68,16 @@ record Running (bs : List ℕ) (rs : List Row) (first : ℕ) (old new : List ℕ
   some : length (take n (drop first rs)) ≡ n
   low : k ≤ first
 
--- The walk took one step, to `next`, and yields y there.
-pub record Stepped (bs : List ℕ) (at next : Spot) (y : WalkerYield) : Type 0 where
-  pub next-is : next ≡ step_of bs at
-  pub yield_is : y ≡ next.last
-
 module _ {bs : List ℕ} {rs : List Row} {first : ℕ} {old new : List ℕ} {at : Spot} {k n : ℕ} (i : Running bs rs first old new at k n)
-    {next : Spot} {y : WalkerYield} (s : Stepped bs at next y) where
+    {next : Spot} (s : next ≡ step_of bs at) where
   yields : Yields bs next (drop (k + n) rs)
-  yields = subst (λ (x : Spot). Yields bs x (drop (k + n) rs)) (sym s.next-is) i.ahead
+  yields = subst (λ (x : Spot). Yields bs x (drop (k + n) rs)) (sym s) i.ahead
 
-  coming_row : is_row y → Next bs next (drop (k + n) rs)
-  coming_row r = coming bs next (drop (k + n) rs) yields (subst is_row s.yield_is r)
-
-  on_from : (a : ℕ) → a ≡ k + n + 1 → is_row y → Yields bs (step_of bs next) (drop a rs)
-  on_from a ea r =
-      let x = coming_row r in
-      let others-are : x.others ≡ drop a rs =
-      sym (behind-one rs (k + n) x.one x.others x.splits) ∙ ap (λ (m : ℕ). drop m rs) (sym ea) in
-      subst (Yields bs (step_of bs next)) others-are x.on
-
-  passed : is_row y → k < first → Running bs rs first old new next (k + 1) n
-  passed r l = record {
-    ahead = on_from (k + 1 + n) (omega arith) r;
-    held = i.held;
-    some = i.some;
-    low = omega arith;
-  }
-
-  kept : is_row y → first ≤ k → (new' : List ℕ) → new' ≡ stored new n (row_of_yield y ∷ [])
-      → Running bs rs first old new' next k (n + 1)
-  kept r l new' ew =
-      let x = coming_row r in
-      let xs : List Row = drop first rs in
-      let same : row_of_yield y ≡ x.one = ap row_of_yield (s.yield_is ∙ x.here) in
-      let m : first + n ≡ k + n = omega (arith, i.low, l) in
-      let here : drop n xs ≡ x.one ∷ x.others = drop-drop n first rs ∙ ap (λ (q : ℕ). drop q rs) m ∙ x.splits in
-      let place : n ≡ 0 + length (take n xs) = omega (arith, i.some) in
-      let all : take (n + 1) xs ≡ take n xs ++ (x.one ∷ []) = take-one xs n x.one x.others here i.some in
-      record {
-        ahead = on_from (k + (n + 1)) (omega arith) r;
-        held = ew ∙ ap (λ (z : Row). stored new n (z ∷ [])) same
-            ∙ ap₂ (λ (z : List ℕ) (q : ℕ). stored z q (x.one ∷ [])) i.held place
-            ∙ sym (stored-append old 0 (take n xs) (x.one ∷ [])) ∙ ap (stored old 0) (sym all);
-        some = ap length all ∙ length-append (take n xs) (x.one ∷ []) ∙ ap (λ (q : ℕ). q + 1) i.some;
-        low = i.low;
-      }
-
-  finished : (room : ℕ) → n ≤ room → is_end y
+  finished : (room : ℕ) → n ≤ room → ((a b c d e f : ℕ) → next.last ≡ Yield.Row a b c d e f → ⊥)
       → (new ≡ stored old 0 (take room (drop first rs))) × (n ≡ length (take room (drop first rs)))
-  finished room l e =
+  finished room l none =
       let xs : List Row = drop first rs in
-      let z : drop (k + n) rs ≡ [] = none_left bs next (drop (k + n) rs) yields (subst is_end s.yield_is e) in
+      let z : drop (k + n) rs ≡ [] = none_left bs next (drop (k + n) rs) yields none in
       let m : k + n + (first - k) ≡ first + n = omega (arith, i.low) in
       let gone : drop n xs ≡ [] =
       drop-drop n first rs ∙ ap (λ (q : ℕ). drop q rs) (sym m) ∙ sym (drop-drop (first - k) (k + n) rs)
@@ -148,6 +86,35 @@ module _ {bs : List ℕ} {rs : List Row} {first : ℕ} {old new : List ℕ} {at 
       let size : length xs ≡ n = ap length (sym whole) ∙ i.some in
       let all : take room xs ≡ take n xs = take_all room xs (omega (arith, size)) ∙ sym whole in
       (i.held ∙ ap (stored old 0) (sym all), sym i.some ∙ ap length (sym all))
+
+  module _ {a b c d e f : ℕ} (r : next.last ≡ Yield.Row a b c d e f) where
+    abbrev one : Row
+    one = row_of_yield next.last
+
+    on_from : (m : ℕ) → m ≡ k + n + 1 → Yields bs (step_of bs next) (drop m rs)
+    on_from m em =
+        let (others, splits, on) = coming bs next (drop (k + n) rs) yields r in
+        let others-are : others ≡ drop m rs = sym (behind-one rs (k + n) one others splits) ∙ ap (λ (q : ℕ). drop q rs) (sym em) in
+        subst (Yields bs (step_of bs next)) others-are on
+
+    passed : k < first → Running bs rs first old new next (k + 1) n
+    passed l = record { ahead = on_from (k + 1 + n) (omega arith); held = i.held; some = i.some; low = omega arith }
+
+    kept : first ≤ k → (new' : List ℕ) → new' ≡ stored new n (one ∷ []) → Running bs rs first old new' next k (n + 1)
+    kept l new' ew =
+        let (others, splits, on) = coming bs next (drop (k + n) rs) yields r in
+        let xs : List Row = drop first rs in
+        let m : first + n ≡ k + n = omega (arith, i.low, l) in
+        let here : drop n xs ≡ one ∷ others = drop-drop n first rs ∙ ap (λ (q : ℕ). drop q rs) m ∙ splits in
+        let place : n ≡ 0 + length (take n xs) = omega (arith, i.some) in
+        let all : take (n + 1) xs ≡ take n xs ++ (one ∷ []) = take-one xs n one others here i.some in
+        record {
+          ahead = on_from (k + (n + 1)) (omega arith);
+          held = ew ∙ ap₂ (λ (z : List ℕ) (q : ℕ). stored z q (one ∷ [])) i.held place
+              ∙ sym (stored-append old 0 (take n xs) (one ∷ [])) ∙ ap (stored old 0) (sym all);
+          some = ap length all ∙ length-append (take n xs) (one ∷ []) ∙ ap (λ (q : ℕ). q + 1) i.some;
+          low = i.low;
+        }
 
 -- ---- the loop that stores
 
@@ -165,14 +132,11 @@ begin bs from first room old = record {
   runs = λ rs h. record { ahead = h; held = sym (stored-nil old 0); some = refl; low = omega arith };
 }
 
+-- A turn that passes over a row, and one that stores it; the walk has taken one step, to `next`.
 module _ {bs : List ℕ} {from : Spot} {first room : ℕ} {old new : List ℕ} {at : Spot} {k n : ℕ} (i : Storing bs from first room old new at k n)
-    {next : Spot} {y : WalkerYield} (s : Stepped bs at next y) {a b c d e f : ℕ} (r : y ≡ Yield.Row a b c d e f) where
-  is-row : is_row y
-  is-row = subst is_row (sym r) tt
-
-  -- A turn that passes over a row, and one that stores it.
+    {next : Spot} (s : next ≡ step_of bs at) {a b c d e f : ℕ} (r : next.last ≡ Yield.Row a b c d e f) where
   pub passes : k < first → Storing bs from first room old new next (k + 1) n
-  passes l = record { fits = i.fits; size = i.size; runs = λ rs h. passed (i.runs rs h) s is-row l }
+  passes l = record { fits = i.fits; size = i.size; runs = λ rs h. passed (i.runs rs h) s r l }
 
   pub keeps : first ≤ k → n < room
       → (new' : List ℕ) → new' ≡ stored new n (row_of (record { kind = a; start = b; whole = c; parent = d; one = e; two = f }) ∷ [])
@@ -181,10 +145,10 @@ module _ {bs : List ℕ} {from : Spot} {first room : ℕ} {old new : List ℕ} {
   keeps l m new' ew = record {
     fits = omega arith;
     size = ap length ew ∙ length-stored new n _ ∙ i.size;
-    runs = λ rs h. kept (i.runs rs h) s is-row l new' (ew ∙ ap (λ (z : WalkerYield). stored new n (row_of_yield z ∷ [])) (sym r));
+    runs = λ rs h. kept (i.runs rs h) s r l new' (ew ∙ ap (λ (z : WalkerYield). stored new n (row_of_yield z ∷ [])) (sym r));
   }
 
--- At the end, or where the buffer is full, what is stored is what was asked; a refusal doesn't come.
+-- Where the buffer is full, or no row came, what is stored is what was asked.
 module _ {bs : List ℕ} {from : Spot} {first : ℕ} {old new : List ℕ} {at : Spot} {k n : ℕ}
     (i : Storing bs from first (length old / row_width) old new at k n) where
   pub full : length old / row_width ≤ n → Stored bs from first old new n
@@ -193,12 +157,8 @@ module _ {bs : List ℕ} {from : Spot} {first : ℕ} {old new : List ℕ} {at : 
       let e : n ≡ length old / row_width = omega (arith, i.fits) in
       (t.held ∙ ap (λ (q : ℕ). stored old 0 (take q (drop first rs))) e, sym t.some ∙ ap (λ (q : ℕ). length (take q (drop first rs))) e)
 
-  module _ {next : Spot} {y : WalkerYield} (s : Stepped bs at next y) where
-    pub ends : y ≡ Yield.End → Stored bs from first old new n
-    ends e rs h = finished (i.runs rs h) s (length old / row_width) i.fits (subst is_end (sym e) tt)
-
-    pub not-refused : {c p : ℕ} → y ≡ Yield.Refused c p → Stored bs from first old new n
-    not-refused {c} {p} e rs h = absurd (never_refused bs next (drop (k + n) rs) (yields (i.runs rs h) s) c p (sym s.yield_is ∙ e))
+  pub ends : {next : Spot} → next ≡ step_of bs at → ((a b c d e f : ℕ) → next.last ≡ Yield.Row a b c d e f → ⊥) → Stored bs from first old new n
+  ends s none rs h = finished (i.runs rs h) s (length old / row_width) i.fits none
 
 -- ---- the visitor
 

@@ -7,7 +7,7 @@ ghost use Rattle.visitor.specs.Visits.{Stored};
 
 use note::{TableAnswer, WalkerYield};
 use rows::{ROW_WIDTH, Row, put_row};
-use walk::{Spot, last, start, step};
+use walk::{Spot, start, step};
 
 // Runs a walk and stores its rows, but for the first ones, up to the last or until the buffer is full; answers how many. The step is
 // called in one place, so that the compiler has it in the loop and keeps the walk's numbers in registers.
@@ -15,46 +15,39 @@ fn store(file: &[u8], from: Spot, first: usize, rows: &mut [u32]) -> usize
     ensures { Stored file.now from first rows.old rows.new result }
 {
     let mut at = from;
-    let mut k = 0;
-    let mut n = 0;
+    let mut passed = 0;
+    let mut count = 0;
     let room = rows.len() / ROW_WIDTH;
-    while n < room {
+    while count < room {
         at = step(file, at);
-        match last(at) {
-            WalkerYield::Row {
+        let WalkerYield::Row {
+            kind,
+            start,
+            whole,
+            parent,
+            one,
+            two,
+        } = at.last
+        else {
+            return count;
+        };
+        if passed < first {
+            passed += 1;
+        } else {
+            // A yield's row is a case of `note`, which knows no `Row`.
+            let row = Row {
                 kind,
                 start,
                 whole,
                 parent,
                 one,
                 two,
-            } => {
-                if k < first {
-                    k = k + 1;
-                } else {
-                    put_row(
-                        rows,
-                        n,
-                        Row {
-                            kind,
-                            start,
-                            whole,
-                            parent,
-                            one,
-                            two,
-                        },
-                    );
-                    n = n + 1;
-                }
-            }
-            WalkerYield::End => return n,
-            WalkerYield::Refused {
-                number: _,
-                place: _,
-            } => return n,
+            };
+            put_row(rows, count, row);
+            count += 1;
         }
     }
-    n
+    count
 }
 
 /// Visit: stores a file's rows from the number `first` on, from 0, in the lent buffer, six numbers each, up to the last row or until the

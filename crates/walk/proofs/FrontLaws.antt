@@ -2,7 +2,7 @@
 -- The idea: a structure's bytes are its two words and its body, whatever follows.
 use mathlib.Core.Path.{◌≡◌, refl, sym, ap, ◌∙◌}
 use mathlib.Core.List.{List, [], ◌∷◌, ◌++◌}
-use Prim.Native.Nat.{ℕ, zero, suc, ◌+◌, ◌≤◌}
+use Prim.Native.Nat.{ℕ, suc, ◌+◌, ◌≤◌}
 use native.Mathlib.Omega.{arith}
 use lib.ListN.{length, take, drop, length-append}
 use lib.Seq.{take_at, drop_at, drop-drop}
@@ -17,8 +17,9 @@ use Rattle.note.specs.Records.{Record, Context, behind, record_bytes, records_by
 use Rattle.demands.specs.Valid.{ValidRecords}
 use Rattle.demands.proofs.OutputLaws.{structure_apart}
 use Rattle.record.proofs.StepLaws.{cut_body, cut}
-use Rattle.walk.specs.Steps.{stands, count_from, count_in}
-use Rattle.walk.proofs.StepLaws.{long_enough, Found}
+use Rattle.walk.specs.Steps.{count_in}
+use Rattle.walk.proofs.StepLaws.{none_counted, counted_on, Found}
+use Rattle.structures.proofs.StandingLaws.{too_short, long_enough}
 
 -- The bytes p begin with a structure's two words and its body, and go on with `rest`.
 pub record Front (o : Order) (p : List ℕ) (kind : ℕ) (body rest : List ℕ) : Type 0 where
@@ -55,25 +56,11 @@ module _ (o : Order) {B : Type 0} (body_bytes : B → List ℕ) (c : Structure B
         size = size;
       }
 
-none-counted : (o : Order) (f : ℕ) → count_from o f [] ≡ 0
-unfolding count_from stands
-none-counted o zero = refl
-none-counted o (suc f) = refl
-
-counted-by : (o : Order) (c : Context) (rs : List Record) → ValidRecords o c rs → (f : ℕ) → length (records_bytes o rs) ≤ f
-    → count_from o f (records_bytes o rs) ≡ length rs
-unfolding count_from
-counted-by o c [] v f h = none-counted o f
-counted-by o c (r ∷ rs) v zero h =
-    let w = front o (λ (b : List ℕ). b) r (records_bytes o rs) v.0.kind_fits v.0.length-fits in
-    absurd (omega (arith, w.size))
-counted-by o c (r ∷ rs) v (suc f) h =
+-- Valid records are as many structures by their length words.
+pub records-counted : (o : Order) (c : Context) (rs : List Record) → ValidRecords o c rs → count_in o (records_bytes o rs) ≡ length rs
+records-counted o c [] v = none_counted o [] (too_short o [] (omega arith))
+records-counted o c (r ∷ rs) v =
     let p : List ℕ = record_bytes o r ++ records_bytes o rs in
     let w = front o (λ (b : List ℕ). b) r (records_bytes o rs) v.0.kind_fits v.0.length-fits in
     let on : drop (8 + word o 4 p) p ≡ records_bytes o rs = ap (λ (n : ℕ). drop (8 + n) p) (sym w.found.length-is) ∙ w.behind-is in
-    rw (w.found.is-here, on) (ap suc (counted-by o (behind c r.word) rs v.1 f (omega (arith, w.size))))
-
--- Valid records are as many structures by their length words.
-pub records-counted : (o : Order) (c : Context) (rs : List Record) → ValidRecords o c rs → count_in o (records_bytes o rs) ≡ length rs
-unfolding count_in
-records-counted o c rs v = counted-by o c rs v (length (records_bytes o rs)) (omega arith)
+    counted_on o p w.found.is-here ∙ ap (λ (x : List ℕ). suc (count_in o x)) on ∙ ap suc (records-counted o (behind c r.word) rs v.1)

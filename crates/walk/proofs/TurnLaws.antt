@@ -23,7 +23,8 @@ use Rattle.rows.proofs.ValueLaws.{rule_has_values}
 use Rattle.containers.proofs.RecordLoop.{behind_of, left}
 use Rattle.walk.specs.declared.Spot.{Spot}
 use Rattle.walk.specs.Steps.{count_in, container_row, stayed, record_step, container_step, step_in, row_yield}
-use Rattle.walk.proofs.StepLaws.{too_short, header-here, record_here, container_here, container_none}
+use Rattle.walk.proofs.StepLaws.{header-here, record_here, container_here, container_none}
+use Rattle.structures.proofs.StandingLaws.{too_short}
 use Rattle.walk.proofs.StepLaws.{Usable, step_header, step_record, step_container}
 use Rattle.walk.proofs.FrontLaws.{Front, front, records-counted}
 

@@ -10,12 +10,9 @@ use Rattle.note.specs.Words.{word}
 use Rattle.note.specs.Files.{File, order_of, read_file}
 use Rattle.note.specs.declared.WalkerYield.{WalkerYield}
 use Rattle.note.specs.declared.WalkerYield.TheVariants.{Row, End, Refused}
+pub use Rattle.structures.specs.Standing.{stands}
 use Rattle.rows.specs.Values.{has_values, values_of}
 use Rattle.walk.specs.declared.Spot.{Spot}
-
--- FORMAT 2.3: a structure's two words stand at the front of the bytes, and its length lies within them.
-unfoldable pub stands : Order → List ℕ → Bool
-stands o bs = leb 8 (length bs) && leb (8 + word o 4 bs) (length bs)
 
 -- Structures back to back, by their length words alone; the first number only bounds the steps.
 unfoldable pub count_from : Order → ℕ → List ℕ → ℕ

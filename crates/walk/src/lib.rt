@@ -3,17 +3,19 @@
 #![tactic(auto)]
 
 ghost use Rattle.std.specs.Prelude.{◌≡◌, ◌+◌, ◌≤◌, length};
-ghost use Rattle.theory.specs.Words.{order_from};
-ghost use Rattle.walk.specs.Steps.{stands, count_in, container_row, stayed, header_step, record_step, container_step, step_in, step_of, start_of, opened_of};
+ghost use Rattle.walk.specs.Steps.{count_in, container_row, stayed, header_step, record_step, container_step, usable, step_in, step_of, start_of, opened_of};
 
-use containers::{Count, HEADER, check};
+use containers::{HEADER, check};
 use note::{CONFIGURATION_ROW, EVENT_ROW, HEADER_ROW, WalkerYield};
 use record::{FILE_LIMIT, FRONT};
 use rows::{HEADER_BYTES, has_values, values_in};
-use words::{is_big, word_at};
+use structures::structures;
+use theory::Order;
+use words::{order_of, word_at};
 
 /// Where a walk stands: the file's refusal (number 0: accepted) and its place, the next byte, the end of the container that it is in,
-/// that container's row number, the rows so far, and what was yielded last.
+/// that container's row number, the rows so far, and what was yielded last. The refusal stays a number, not a `Refusal`: a caller in C hands
+/// a walk's numbers over one by one, and any are taken (`dwj_next`).
 #[derive(Clone, Copy)]
 pub struct Spot {
     pub number: u32,
@@ -25,34 +27,15 @@ pub struct Spot {
     pub last: WalkerYield,
 }
 
-// Whether a structure's two words stand at the front of a part, and its length lies within it.
-fn stands(part: &[u8], big: bool) -> bool
-    ensures { result ≡ stands (order_from big) part.now }
-{
-    if part.len() < FRONT {
-        return false;
-    }
-    FRONT + word_at(part, 4, big) as usize <= part.len()
-}
-
 // How many structures stand back to back in a part, by their length words.
-fn count_in(part: &[u8], big: bool) -> usize
-    ensures { result ≡ count_in (order_from big) part.now }
+fn count_in(part: &[u8], order: Order) -> usize
+    ensures { result ≡ count_in order part.now }
 {
-    let mut rest = part;
-    let mut count = 0;
-    while FRONT <= rest.len() {
-        let size = FRONT + word_at(rest, 4, big) as usize;
-        if rest.len() < size {
-            return count;
-        }
-        rest = &rest[size..];
-        count = count + 1;
-    }
-    count
+    structures(part, 0, order).count()
 }
 
 // The row of a container: the configuration stands at byte 8, an event anywhere else.
+#[tactic(auto, unfolding(crate::specs::Steps::container_row))]
 fn container_row(place: usize, whole: u32, word: u32, count: u32) -> WalkerYield
     requires { place ≤ 0x1000000 }
     ensures { result ≡ container_row place whole word count }
@@ -78,31 +61,23 @@ fn container_row(place: usize, whole: u32, word: u32, count: u32) -> WalkerYield
 }
 
 // The walk where it is, with another yield.
+#[tactic(auto, unfolding(crate::specs::Steps::stayed))]
 fn stayed(at: Spot, last: WalkerYield) -> Spot
     ensures { result ≡ stayed at last }
 {
-    Spot {
-        number: at.number,
-        fault: at.fault,
-        place: at.place,
-        end: at.end,
-        parent: at.parent,
-        rows: at.rows,
-        last,
-    }
+    Spot { last, ..at }
 }
 
-// The header's step.
-fn header_step(file: &[u8], at: Spot, big: bool) -> Spot
+// The header's step. What it adds to is bounded by `is_usable`, and by no type: a spot of C may have any numbers.
+#[tactic(auto, unfolding(crate::specs::Steps::header_step))]
+fn header_step(file: &[u8], at: Spot, order: Order) -> Spot
     requires { at.rows ≤ 0x1000000 }
-    ensures { result ≡ header_step (order_from big) file.now at }
+    ensures { result ≡ header_step order file.now at }
 {
     if file.len() < HEADER {
         return stayed(at, WalkerYield::End);
     }
     Spot {
-        number: at.number,
-        fault: at.fault,
         place: HEADER,
         end: HEADER,
         parent: 0,
@@ -112,32 +87,29 @@ fn header_step(file: &[u8], at: Spot, big: bool) -> Spot
             start: 0,
             whole: HEADER_BYTES,
             parent: 0,
-            one: word_at(file, 4, big),
+            one: word_at(file, 4, order),
             two: 0,
         },
+        ..at
     }
 }
 
 // A record's step, at the front of what is left of its container.
-fn record_step(part: &[u8], at: Spot, big: bool) -> Spot
+#[tactic(auto, unfolding(crate::specs::Steps::record_step, structures::specs::Standing::stands))]
+fn record_step(part: &[u8], at: Spot, order: Order) -> Spot
     requires { (at.place + length part.now ≤ 0x1000000) × (at.rows ≤ 0x1000000) }
-    ensures { result ≡ record_step (order_from big) part.now at }
+    ensures { result ≡ record_step order part.now at }
 {
-    if !stands(part, big) {
+    let Some(record) = structures(part, at.place, order).next() else {
+        return stayed(at, WalkerYield::End);
+    };
+    if !has_values(record.word, record.body, order) {
         return stayed(at, WalkerYield::End);
     }
-    let word = word_at(part, 0, big);
-    let size = FRONT + word_at(part, 4, big) as usize;
-    if !has_values(word, &part[FRONT..size], big) {
-        return stayed(at, WalkerYield::End);
-    }
-    let v = values_in(word, &part[FRONT..size], big);
+    let v = values_in(record.word, record.body, order);
+    let size = FRONT + record.body.len();
     Spot {
-        number: at.number,
-        fault: at.fault,
         place: at.place + size,
-        end: at.end,
-        parent: at.parent,
         rows: at.rows + 1,
         last: WalkerYield::Row {
             kind: v.kind,
@@ -147,39 +119,47 @@ fn record_step(part: &[u8], at: Spot, big: bool) -> Spot
             one: v.one,
             two: v.two,
         },
+        ..at
     }
 }
 
 // A configuration's or an event's step, at the front of what is left of the file.
-fn container_step(part: &[u8], at: Spot, big: bool) -> Spot
+#[tactic(auto, unfolding(crate::specs::Steps::container_step, structures::specs::Standing::stands))]
+fn container_step(part: &[u8], at: Spot, order: Order) -> Spot
     requires { (at.place + length part.now ≤ 0x1000000) × (at.rows ≤ 0x1000000) }
-    ensures { result ≡ container_step (order_from big) part.now at }
+    ensures { result ≡ container_step order part.now at }
 {
-    if !stands(part, big) {
+    let Some(container) = structures(part, at.place, order).next() else {
         return stayed(at, WalkerYield::End);
-    }
-    let size = FRONT + word_at(part, 4, big) as usize;
-    let count = count_in(&part[FRONT..size], big);
-    let row = container_row(at.place, size as u32, word_at(part, 0, big), count as u32);
+    };
+    let size = FRONT + container.body.len();
+    let count = count_in(container.body, order);
+    let row = container_row(at.place, size as u32, container.word, count as u32);
     Spot {
-        number: at.number,
-        fault: at.fault,
         place: at.place + FRONT,
         end: at.place + size,
         parent: at.rows + 1,
         rows: at.rows + 1,
         last: row,
+        ..at
     }
 }
 
-// One step over a file whose words are of that order: the row at the spot is yielded and the walk moves on; at the end and over a refused
-// file it stays.
-fn step_in(file: &[u8], at: Spot, big: bool) -> Spot
-    ensures { result ≡ step_in (order_from big) file.now at }
+// Whether a walk over this file can have these numbers.
+#[tactic(auto, unfolding(crate::specs::Steps::usable))]
+fn is_usable(file: &[u8], at: Spot) -> bool
+    ensures { result ≡ usable file.now at }
 {
     let room = file.len();
-    let place = at.place;
-    let end = at.end;
+    room <= FILE_LIMIT && at.rows as usize <= FILE_LIMIT && at.end <= room && at.place <= room
+}
+
+// One step over a file whose words are of that order: the row at the spot is yielded and the walk moves on; at the end and over a refused
+// file it stays. Which step is told by the numbers, and no enum: C hands over those alone.
+#[tactic(auto, unfolding(crate::specs::Steps::step_in, crate::specs::Steps::usable))]
+fn step_in(file: &[u8], at: Spot, order: Order) -> Spot
+    ensures { result ≡ step_in order file.now at }
+{
     if at.number != 0 {
         let refusal = WalkerYield::Refused {
             number: at.number,
@@ -187,61 +167,48 @@ fn step_in(file: &[u8], at: Spot, big: bool) -> Spot
         };
         return stayed(at, refusal);
     }
-    if FILE_LIMIT < room {
+    if !is_usable(file, at) {
         return stayed(at, WalkerYield::End);
     }
-    if FILE_LIMIT < at.rows as usize {
-        return stayed(at, WalkerYield::End);
+    if at.place == 0 {
+        return header_step(file, at, order);
     }
-    if room < end {
-        return stayed(at, WalkerYield::End);
+    if at.place < at.end {
+        return record_step(&file[at.place..at.end], at, order);
     }
-    if room < place {
-        return stayed(at, WalkerYield::End);
-    }
-    if place == 0 {
-        return header_step(file, at, big);
-    }
-    if place < end {
-        return record_step(&file[place..end], at, big);
-    }
-    container_step(&file[place..], at, big)
+    container_step(&file[at.place..], at, order)
 }
 
 /// One step, in the order that the file's first bytes show.
+#[tactic(auto, unfolding(crate::specs::Steps::step_of))]
 pub fn step(file: &[u8], at: Spot) -> Spot
     ensures { result ≡ step_of file.now at }
 {
-    step_in(file, at, is_big(file))
+    step_in(file, at, order_of(file))
 }
 
 /// Where a walk over a file starts: the whole file is checked, once.
+#[tactic(auto, using(crate::proofs::StepLaws::opens_refused, crate::proofs::StepLaws::opens_accepted))]
 pub fn start(file: &[u8]) -> Spot
     ensures { result ≡ start_of file.now }
 {
-    match check(file) {
-        Count::Bad { number, place } => Spot {
-            number,
-            fault: place,
-            place: 0,
-            end: 0,
-            parent: 0,
-            rows: 0,
-            last: WalkerYield::End,
-        },
-        Count::Good { count: _ } => Spot {
-            number: 0,
-            fault: 0,
-            place: 0,
-            end: 0,
-            parent: 0,
-            rows: 0,
-            last: WalkerYield::End,
-        },
+    let (number, fault) = match check(file) {
+        Ok(_) => (0, 0),
+        Err(refusal) => (refusal.fault.into(), refusal.place),
+    };
+    Spot {
+        number,
+        fault,
+        place: 0,
+        end: 0,
+        parent: 0,
+        rows: 0,
+        last: WalkerYield::End,
     }
 }
 
 /// A walk at its first yield.
+#[tactic(auto, unfolding(crate::specs::Steps::opened_of))]
 pub fn opened(file: &[u8]) -> Spot
     ensures { result ≡ opened_of file.now }
 {

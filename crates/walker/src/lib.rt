@@ -8,18 +8,11 @@ ghost use Rattle.walk.specs.Steps.{step_of, opened_of};
 use note::WalkerYield;
 use walk::Spot;
 
-/// A walker over a lent file.
+/// A walker over a lent file. It isn't copied: `next` takes it and gives the one behind.
 #[derive(Drop)]
 pub struct Walker<'a> {
     file: &'a [u8],
     at: Spot,
-}
-
-// What a walk yielded last. It takes the slice too: a walker's two parts go to one call.
-fn last(_file: &[u8], at: Spot) -> WalkerYield
-    ensures { result ≡ at.last }
-{
-    at.last
 }
 
 /// Opens a file, which is checked once, and stands at the first yield. k steps from here the yield is `yield_at file k` (`walk_yields`).
@@ -36,7 +29,7 @@ pub fn open<'a>(file: &'a [u8]) -> Walker<'a>
 pub fn yielded<'a>(w: Walker<'a>) -> WalkerYield
     ensures { result ≡ w.entry.at.last }
 {
-    last(w.file, w.at)
+    w.at.last
 }
 
 /// The walker one step on.

@@ -10,24 +10,22 @@ ghost use Rattle.walk.specs.Steps.{opened_of, steps_from};
 
 use note::WalkerYield;
 
-// The descriptor of standard input.
+// The descriptors of standard input and output: std's reading and printing would assume more functions of C than `io` does.
 const STDIN: i32 = 0;
 
-// The descriptor of standard output.
 const STDOUT: i32 = 1;
 
 // A file of 8,192 bytes has at most 1,024 rows; three yields more.
 const MOST_YIELDS: usize = 1_027;
 
 // What a walker yields that was opened and moved on k times.
+#[tactic(auto, using(walk::proofs::WalkLaws::steps_more), unfolding(walk::specs::Steps::steps_from))]
 fn after_steps(file: &[u8], k: usize) -> WalkerYield
     ensures { result ≡ (steps_from file.now k (opened_of file.now)).last }
 {
     let mut w = dwejrasq::open(file);
-    let mut i: usize = 0;
-    while i < k {
+    for _ in 0..k {
         w = dwejrasq::next(w);
-        i += 1;
     }
     dwejrasq::yielded(w)
 }
@@ -39,7 +37,7 @@ fn yield_at(file: &[u8], k: usize) -> WalkerYield
     after_steps(file, k)
 }
 
-// A number and a blank.
+// A number and a blank: two lines, which a crate shared with `names` would outweigh.
 fn print(n: u64) {
     io::print_decimal(STDOUT, n);
     io::write_all(STDOUT, b" ");
@@ -82,29 +80,22 @@ fn print_yield(given: WalkerYield, k: usize) -> bool {
 
 // The lines of a walk, up to three that are no rows.
 fn print_walk(file: &[u8]) {
-    let mut beyond: usize = 0;
-    let mut k: usize = 0;
-    while k < MOST_YIELDS {
-        if beyond < 3 {
-            if !print_yield(yield_at(file, k), k + 1) {
-                beyond = beyond + 1;
-            }
+    let mut beyond = 0;
+    for k in 0..MOST_YIELDS {
+        if beyond >= 3 {
+            return;
         }
-        k = k + 1;
+        if !print_yield(yield_at(file, k), k + 1) {
+            beyond += 1;
+        }
     }
 }
 
-// The lines of a walk over a file's first bytes.
-fn print_front(file: &[u8], size: usize) {
-    if size <= file.len() {
-        print_walk(&file[..size]);
-    }
-}
-
+// The buffer is fixed: the programs here use no heap.
 fn main() {
     let mut file = [0u8; 8_192];
     let n = io::read_full(STDIN, &mut file);
-    print_front(&file, n);
-    print_front(&file, n / 2);
-    print_front(&file, 0);
+    print_walk(&file[..n]);
+    print_walk(&file[..n / 2]);
+    print_walk(&[]);
 }

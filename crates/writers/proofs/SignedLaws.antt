@@ -1,18 +1,19 @@
--- A signed field handed on is its word.
--- The idea: the 32 bits of a number that 32 bits hold, read as signed, are that number.
-use Prim.Native.Nat.{ℕ}
-use mathlib.Core.Path.{◌≡◌, refl, ap, ap₂, ◌∙◌}
+-- The words of signed fields, one for each.
+use Prim.Native.Nat.{ℕ, suc, ◌<◌}
+use mathlib.Core.Path.{◌≡◌, refl}
 use mathlib.Core.List.{List, [], ◌∷◌, map}
-use lib.IntN.{ℤ}
-use mir.Val.{SFits}
-use mir.Syntax.{w32}
-use Rattle.note.specs.Words.{signed, unsigned, AllSigned}
-use Rattle.note.proofs.SignedLaws.{unsigned-again}
+use native.Mathlib.Omega.{arith}
+use lib.IntN.{ℤ, pos}
+use lib.ListN.{length}
+use Rattle.std.proofs.Common.{slice_index_or}
 
-pub handed_on : (z : ℤ) → SFits w32 z → {r : ℕ} → r ≡ unsigned (signed (unsigned z)) → r ≡ unsigned z
-handed_on z h e = e ∙ ap unsigned (unsigned-again z h)
-
--- The words of signed fields handed on.
-pub words_kept : (zs : List ℤ) → AllSigned zs → map unsigned (map (λ (z : ℤ). signed (unsigned z)) zs) ≡ map unsigned zs
-words_kept [] h = refl
-words_kept (z ∷ zs) (h, hs) = ap₂ (λ (w : ℕ) (ws : List ℕ). w ∷ ws) (handed_on z h refl) (words_kept zs hs)
+-- A list is another's image where it has its length and each element is its element's.
+pub image : (f : ℤ → ℕ) (xs : List ℤ) (ys : List ℕ) → length ys ≡ length xs
+    → ((i : ℕ) → i < length xs → slice_index_or ys i 0 ≡ f (slice_index_or xs i (pos 0))) → ys ≡ map f xs
+image f [] [] e h = refl
+image f [] (y ∷ ys) e h = absurd (omega arith)
+image f (x ∷ xs) [] e h = absurd (omega arith)
+image f (x ∷ xs) (y ∷ ys) e h =
+    let first : y ≡ f x = h 0 (omega arith) in
+    let others : ys ≡ map f xs = image f xs ys (omega arith) (λ i l. h (suc i) (omega arith)) in
+    cc

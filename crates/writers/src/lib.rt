@@ -1,402 +1,245 @@
-// The eight record and entry writers. Each record's hands its fields' fault, its kind word, its body's words and the bytes behind them to
-// `write_structure`, the entries', whose fields are all signed, by way of `write_entry`; a history, which has several parts, is stored by
-// `put_history`. All is known before the first store.
+// The eight record and entry writers. Each hands its fields' fault, its kind, its body's words and the bytes behind them to `write_structure`; a
+// history, which has several parts, is stored by `put_history`. All is known before the first store.
 #![tactic(auto)]
 
-ghost use Rattle.std.specs.Prelude.{◌≡◌, [], map, ◌+◌, ◌*◌, ◌%◌, ◌^◌, ◌≤◌, ◌<◌, length};
+ghost use Rattle.std.specs.Prelude.{◌≡◌, map, ◌+◌, ◌*◌, ◌%◌, ◌^◌, ◌≤◌, ◌<◌, length};
 ghost use Rattle.std.proofs.lemmas.List.Edits.{sets};
-ghost use Rattle.theory.specs.Words.{order_from};
+ghost use Rattle.note.specs.Faults.{fault_in};
 ghost use Rattle.note.specs.Words.{unsigned};
 ghost use Rattle.note.specs.Gps.{bcd};
 ghost use Rattle.note.specs.History.{section_bytes};
 ghost use Rattle.note.specs.Writers.{phonon_draft, charge_draft, administrative_draft, trace_draft, history_draft, gps_draft, trigger_draft, tlb_draft};
-ghost use Rattle.stores.specs.Structures.{structure_draft};
+ghost use Rattle.note.specs.Writers.{trace_handed, section_handed, history_handed};
 ghost use Rattle.stores.specs.Writes.{WriterDid};
 
 use faults::{history_fault, trace_fault};
 use fields::{administrative_fault, from_signed, gps_fault, tlb_fault};
-use note::WriterAnswer;
-use rules::{
-    ADMINISTRATIVE, BLOCK_LENGTH, BOOKKEEPING, CHARGE, GPS, HISTORY, PHONON, SAMPLE_BLOCK,
-    TIMEBASE, TLB, TRACE, TRIGGER, charge_fault, phonon_fault,
+use note::{
+    Administrative, Charge, Fault, Gps, History, Phonon, Refusal, Section, Tlb, Trace, Trigger,
 };
+use rules::{BLOCK_LENGTH, BOOKKEEPING, Kind, SAMPLE_BLOCK, TIMEBASE, charge_fault, phonon_fault};
 use stores::{admitted, put_part, put_words, write_structure};
+use theory::Order;
 
 // ---- entries, whose fields are all signed
 
-// Stores the words of signed fields, from the first one on.
-fn put_signed(ws: &mut [u32], fields: &[i32])
-    requires { length fields.now ≤ length ws.old }
-    ensures { ws.new ≡ sets ws.old 0 (map unsigned fields.now) }
+// The words of signed fields.
+fn words_of<const N: usize>(fields: [i32; N]) -> [u32; N]
+    requires { N ≤ 11 }
+    ensures { result ≡ map unsigned fields.entry }
 {
-    let mut i = 0;
-    while i < fields.len() {
-        ws[i] = from_signed(fields[i]);
-        i += 1;
-    }
+    fields.map(from_signed)
 }
 
-// Writes an entry of this kind word from its signed fields, which have this fault.
-fn write_entry(
-    out: &mut [u8],
-    place: usize,
-    fault: u32,
-    word: u32,
-    fields: &[i32],
-    big: bool,
-) -> WriterAnswer
-    requires { length fields.now ≤ 11 }
-    ensures { WriterDid out.old place (structure_draft (order_from big) fault word (map unsigned fields.now) [])
-        result out.new }
-{
-    let mut ws = [0u32; 11];
-    put_signed(&mut ws, fields);
-    write_structure(out, place, fault, word, &ws[..fields.len()], &[], big)
-}
-
-/// Writes a phonon entry from its eleven words, in order; gain, both biases and lockpoint are times 100 (FORMAT 4.1).
+/// Writes a phonon entry (FORMAT 4.1).
 pub fn write_phonon(
     out: &mut [u8],
     place: usize,
-    code: i32,
-    tower: i32,
-    gain: i32,
-    qet_bias: i32,
-    squid_bias: i32,
-    lockpoint: i32,
-    rtf_offset: i32,
-    variable_gain: i32,
-    delta_t: i32,
-    t0: i32,
-    trace_length: i32,
-    big: bool,
-) -> WriterAnswer
-    ensures { WriterDid out.old place (phonon_draft (order_from big) (record {
-      code = code;
-      tower = tower;
-      gain = gain;
-      qet_bias = qet_bias;
-      squid_bias = squid_bias;
-      lockpoint = lockpoint;
-      rtf_offset = rtf_offset;
-      variable_gain = variable_gain;
-      delta_t = delta_t;
-      t0 = t0;
-      trace_length = trace_length;
-    })) result out.new }
+    fields: Phonon,
+    order: Order,
+) -> Result<usize, Refusal>
+    ensures { WriterDid out.old place (phonon_draft order fields) result out.new }
 {
-    write_entry(
+    let ws = words_of([
+        fields.code,
+        fields.tower,
+        fields.gain,
+        fields.qet_bias,
+        fields.squid_bias,
+        fields.lockpoint,
+        fields.rtf_offset,
+        fields.variable_gain,
+        fields.delta_t,
+        fields.t0,
+        fields.trace_length,
+    ]);
+    write_structure(
         out,
         place,
-        phonon_fault(from_signed(code)),
-        PHONON,
-        &[
-            code,
-            tower,
-            gain,
-            qet_bias,
-            squid_bias,
-            lockpoint,
-            rtf_offset,
-            variable_gain,
-            delta_t,
-            t0,
-            trace_length,
-        ],
-        big,
+        phonon_fault(from_signed(fields.code)),
+        Kind::Phonon,
+        &ws,
+        &[],
+        order,
     )
 }
 
-/// Writes a charge entry from its eight words, in order; the gain is times 100 (FORMAT 4.2).
+/// Writes a charge entry (FORMAT 4.2).
 pub fn write_charge(
     out: &mut [u8],
     place: usize,
-    code: i32,
-    tower: i32,
-    gain: i32,
-    bias: i32,
-    rtf_offset: i32,
-    delta_t: i32,
-    t0: i32,
-    trace_length: i32,
-    big: bool,
-) -> WriterAnswer
-    ensures { WriterDid out.old place (charge_draft (order_from big) (record {
-      code = code;
-      tower = tower;
-      gain = gain;
-      bias = bias;
-      rtf_offset = rtf_offset;
-      delta_t = delta_t;
-      t0 = t0;
-      trace_length = trace_length;
-    })) result out.new }
+    fields: Charge,
+    order: Order,
+) -> Result<usize, Refusal>
+    ensures { WriterDid out.old place (charge_draft order fields) result out.new }
 {
-    write_entry(
+    let ws = words_of([
+        fields.code,
+        fields.tower,
+        fields.gain,
+        fields.bias,
+        fields.rtf_offset,
+        fields.delta_t,
+        fields.t0,
+        fields.trace_length,
+    ]);
+    write_structure(
         out,
         place,
-        charge_fault(from_signed(code)),
-        CHARGE,
-        &[
-            code,
-            tower,
-            gain,
-            bias,
-            rtf_offset,
-            delta_t,
-            t0,
-            trace_length,
-        ],
-        big,
+        charge_fault(from_signed(fields.code)),
+        Kind::Charge,
+        &ws,
+        &[],
+        order,
     )
 }
 
 // ---- administrative
 
-/// Writes an administrative record from its six words, in order: the series by its digits, LLYYMMDD and HHMM; since and live in milliseconds
-/// (FORMAT 5.1).
+/// Writes an administrative record (FORMAT 5.1).
 pub fn write_administrative(
     out: &mut [u8],
     place: usize,
-    date: u32,
-    clock: u32,
-    number: u32,
-    time: u32,
-    since: u32,
-    live: u32,
-    big: bool,
-) -> WriterAnswer
-    ensures { WriterDid out.old place (administrative_draft (order_from big) (record {
-      date = date;
-      clock = clock;
-      number = number;
-      time = time;
-      since = since;
-      live = live;
-    })) result out.new }
+    fields: Administrative,
+    order: Order,
+) -> Result<usize, Refusal>
+    ensures { WriterDid out.old place (administrative_draft order fields) result out.new }
 {
     write_structure(
         out,
         place,
-        administrative_fault(date, clock),
-        ADMINISTRATIVE,
-        &[date, clock, number, time, since, live],
+        administrative_fault(fields.date, fields.clock),
+        Kind::Administrative,
+        &[
+            fields.date,
+            fields.clock,
+            fields.number,
+            fields.time,
+            fields.since,
+            fields.live,
+        ],
         &[],
-        big,
+        order,
     )
 }
 
 // ---- trace
 
-/// Writes a trace: base address, digitizer channel, detector code, t0, delta t, n, and the part of bytes that holds its n samples.
+/// Writes a trace with its samples (FORMAT 5.2).
 pub fn write_trace(
     out: &mut [u8],
     place: usize,
-    address: u32,
-    channel: u32,
-    code: u32,
-    t0: i32,
-    delta_t: u32,
-    n: u32,
-    samples: &[u8],
-    big: bool,
-) -> WriterAnswer
-    ensures { WriterDid out.old place (trace_draft (order_from big) (record {
-      address = address;
-      channel = channel;
-      code = code;
-      t0 = t0;
-      delta = delta_t;
-      n = n;
-      samples = samples.now;
-    })) result out.new }
+    fields: Trace,
+    order: Order,
+) -> Result<usize, Refusal>
+    ensures { WriterDid out.old place (trace_draft order (trace_handed fields.entry)) result out.new }
 {
-    let fault = trace_fault(channel, code, delta_t, n, samples.len());
     write_structure(
         out,
         place,
-        fault,
-        TRACE,
+        trace_fault(fields),
+        Kind::Trace,
         &[
             BOOKKEEPING,
             BLOCK_LENGTH,
-            address,
-            channel,
-            code,
+            fields.address,
+            fields.channel,
+            fields.code,
             TIMEBASE,
             BLOCK_LENGTH,
-            from_signed(t0),
-            delta_t,
-            n,
+            from_signed(fields.t0),
+            fields.delta_t,
+            fields.n,
             SAMPLE_BLOCK,
-            n,
+            fields.n,
         ],
-        samples,
-        big,
+        fields.samples,
+        order,
     )
 }
 
 // ---- history
 
-// A history's size, from the sizes of its parts: asked only where its fields have no fault.
-fn history_size(fault: u32, a: usize, b: usize, c: usize, d: usize) -> usize
-    requires { fault ≡ 0 → 24 + ((a + b) + (c + d)) < 0x10000000000000000 }
-    ensures { fault ≡ 0 → result ≡ 24 + ((a + b) + (c + d)) }
+// A history section's size.
+fn section_size(section: Section) -> usize
+    requires { 8 + (length section.times.now + length section.masks.now) < 0x10000000000000000 }
+    ensures { result ≡ 8 + (length section.entry.times.now + length section.entry.masks.now) }
 {
-    if fault != 0 {
-        return 0;
+    8 + (section.times.len() + section.masks.len())
+}
+
+// A history's size: asked only where its fields have no fault, since of any others it may pass a machine number.
+fn history_size(fault: Result<(), Fault>, fields: History) -> usize
+    requires { fault_in fault ≡ 0 → 24 + ((length fields.veto.times.now + length fields.veto.masks.now)
+        + (length fields.trigger.times.now + length fields.trigger.masks.now)) < 0x10000000000000000 }
+    ensures { fault_in fault ≡ 0 → result ≡ 24 + ((length fields.entry.veto.times.now + length fields.entry.veto.masks.now)
+        + (length fields.entry.trigger.times.now + length fields.entry.trigger.masks.now)) }
+{
+    match fault {
+        Ok(()) => 8 + (section_size(fields.veto) + section_size(fields.trigger)),
+        Err(_) => 0,
     }
-    24 + ((a + b) + (c + d))
 }
 
 // Stores a history section from a place on.
-fn put_section(
-    part: &mut [u8],
-    at: usize,
-    count: u32,
-    times: &[u8],
-    width: u32,
-    masks: &[u8],
-    big: bool,
-)
-    requires { at + (8 + (length times.now + length masks.now)) ≤ length part.old }
-    ensures { part.new ≡ sets part.old at (section_bytes (order_from big) (record {
-      count = count;
-      times = times.now;
-      width = width;
-      masks = masks.now;
-    })) }
+fn put_section(part: &mut [u8], at: usize, section: Section, order: Order)
+    requires { at + (8 + (length section.times.now + length section.masks.now)) ≤ length part.old }
+    ensures { part.new ≡ sets part.old at (section_bytes order (section_handed section.entry)) }
 {
-    let middle = at + 4 + times.len();
-    put_words(part, at, &[count], big);
-    put_part(part, at + 4, times);
-    put_words(part, middle, &[width], big);
-    put_part(part, middle + 4, masks);
+    let middle = at + 4 + section.times.len();
+    put_words(part, at, &[section.count], order);
+    put_part(part, at + 4, section.times);
+    put_words(part, middle, &[section.width], order);
+    put_part(part, middle + 4, section.masks);
 }
 
 // Stores a history from the part's first byte on.
-fn put_history(
-    part: &mut [u8],
-    veto_count: u32,
-    veto_times: &[u8],
-    veto_width: u32,
-    veto_masks: &[u8],
-    trigger_count: u32,
-    trigger_times: &[u8],
-    trigger_width: u32,
-    trigger_masks: &[u8],
-    big: bool,
-)
-    requires { (24 + ((length veto_times.now + length veto_masks.now)
-        + (length trigger_times.now + length trigger_masks.now)) ≤ length part.old)
+fn put_history(part: &mut [u8], fields: History, order: Order)
+    requires { (24 + ((length fields.veto.times.now + length fields.veto.masks.now)
+        + (length fields.trigger.times.now + length fields.trigger.masks.now)) ≤ length part.old)
         × (length part.old ≤ 0xFFFFFFFF) }
-    ensures { part.new ≡ sets part.old 0 (history_draft (order_from big) (record {
-      veto = record {
-        count = veto_count;
-        times = veto_times.now;
-        width = veto_width;
-        masks = veto_masks.now;
-      };
-      trigger = record {
-        count = trigger_count;
-        times = trigger_times.now;
-        width = trigger_width;
-        masks = trigger_masks.now;
-      };
-    })).bytes }
+    ensures { part.new ≡ sets part.old 0 (history_draft order (history_handed fields.entry)).bytes }
 {
-    let veto = 8 + (veto_times.len() + veto_masks.len());
-    let trigger = 8 + (trigger_times.len() + trigger_masks.len());
-    put_words(part, 0, &[HISTORY, (veto + trigger) as u32], big);
-    put_section(part, 8, veto_count, veto_times, veto_width, veto_masks, big);
-    put_section(
+    let veto = section_size(fields.veto);
+    let trigger = section_size(fields.trigger);
+    put_words(
         part,
-        8 + veto,
-        trigger_count,
-        trigger_times,
-        trigger_width,
-        trigger_masks,
-        big,
+        0,
+        &[Kind::History.into(), (veto + trigger) as u32],
+        order,
     );
+    put_section(part, 8, fields.veto, order);
+    put_section(part, 8 + veto, fields.trigger, order);
 }
 
-/// Writes a history: of each section the count of times, the part of bytes that holds them, the width, and the part that holds the masks.
+/// Writes a history with its lists (FORMAT 5.3).
 pub fn write_history(
     out: &mut [u8],
     place: usize,
-    veto_count: u32,
-    veto_times: &[u8],
-    veto_width: u32,
-    veto_masks: &[u8],
-    trigger_count: u32,
-    trigger_times: &[u8],
-    trigger_width: u32,
-    trigger_masks: &[u8],
-    big: bool,
-) -> WriterAnswer
-    ensures { WriterDid out.old place (history_draft (order_from big) (record {
-      veto = record {
-        count = veto_count;
-        times = veto_times.now;
-        width = veto_width;
-        masks = veto_masks.now;
-      };
-      trigger = record {
-        count = trigger_count;
-        times = trigger_times.now;
-        width = trigger_width;
-        masks = trigger_masks.now;
-      };
-    })) result out.new }
+    fields: History,
+    order: Order,
+) -> Result<usize, Refusal>
+    ensures { WriterDid out.old place (history_draft order (history_handed fields.entry)) result out.new }
 {
-    let fault = history_fault(
-        veto_count,
-        veto_times,
-        veto_width,
-        veto_masks,
-        trigger_count,
-        trigger_times,
-        trigger_width,
-        trigger_masks,
-    );
-    let size = history_size(
-        fault,
-        veto_times.len(),
-        veto_masks.len(),
-        trigger_times.len(),
-        trigger_masks.len(),
-    );
-    match admitted(out.len(), place, fault, size) {
-        WriterAnswer::Refused { number, place } => WriterAnswer::Refused { number, place },
-        WriterAnswer::Next { place: next } => {
-            put_history(
-                &mut out[place..],
-                veto_count,
-                veto_times,
-                veto_width,
-                veto_masks,
-                trigger_count,
-                trigger_times,
-                trigger_width,
-                trigger_masks,
-                big,
-            );
-            WriterAnswer::Next { place: next }
-        }
-    }
+    let fault = history_fault(fields);
+    let next = admitted(out.len(), place, fault, history_size(fault, fields))?;
+    put_history(&mut out[place..], fields, order);
+    Ok(next)
 }
 
 // ---- GPS
 
-// A number's last n decimal digits as BCD.
+// A number's last n decimal digits as BCD. It calls itself, as `bcd` does: a loop would carry a power of ten and one of sixteen.
+#[tactic(auto, unfolding(note::specs::Gps::bcd))]
 fn digits(n: u32, v: u32) -> u32
     requires { n ≤ 8 }
     ensures { (result ≡ bcd n v) × (result < 16 ^ n) }
 {
     if n == 0 {
-        return 0;
+        0
+    } else {
+        digits(n - 1, v / 10) * 16 + v % 10
     }
-    digits(n - 1, v / 10) * 16 + v % 10
 }
 
 // A GPS record's second word: the status, a zero, hhmmss. Of a status over 15, which is refused, the lowest four bits.
@@ -406,108 +249,74 @@ fn gps_clock(status: u32, hour: u32, minute: u32, second: u32) -> u32
     status % 16 * 268435456 + digits(2, hour) * 65536 + digits(2, minute) * 256 + digits(2, second)
 }
 
-/// Writes a GPS record: year, day, status, hour, minute, second, tenths of a microsecond.
-pub fn write_gps(
-    out: &mut [u8],
-    place: usize,
-    year: u32,
-    day: u32,
-    status: u32,
-    hour: u32,
-    minute: u32,
-    second: u32,
-    tenths: u32,
-    big: bool,
-) -> WriterAnswer
-    ensures { WriterDid out.old place (gps_draft (order_from big) (record {
-      year = year;
-      day = day;
-      status = status;
-      hour = hour;
-      minute = minute;
-      second = second;
-      tenths = tenths;
-    })) result out.new }
+/// Writes a GPS record (FORMAT 5.4).
+pub fn write_gps(out: &mut [u8], place: usize, fields: Gps, order: Order) -> Result<usize, Refusal>
+    ensures { WriterDid out.old place (gps_draft order fields) result out.new }
 {
-    let date = digits(4, year) * 65536 + digits(4, day);
-    let fault = gps_fault(year, day, status, hour, minute, second, tenths);
+    let date = digits(4, fields.year) * 65536 + digits(4, fields.day);
+    let clock = gps_clock(fields.status, fields.hour, fields.minute, fields.second);
+    let tenths = digits(8, fields.tenths);
     write_structure(
         out,
         place,
-        fault,
-        GPS,
-        &[
-            date,
-            gps_clock(status, hour, minute, second),
-            digits(8, tenths),
-        ],
+        gps_fault(fields),
+        Kind::Gps,
+        &[date, clock, tenths],
         &[],
-        big,
+        order,
     )
 }
 
 // ---- trigger and TLB masks
 
-/// Writes a trigger record: six masks; its time is 0.
+/// Writes a trigger record, whose time is 0 (FORMAT 5.5).
+#[tactic(auto, unfolding(note::specs::Writers::trigger_draft, note::specs::Trigger::trigger_bytes), using(crate::proofs::Drafts::bare))]
 pub fn write_trigger(
     out: &mut [u8],
     place: usize,
-    mask1: u32,
-    mask2: u32,
-    mask3: u32,
-    mask4: u32,
-    mask5: u32,
-    mask6: u32,
-    big: bool,
-) -> WriterAnswer
-    ensures { WriterDid out.old place (trigger_draft (order_from big) (record {
-      mask1 = mask1;
-      mask2 = mask2;
-      mask3 = mask3;
-      mask4 = mask4;
-      mask5 = mask5;
-      mask6 = mask6;
-    })) result out.new }
+    fields: Trigger,
+    order: Order,
+) -> Result<usize, Refusal>
+    ensures { WriterDid out.old place (trigger_draft order fields) result out.new }
 {
     write_structure(
         out,
         place,
-        0,
-        TRIGGER,
-        &[0, mask1, mask2, mask3, mask4, mask5, mask6],
+        Ok(()),
+        Kind::Trigger,
+        &[
+            0,
+            fields.mask1,
+            fields.mask2,
+            fields.mask3,
+            fields.mask4,
+            fields.mask5,
+            fields.mask6,
+        ],
         &[],
-        big,
+        order,
     )
 }
 
-/// Writes a TLB record: a word for each of six towers.
-pub fn write_tlb(
-    out: &mut [u8],
-    place: usize,
-    tower1: u32,
-    tower2: u32,
-    tower3: u32,
-    tower4: u32,
-    tower5: u32,
-    tower6: u32,
-    big: bool,
-) -> WriterAnswer
-    ensures { WriterDid out.old place (tlb_draft (order_from big) (record {
-      tower1 = tower1;
-      tower2 = tower2;
-      tower3 = tower3;
-      tower4 = tower4;
-      tower5 = tower5;
-      tower6 = tower6;
-    })) result out.new }
+/// Writes a TLB record (FORMAT 5.6).
+#[tactic(auto, unfolding(note::specs::Writers::tlb_draft, note::specs::Tlb::tlb_bytes), using(crate::proofs::Drafts::bare))]
+pub fn write_tlb(out: &mut [u8], place: usize, fields: Tlb, order: Order) -> Result<usize, Refusal>
+    ensures { WriterDid out.old place (tlb_draft order fields) result out.new }
 {
     write_structure(
         out,
         place,
-        tlb_fault(tower1, tower2, tower3, tower4, tower5, tower6),
-        TLB,
-        &[tower1, tower2, tower3, tower4, tower5, tower6],
+        tlb_fault(fields),
+        Kind::Tlb,
+        &[
+            fields.tower1,
+            fields.tower2,
+            fields.tower3,
+            fields.tower4,
+            fields.tower5,
+            fields.tower6,
+        ],
         &[],
-        big,
+        order,
     )
 }

@@ -1,12 +1,12 @@
 -- The numbers of a lent array are the fields in the order of their words.
 use mathlib.Core.Path.{◌≡◌, refl}
 use mathlib.Core.List.{[], ◌∷◌}
-use Rattle.note.specs.Phonon.{Phonon}
-use Rattle.note.specs.Charge.{Charge}
-use Rattle.note.specs.Administrative.{Administrative}
-use Rattle.note.specs.Gps.{Gps}
-use Rattle.note.specs.Trigger.{Trigger}
-use Rattle.note.specs.Tlb.{Tlb}
+use Rattle.note.specs.declared.Phonon.{Phonon}
+use Rattle.note.specs.declared.Charge.{Charge}
+use Rattle.note.specs.declared.Administrative.{Administrative}
+use Rattle.note.specs.declared.Gps.{Gps}
+use Rattle.note.specs.declared.Trigger.{Trigger}
+use Rattle.note.specs.declared.Tlb.{Tlb}
 use Rattle.writing.specs.Handed.{phonon_from, charge_from, administrative_from, gps_from, trigger_from, tlb_from}
 
 pub phonon_handed : (f : Phonon) → phonon_from (f.code ∷ f.tower ∷ f.gain ∷ f.qet_bias ∷ f.squid_bias ∷ f.lockpoint ∷ f.rtf_offset

@@ -1,11 +1,11 @@
 -- What a C caller hands to a writer: its fields, as numbers of a lent array, in the order of their words; an index that the array hasn't is 0.
 use Rattle.std.specs.Prelude.{ℕ, List, ℤ, pos, get_or}
-use Rattle.note.specs.Phonon.{Phonon}
-use Rattle.note.specs.Charge.{Charge}
-use Rattle.note.specs.Administrative.{Administrative}
-use Rattle.note.specs.Gps.{Gps}
-use Rattle.note.specs.Trigger.{Trigger}
-use Rattle.note.specs.Tlb.{Tlb}
+use Rattle.note.specs.declared.Phonon.{Phonon}
+use Rattle.note.specs.declared.Charge.{Charge}
+use Rattle.note.specs.declared.Administrative.{Administrative}
+use Rattle.note.specs.declared.Gps.{Gps}
+use Rattle.note.specs.declared.Trigger.{Trigger}
+use Rattle.note.specs.declared.Tlb.{Tlb}
 use Rattle.note.specs.Writers.{Draft, record_next, record_output}
 use Rattle.telling.specs.Told.{Before, After, Told}
 

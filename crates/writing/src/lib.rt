@@ -1,4 +1,5 @@
-// The writers and the closings for C: numbers, lent arrays and buffers alone. include/dwejrasq.h documents each.
+// The writers and the closings for C: numbers, lent arrays and buffers alone, and so alike where the header's calls are. include/dwejrasq.h
+// documents each.
 #![tactic(auto)]
 
 ghost use Rattle.theory.specs.declared.Order.TheVariants.{Little};
@@ -6,9 +7,11 @@ ghost use Rattle.note.specs.Writers.{header_next, header_output, configuration_c
 ghost use Rattle.telling.specs.Told.{Told};
 ghost use Rattle.writing.specs.Handed.{RecordTold, phonon_from, charge_from, administrative_from, gps_from, trigger_from, tlb_from};
 
+use note::{Administrative, Charge, Gps, History, Phonon, Section, Tlb, Trace, Trigger};
 use telling::told;
 
 /// A phonon entry: its eleven words in order.
+#[tactic(auto, unfolding(crate::specs::Handed::phonon_from))]
 #[unsafe(no_mangle)]
 pub extern "C" fn dwj_write_phonon(
     out: &mut [u8],
@@ -18,17 +21,28 @@ pub extern "C" fn dwj_write_phonon(
     refusal: &mut u64,
 ) -> u32
     ensures { RecordTold out.old place (phonon_draft Little (phonon_from fields.now))
-        (record { next = next.entry.now; refusal = refusal.old })
-        (record { number = result; next = next.exit.now; refusal = refusal.new }) out.new }
+        (record { next = next.old; refusal = refusal.old })
+        (record { number = result; next = next.new; refusal = refusal.new }) out.new }
 {
-    let answer = dwejrasq::write_phonon(
-        out, place, fields[0], fields[1], fields[2], fields[3], fields[4], fields[5], fields[6],
-        fields[7], fields[8], fields[9], fields[10],
-    );
+    let fields = Phonon {
+        code: fields[0],
+        tower: fields[1],
+        gain: fields[2],
+        qet_bias: fields[3],
+        squid_bias: fields[4],
+        lockpoint: fields[5],
+        rtf_offset: fields[6],
+        variable_gain: fields[7],
+        delta_t: fields[8],
+        t0: fields[9],
+        trace_length: fields[10],
+    };
+    let answer = dwejrasq::write_phonon(out, place, fields);
     told(answer, next, refusal)
 }
 
 /// A charge entry: its eight words in order.
+#[tactic(auto, unfolding(crate::specs::Handed::charge_from))]
 #[unsafe(no_mangle)]
 pub extern "C" fn dwj_write_charge(
     out: &mut [u8],
@@ -38,17 +52,25 @@ pub extern "C" fn dwj_write_charge(
     refusal: &mut u64,
 ) -> u32
     ensures { RecordTold out.old place (charge_draft Little (charge_from fields.now))
-        (record { next = next.entry.now; refusal = refusal.old })
-        (record { number = result; next = next.exit.now; refusal = refusal.new }) out.new }
+        (record { next = next.old; refusal = refusal.old })
+        (record { number = result; next = next.new; refusal = refusal.new }) out.new }
 {
-    let answer = dwejrasq::write_charge(
-        out, place, fields[0], fields[1], fields[2], fields[3], fields[4], fields[5], fields[6],
-        fields[7],
-    );
+    let fields = Charge {
+        code: fields[0],
+        tower: fields[1],
+        gain: fields[2],
+        bias: fields[3],
+        rtf_offset: fields[4],
+        delta_t: fields[5],
+        t0: fields[6],
+        trace_length: fields[7],
+    };
+    let answer = dwejrasq::write_charge(out, place, fields);
     told(answer, next, refusal)
 }
 
 /// An administrative record: its six words in order.
+#[tactic(auto, unfolding(crate::specs::Handed::administrative_from))]
 #[unsafe(no_mangle)]
 pub extern "C" fn dwj_write_administrative(
     out: &mut [u8],
@@ -58,12 +80,18 @@ pub extern "C" fn dwj_write_administrative(
     refusal: &mut u64,
 ) -> u32
     ensures { RecordTold out.old place (administrative_draft Little (administrative_from fields.now))
-        (record { next = next.entry.now; refusal = refusal.old })
-        (record { number = result; next = next.exit.now; refusal = refusal.new }) out.new }
+        (record { next = next.old; refusal = refusal.old })
+        (record { number = result; next = next.new; refusal = refusal.new }) out.new }
 {
-    let answer = dwejrasq::write_administrative(
-        out, place, fields[0], fields[1], fields[2], fields[3], fields[4], fields[5],
-    );
+    let fields = Administrative {
+        date: fields[0],
+        clock: fields[1],
+        number: fields[2],
+        time: fields[3],
+        since: fields[4],
+        live: fields[5],
+    };
+    let answer = dwejrasq::write_administrative(out, place, fields);
     told(answer, next, refusal)
 }
 
@@ -91,10 +119,19 @@ pub extern "C" fn dwj_write_trace(
       n = n;
       samples = samples.now;
     }))
-        (record { next = next.entry.now; refusal = refusal.old })
-        (record { number = result; next = next.exit.now; refusal = refusal.new }) out.new }
+        (record { next = next.old; refusal = refusal.old })
+        (record { number = result; next = next.new; refusal = refusal.new }) out.new }
 {
-    let answer = dwejrasq::write_trace(out, place, address, channel, code, t0, delta, n, samples);
+    let fields = Trace {
+        address,
+        channel,
+        code,
+        t0,
+        delta_t: delta,
+        n,
+        samples,
+    };
+    let answer = dwejrasq::write_trace(out, place, fields);
     told(answer, next, refusal)
 }
 
@@ -128,25 +165,27 @@ pub extern "C" fn dwj_write_history(
         masks = trigger_masks.now;
       };
     }))
-        (record { next = next.entry.now; refusal = refusal.old })
-        (record { number = result; next = next.exit.now; refusal = refusal.new }) out.new }
+        (record { next = next.old; refusal = refusal.old })
+        (record { number = result; next = next.new; refusal = refusal.new }) out.new }
 {
-    let answer = dwejrasq::write_history(
-        out,
-        place,
-        veto_count,
-        veto_times,
-        veto_width,
-        veto_masks,
-        trigger_count,
-        trigger_times,
-        trigger_width,
-        trigger_masks,
-    );
+    let veto = Section {
+        count: veto_count,
+        times: veto_times,
+        width: veto_width,
+        masks: veto_masks,
+    };
+    let trigger = Section {
+        count: trigger_count,
+        times: trigger_times,
+        width: trigger_width,
+        masks: trigger_masks,
+    };
+    let answer = dwejrasq::write_history(out, place, History { veto, trigger });
     told(answer, next, refusal)
 }
 
 /// A GPS record: year, day, status, hour, minute, second, tenths.
+#[tactic(auto, unfolding(crate::specs::Handed::gps_from))]
 #[unsafe(no_mangle)]
 pub extern "C" fn dwj_write_gps(
     out: &mut [u8],
@@ -156,16 +195,24 @@ pub extern "C" fn dwj_write_gps(
     refusal: &mut u64,
 ) -> u32
     ensures { RecordTold out.old place (gps_draft Little (gps_from fields.now))
-        (record { next = next.entry.now; refusal = refusal.old })
-        (record { number = result; next = next.exit.now; refusal = refusal.new }) out.new }
+        (record { next = next.old; refusal = refusal.old })
+        (record { number = result; next = next.new; refusal = refusal.new }) out.new }
 {
-    let answer = dwejrasq::write_gps(
-        out, place, fields[0], fields[1], fields[2], fields[3], fields[4], fields[5], fields[6],
-    );
+    let fields = Gps {
+        year: fields[0],
+        day: fields[1],
+        status: fields[2],
+        hour: fields[3],
+        minute: fields[4],
+        second: fields[5],
+        tenths: fields[6],
+    };
+    let answer = dwejrasq::write_gps(out, place, fields);
     told(answer, next, refusal)
 }
 
 /// A trigger record: its six masks.
+#[tactic(auto, unfolding(crate::specs::Handed::trigger_from))]
 #[unsafe(no_mangle)]
 pub extern "C" fn dwj_write_trigger(
     out: &mut [u8],
@@ -175,16 +222,23 @@ pub extern "C" fn dwj_write_trigger(
     refusal: &mut u64,
 ) -> u32
     ensures { RecordTold out.old place (trigger_draft Little (trigger_from fields.now))
-        (record { next = next.entry.now; refusal = refusal.old })
-        (record { number = result; next = next.exit.now; refusal = refusal.new }) out.new }
+        (record { next = next.old; refusal = refusal.old })
+        (record { number = result; next = next.new; refusal = refusal.new }) out.new }
 {
-    let answer = dwejrasq::write_trigger(
-        out, place, fields[0], fields[1], fields[2], fields[3], fields[4], fields[5],
-    );
+    let fields = Trigger {
+        mask1: fields[0],
+        mask2: fields[1],
+        mask3: fields[2],
+        mask4: fields[3],
+        mask5: fields[4],
+        mask6: fields[5],
+    };
+    let answer = dwejrasq::write_trigger(out, place, fields);
     told(answer, next, refusal)
 }
 
 /// A TLB record: its six words, by tower.
+#[tactic(auto, unfolding(crate::specs::Handed::tlb_from))]
 #[unsafe(no_mangle)]
 pub extern "C" fn dwj_write_tlb(
     out: &mut [u8],
@@ -194,12 +248,18 @@ pub extern "C" fn dwj_write_tlb(
     refusal: &mut u64,
 ) -> u32
     ensures { RecordTold out.old place (tlb_draft Little (tlb_from fields.now))
-        (record { next = next.entry.now; refusal = refusal.old })
-        (record { number = result; next = next.exit.now; refusal = refusal.new }) out.new }
+        (record { next = next.old; refusal = refusal.old })
+        (record { number = result; next = next.new; refusal = refusal.new }) out.new }
 {
-    let answer = dwejrasq::write_tlb(
-        out, place, fields[0], fields[1], fields[2], fields[3], fields[4], fields[5],
-    );
+    let fields = Tlb {
+        tower1: fields[0],
+        tower2: fields[1],
+        tower3: fields[2],
+        tower4: fields[3],
+        tower5: fields[4],
+        tower6: fields[5],
+    };
+    let answer = dwejrasq::write_tlb(out, place, fields);
     told(answer, next, refusal)
 }
 
@@ -213,8 +273,8 @@ pub extern "C" fn dwj_write_header(
     refusal: &mut u64,
 ) -> u32
     ensures { Told (header_next out.old) (header_output Little out.old major minor)
-        (record { next = next.entry.now; refusal = refusal.old })
-        (record { number = result; next = next.exit.now; refusal = refusal.new }) out.new }
+        (record { next = next.old; refusal = refusal.old })
+        (record { number = result; next = next.new; refusal = refusal.new }) out.new }
 {
     let answer = dwejrasq::write_header(out, major, minor);
     told(answer, next, refusal)
@@ -230,8 +290,8 @@ pub extern "C" fn dwj_close_configuration(
     refusal: &mut u64,
 ) -> u32
     ensures { Told (configuration_closed Little out.old place end) (configuration_output Little out.old place end)
-        (record { next = next.entry.now; refusal = refusal.old })
-        (record { number = result; next = next.exit.now; refusal = refusal.new }) out.new }
+        (record { next = next.old; refusal = refusal.old })
+        (record { number = result; next = next.new; refusal = refusal.new }) out.new }
 {
     let answer = dwejrasq::close_configuration(out, place, end);
     told(answer, next, refusal)
@@ -251,8 +311,8 @@ pub extern "C" fn dwj_close_event(
 ) -> u32
     ensures { Told (event_closed Little out.old place end class category event_type)
         (event_output Little out.old place end class category event_type)
-        (record { next = next.entry.now; refusal = refusal.old })
-        (record { number = result; next = next.exit.now; refusal = refusal.new }) out.new }
+        (record { next = next.old; refusal = refusal.old })
+        (record { number = result; next = next.new; refusal = refusal.new }) out.new }
 {
     let answer = dwejrasq::close_event(out, place, end, class, category, event_type);
     told(answer, next, refusal)

@@ -6,7 +6,6 @@ use mathlib.Core.List.{[], ◌∷◌}
 use lib.Seq.{sets}
 use native.Mathlib.Omega.{arith}
 use lib.ListN.{length}
-use Rattle.theory.specs.Words.{order_from}
 use Rattle.theory.specs.declared.Order.{Order}
 use Rattle.theory.proofs.WordLaws.{length-puts}
 use Rattle.note.specs.Words.{words}
@@ -27,33 +26,34 @@ eight o major minor =
     ap length (header-bytes o v) ∙ length-puts o 4 (file_mark ∷ v ∷ [])
 
 -- `admitted` was asked the header's size.
-admitted : (c : After-admitted) → (let a = c.args in Admitted a.out.now 0 (header (order_from a.big) a.major a.minor) c.admitted.result)
+admitted : (c : After-admitted) → (let a = c.args in Admitted a.out.now 0 (header a.order a.major a.minor) c.admitted.result)
 admitted c =
     let a = c.args in
-    record { fault = 0; size = 8; fault-is = refl; size_is = λ z. eight (order_from a.big) a.major a.minor; said = c.admitted.ensures }
+    record { fault = 0; size = 8; fault-is = refl; size_is = λ z. eight a.order a.major a.minor; said = c.admitted.ensures }
 
 pub put_words-requires : goal.put_words-requires
 put_words-requires c =
     let a = c.args in
-    let room = (has_room (admitted (goal.at.put_words-requires c).After-admitted) c.in-Next.is).1 in
-    omega (arith, room, eight (order_from a.big) a.major a.minor)
+    let room = (has_room (admitted (goal.at.put_words-requires c).After-admitted) c.in_ok-next.was).1 in
+    omega (arith, room, eight a.order a.major a.minor)
 
-pub returns-in-Refused : goal.returns-in-Refused
+pub returns-in_err-next : goal.returns-in_err-next
 unfolding header_next header_output record_next record_output
-returns-in-Refused c =
+returns-in_err-next c =
     let a = c.args in
-    let given = refuses (admitted (goal.at.returns-in-Refused c).After-admitted) c.in-Refused.is in
-    let (answer, output) = rw (eight (order_from a.big) a.major a.minor) at given in
+    let given =
+    refuses (admitted (goal.at.returns-in_err-next c).After-admitted) c.from_residual.result c.in_err-next.was c.from_residual.ensures.1 in
+    let (answer, output) = rw (eight a.order a.major a.minor) at given in
     record { answer = answer; output = output }
 
-pub returns-in-Next : goal.returns-in-Next
+pub returns : goal.returns
 unfolding header_next header_output record_next record_output
-returns-in-Next c =
+returns c =
     let a = c.args in
     let out = a.out.now in
-    let o = order_from a.big in
+    let o = a.order in
     let given =
-    lays (admitted (goal.at.returns-in-Next c).After-admitted) c.in-Next.is
+    lays (admitted (goal.at.returns c).After-admitted) c.in_ok-next.was
     (c.put_words.ensures
     ∙ ap (λ (v : ℕ). sets out 0 (words o (file_mark ∷ v ∷ []))) c.version_word.ensures
     ∙ ap (sets out 0) (sym (header-bytes o (version_word a.major a.minor)))) in

@@ -7,11 +7,11 @@ use Rattle.containers.proofs.FileLaws.{over, within-limit}
 use Rattle.containers.proofs.check.Goals as goal
 
 pub returns-then-file-gt-FILE_LIMIT : goal.returns-then-file-gt-FILE_LIMIT
-returns-then-file-gt-FILE_LIMIT c = over c.args.file.now c.if-file-gt-FILE_LIMIT.true
+returns-then-file-gt-FILE_LIMIT c = rw c.at.ensures (over c.args.file.now c.if-file-gt-FILE_LIMIT.true)
 
 pub returns : goal.returns
 returns c =
     let file = c.args.file.now in
     c.parts_in.ensures
-    ∙ ap (λ (o : Order). part_rows (read_parts o file)) c.is_big.ensures
+    ∙ ap (λ (o : Order). part_rows (read_parts o file)) c.order_of.ensures
     ∙ within-limit file c.if-file-gt-FILE_LIMIT.false

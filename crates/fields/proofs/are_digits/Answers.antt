@@ -12,12 +12,6 @@ returns-then-nibble-gt9 c =
     let h = rw c.nibble.ensures at c.if-nibble-gt9.true in
     sym (c.loop-k.invariant ∙ digit_fails _ _ c.loop-k.k c.loop-k-test.true h)
 
-pub overflow_step-k : goal.overflow_step-k
-overflow_step-k c = omega arith
-
-pub loop-k-smaller : goal.loop-k-smaller
-loop-k-smaller c = omega arith
-
 pub loop-k-preserved : goal.loop-k-preserved
 loop-k-preserved c =
     let h = rw c.nibble.ensures at c.if-nibble-gt9.false in

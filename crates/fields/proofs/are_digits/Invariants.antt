@@ -7,6 +7,3 @@ use Rattle.fields.proofs.are_digits.Given as goal
 
 abbrev pub invariant-loop-k : goal.invariant-loop-k
 invariant-loop-k l = are_digits l.n l.w ≡ are_digits (l.n - l.k) (l.w / 16 ^ l.k)
-
-abbrev pub decreases-loop-k : goal.decreases-loop-k
-decreases-loop-k l = l.n - l.k

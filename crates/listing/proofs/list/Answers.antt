@@ -12,7 +12,7 @@ returns-then-file-gt-LISTING_LIMIT c =
     let a = c.args in
     let said = c.put_table.ensures in
     let (value, (out_after, prefix_len)) =
-    over-listed a.file.now a.out.now (replicate 12288 0) c.put_table.new.out c.put_table.result (omega arith)
+    over-listed a.file.now a.out.now (replicate 12288 0) c.put_table.new.out c.from.result c.put_table.result c.from.ensures (omega arith)
     c.if-file-gt-LISTING_LIMIT.true (said.value, (said.out_after, said.prefix_len)) in
     record { value = value; out_after = out_after; prefix_len = prefix_len }
 

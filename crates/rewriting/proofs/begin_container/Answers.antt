@@ -2,7 +2,6 @@
 use mathlib.Core.Path.{◌≡◌, sym, ap, ◌∙◌}
 use Prim.Native.Nat.{ℕ}
 use lib.Seq.{sets}
-use Rattle.theory.specs.Words.{order_from}
 use Rattle.note.specs.Events.{event_fault, event_word}
 use Rattle.note.specs.Writers.{closing_bytes}
 use Rattle.rewriting.proofs.ContainerCopy.{event_begins}
@@ -20,7 +19,7 @@ pub returns-then-word-eq-CONFIGURATION : goal.returns-then-word-eq-CONFIGURATION
 returns-then-word-eq-CONFIGURATION c =
     let a = c.args in
     c.begin_configuration.ensures
-    ∙ ap (λ (w : ℕ). sets a.out.now a.place (closing_bytes (order_from a.big) w a.place a.end)) (sym c.if-word-eq-CONFIGURATION.true)
+    ∙ ap (λ (w : ℕ). sets a.out.now a.place (closing_bytes a.order w a.place a.end)) (sym c.if-word-eq-CONFIGURATION.true)
 
 pub begin_event-requires : goal.begin_event-requires
 begin_event-requires c = record { room = c.requires.room; word = (apart (goal.at.begin_event-requires c).After-event_type_of-event_type).0 }
@@ -29,5 +28,5 @@ pub returns : goal.returns
 returns c =
     let a = c.args in
     c.begin_event.ensures
-    ∙ ap (λ (w : ℕ). sets a.out.now a.place (closing_bytes (order_from a.big) w a.place a.end))
+    ∙ ap (λ (w : ℕ). sets a.out.now a.place (closing_bytes a.order w a.place a.end))
     (apart (goal.at.returns c).After-event_type_of-event_type).1

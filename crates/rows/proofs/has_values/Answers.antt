@@ -1,20 +1,19 @@
 -- `rows::has_values` meets its contract: each way is one of the definition's cases.
--- The idea: the places that were looked up are the kind's, so the code's tests are the definition's.
-use Rattle.rows.proofs.ValueLaws.{none_has, history_has, others_have, ordered}
-use mathlib.Core.Path.{sym}
+use mathlib.Core.Path.{sym, ◌∙◌}
 use native.Mathlib.Omega.{arith}
+use Rattle.rows.proofs.ValueLaws.{none_has, history_has, others_have, second_fits}
 use Rattle.rows.proofs.has_values.Goals as goal
 
-pub returns-then-s-eq-HISTORY_ROW : goal.returns-then-s-eq-HISTORY_ROW
-returns-then-s-eq-HISTORY_ROW c =
-    rw c.history_rule.ensures (sym (history_has _ _ _ c.value_places-s.ensures c.if-s-eq-HISTORY_ROW.true))
+pub returns-in_default : goal.returns-in_default
+returns-in_default c = sym (none_has _ _ _ c.in_default.ensures.1)
 
-pub returns-then-s-eq0 : goal.returns-then-s-eq0
-returns-then-s-eq0 c = sym (none_has _ _ _ c.value_places-s.ensures c.if-s-eq0.true)
+pub returns-in-History : goal.returns-in-History
+returns-in-History c =
+    c.is_ok.ensures.value
+    ∙ history_has c.args.order c.args.b.now c.in-Ok.kind c.in-Ok.ensures c.in-History.is c.history_rule.result c.history_rule.ensures
 
 pub overflow_add-result : goal.overflow_add-result
-overflow_add-result c = omega (arith, ordered _ c.value_places-s.ensures)
+overflow_add-result c = let f = second_fits c.in-Ok.kind in rw c.value_places.ensures (omega arith)
 
-pub returns : goal.returns
-returns c =
-    sym (others_have _ _ _ c.value_places-s.ensures c.if-s-eq-HISTORY_ROW.false c.if-s-eq0.false)
+pub returns-in_default-kind : goal.returns-in_default-kind
+returns-in_default-kind c = others_have c.args.order c.args.b.now c.in-Ok.kind c.in-Ok.ensures c.in_default-kind.not-History c.value_places.ensures

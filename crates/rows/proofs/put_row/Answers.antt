@@ -1,6 +1,7 @@
 -- `rows::put_row` meets its contract: six stores in the row's part of the buffer.
 -- The idea: stores into a lent part, however many, are one law.
 use Prim.Native.Nat.{◌+◌, ◌-◌, ◌*◌, ◌≤◌}
+use mathlib.Core.Path.{refl}
 use mathlib.Core.List.{[], ◌∷◌}
 use native.Mathlib.Omega.{arith}
 use lib.ListN.{length}
@@ -15,4 +16,4 @@ returns c =
     let a = c.args in
     let i = a.n * 6 in
     let room : i + 6 ≤ length a.rows.now = c.requires in
-    part-stored a.rows.now i (i + 6 - i) (flat (row_of a.row ∷ [])) _ (omega arith) (omega arith) c.put_each.ensures
+    part-stored a.rows.now i (i + 6 - i) (flat (row_of a.row ∷ [])) _ (omega arith) (omega arith) refl

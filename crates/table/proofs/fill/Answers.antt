@@ -4,7 +4,7 @@ use Prim.Native.Nat.{◌+◌, ◌≤◌}
 use mathlib.Core.Path.{◌≡◌, refl}
 use native.Mathlib.Omega.{arith}
 use lib.ListN.{length}
-use Rattle.theory.specs.Words.{Bytes, order_from}
+use Rattle.theory.specs.Words.{Bytes}
 use Rattle.theory.proofs.WordLaws.{Bytes-from}
 use Rattle.note.specs.Limits.{file_limit}
 use Rattle.table.proofs.FileFillLaws.{some, sized, Begun, begin, fillable, next_row, fillable_events, done}
@@ -21,7 +21,7 @@ whole c = sized c.requires ((let it : Bytes c.args.file.now = Bytes-from c.args.
     it)) _ c.word_at.ensures
 
 -- Where the header's row was stored: what the buffer holds.
-begun : (c : After-put_row) → (let a = c.args in Begun (order_from a.big) a.file.now a.rows.now c.word_at.result c.put_row.new.rows)
+begun : (c : After-put_row) → (let a = c.args in Begun a.order a.file.now a.rows.now c.word_at.result c.put_row.new.rows)
 begun c =
     begin ((let it : Bytes c.args.file.now = Bytes-from c.args.file.now (λ i l. omega (arith, c.type_inv.file i)) in
     it)) c.requires _ c.word_at.ensures _ c.word_at-2.ensures _ c.put_row.ensures
@@ -31,7 +31,7 @@ rows : (c : After-fill_records-next) → (2 ≤ c.fill_records-next.result) × (
     × (length c.fill_records-next.new.rows ≡ length c.args.rows.now)
 rows c =
     next_row ((let it : (let a = c.args in
-    Begun (order_from a.big) a.file.now a.rows.now c.word_at.result c.put_row.new.rows) = begin
+    Begun a.order a.file.now a.rows.now c.word_at.result c.put_row.new.rows) = begin
     ((let it : Bytes c.args.file.now = Bytes-from c.args.file.now (λ i l. omega (arith, c.type_inv.file i)) in
     it)) c.requires _ c.word_at.ensures _ c.word_at-2.ensures _ c.put_row.ensures in it)) _ _ c.fill_records-next.ensures
 

@@ -1,30 +1,19 @@
--- `table::table` meets its contract: refused, too few rows lent, or filled.
--- The idea: each way out is a law of TableLaws, of what check's answer says of the file.
-use mathlib.Core.Path.{◌≡◌, sym, ◌∙◌}
-use Rattle.note.specs.Files.{read_file}
-use Rattle.containers.specs.declared.Count.TheVariants.{Good}
-use Rattle.containers.specs.Counts.{file_rows}
-use Rattle.table.proofs.TableLaws.{refused, too_few, fillable, filled}
+-- Too few rows lent, or filled: each way out is a law of TableLaws, of what check's answer says of the file.
+use Rattle.std.proofs.Common.{sym}
+use Rattle.table.proofs.TableLaws.{few_answer, few_buffer, fillable, filled_answer, filled_buffer}
 use Rattle.table.proofs.table.Goals as goal
-use Rattle.table.proofs.table.Goals.{In-Good}
 
-counted : (c : In-Good) → Good c.in-Good.count ≡ file_rows (read_file c.args.file.now)
-counted c = sym c.in-Good.is ∙ c.check.ensures
+pub returns-then-rows-count-clause-answer : goal.returns-then-rows-count-clause-answer
+returns-then-rows-count-clause-answer c = rw (few_answer _ _ _ c.in-Ok.ensures c.if-rows-count.true, c.into-then-rows-count.ensures)
 
-pub returns-then-rows-count : goal.returns-then-rows-count
-returns-then-rows-count c =
-    let (answer, buffer) = too_few _ _ _ (counted (goal.at.returns-then-rows-count c).In-Good) c.if-rows-count.true in
-    record { answer = answer; buffer = buffer }
+pub returns-then-rows-count-clause-buffer : goal.returns-then-rows-count-clause-buffer
+returns-then-rows-count-clause-buffer c = sym (few_buffer _ _ _ c.in-Ok.ensures c.if-rows-count.true)
 
 pub fill-requires : goal.fill-requires
-fill-requires c =
-    fillable _ c.args.rows.now _ (counted (goal.at.fill-requires c).In-Good) c.if-rows-count.false _ c.is_big.ensures
+fill-requires c = fillable _ _ _ _ c.order_of.ensures c.in-Ok.ensures c.if-rows-count.false
 
-pub returns-in-Bad : goal.returns-in-Bad
-returns-in-Bad c =
-    let (answer, buffer) = refused _ _ _ _ (sym c.in-Bad.is ∙ c.check.ensures) in record { answer = answer; buffer = buffer }
+pub returns-else-rows-count-clause-answer : goal.returns-else-rows-count-clause-answer
+returns-else-rows-count-clause-answer c = sym (filled_answer _ _ _ c.in-Ok.ensures c.if-rows-count.false)
 
-pub returns-else-rows-count : goal.returns-else-rows-count
-returns-else-rows-count c =
-    let (answer, buffer) = filled _ _ _ (counted (goal.at.returns-else-rows-count c).In-Good) c.if-rows-count.false _ c.fill.ensures in
-    record { answer = answer; buffer = buffer }
+pub returns-else-rows-count-clause-buffer : goal.returns-else-rows-count-clause-buffer
+returns-else-rows-count-clause-buffer c = sym (filled_buffer _ _ _ _ c.in-Ok.ensures c.if-rows-count.false c.fill.ensures)

@@ -4,8 +4,8 @@ use Prim.Native.Nat.{◌+◌, ◌-◌}
 use Rattle.visitor.proofs.VisitLaws.{Storing}
 use Rattle.visitor.proofs.store.Given as goal
 
-abbrev pub invariant-loop-n : goal.invariant-loop-n
-invariant-loop-n l = Storing l.file l.initial.at l.first l.room l.initial.rows l.rows l.at l.k l.n
+abbrev pub invariant-loop-count : goal.invariant-loop-count
+invariant-loop-count l = Storing l.file l.initial.at l.first l.room l.initial.rows l.rows l.at l.passed l.count
 
-abbrev pub decreases-loop-n : goal.decreases-loop-n
-decreases-loop-n l = (l.first - l.k) + (l.room - l.n)
+abbrev pub decreases-loop-count : goal.decreases-loop-count
+decreases-loop-count l = (l.first - l.passed) + (l.room - l.count)

@@ -4,87 +4,39 @@ use Prim.Native.Nat.{◌+◌, ◌≤◌, ◌<◌}
 use mathlib.Core.Path.{sym, ◌∙◌}
 use native.Mathlib.Omega.{arith}
 use lib.ListN.{length}
-use Rattle.theory.specs.Words.{order_from}
+use borrow.Author.Rules.{rules}
 use Rattle.note.specs.Limits.{file_limit}
-use Rattle.note.specs.History.{History}
-use Rattle.note.specs.Writers.{history_draft}
+use Rattle.note.specs.Writers.{history_draft, history_handed}
 use Rattle.stores.proofs.WriterLaws.{Admitted, refuses, has_room, writes}
 use Rattle.writers.proofs.HistoryLaws.{parts_size, history-size, size_fits}
-use borrow.Author.Rules.{rules}
 use Rattle.writers.proofs.write_history.Goals as goal
-use Rattle.writers.proofs.write_history.Goals.{After-admitted, In-Next, Start}
-
--- The fields handed over.
-abbrev fields : (c : Start) → History
-fields c =
-    let a = c.args in
-    record {
-      veto = record { count = a.veto_count; times = a.veto_times.now; width = a.veto_width; masks = a.veto_masks.now };
-      trigger = record { count = a.trigger_count; times = a.trigger_times.now; width = a.trigger_width; masks = a.trigger_masks.now };
-    }
+use Rattle.writers.proofs.write_history.Goals.{After-admitted, In_ok-next}
 
 -- `admitted` was asked the history's fault and, where it has none, its size.
-admitted : (c : After-admitted) → (let a = c.args in Admitted a.out.now a.place (history_draft (order_from a.big) (let a = c.args in
-    record {
-      veto = record { count = a.veto_count; times = a.veto_times.now; width = a.veto_width; masks = a.veto_masks.now };
-      trigger = record { count = a.trigger_count; times = a.trigger_times.now; width = a.trigger_width; masks = a.trigger_masks.now };
-    })) c.admitted.result)
+asked : (c : After-admitted) → (let a = c.args in Admitted a.out.now a.place (history_draft a.order (history_handed a.fields)) c.admitted.result)
 unfolding history_draft
-admitted c = record {
+asked c = record {
   fault = _;
   size = _;
   fault-is = c.history_fault-fault.ensures;
-  size_is = λ z. history-size _ (let a = c.args in
-      record {
-        veto = record { count = a.veto_count; times = a.veto_times.now; width = a.veto_width; masks = a.veto_masks.now };
-        trigger = record { count = a.trigger_count; times = a.trigger_times.now; width = a.trigger_width; masks = a.trigger_masks.now };
-      }) ∙ sym (c.history_size-size.ensures z);
+  size_is = λ z. history-size _ (history_handed c.args.fields) ∙ sym (c.history_size.ensures z);
   said = c.admitted.ensures;
 }
 
 -- Where the next place was answered: the limit, and room for the parts.
-room : (c : In-Next) → ((length c.args.out.now ≤ file_limit) × (c.args.place + (24 + parts_size (let a = c.args in
-    record {
-      veto = record { count = a.veto_count; times = a.veto_times.now; width = a.veto_width; masks = a.veto_masks.now };
-      trigger = record { count = a.trigger_count; times = a.trigger_times.now; width = a.trigger_width; masks = a.trigger_masks.now };
-    })) ≤ length c.args.out.now))
-unfolding history_draft
+room : (c : In_ok-next) → (let a = c.args in
+    (length a.out.now ≤ file_limit) × (a.place + (24 + parts_size (history_handed a.fields)) ≤ length a.out.now))
 room c =
-    let (limit, fits) = has_room ((let it : (let a = c.args in Admitted a.out.now a.place (history_draft (order_from a.big) (let a = c.args in
-    record {
-      veto = record { count = a.veto_count; times = a.veto_times.now; width = a.veto_width; masks = a.veto_masks.now };
-      trigger = record { count = a.trigger_count; times = a.trigger_times.now; width = a.trigger_width; masks = a.trigger_masks.now };
-    })) c.admitted.result) = record {
-      fault = _;
-      size = _;
-      fault-is = c.history_fault-fault.ensures;
-      size_is = λ z. history-size _ (let a = c.args in
-          record {
-            veto = record { count = a.veto_count; times = a.veto_times.now; width = a.veto_width; masks = a.veto_masks.now };
-            trigger = record { count = a.trigger_count; times = a.trigger_times.now; width = a.trigger_width; masks = a.trigger_masks.now };
-          }) ∙ sym (c.history_size-size.ensures z);
-      said = c.admitted.ensures;
-    } in it)) c.in-Next.is in (
-      limit,
-      omega (
-        arith,
-        fits,
-        history-size (order_from c.args.big) (let a = c.args in
-            record {
-              veto = record { count = a.veto_count; times = a.veto_times.now; width = a.veto_width; masks = a.veto_masks.now };
-              trigger = record { count = a.trigger_count; times = a.trigger_times.now; width = a.trigger_width; masks = a.trigger_masks.now };
-            }),
-      ),
-    )
+    let (limit, fits) = has_room (asked (goal.at.slice_bounds-put_history-count c).After-admitted) c.in_ok-next.was in
+    (limit, omega (arith, fits, history-size c.args.order (history_handed c.args.fields)))
 
-pub history_size-size-requires : goal.history_size-size-requires
-history_size-size-requires c =
-    let l : length c.args.veto_masks.now < 0x8000000000000000 = search rules in
-    λ z. size_fits (let a = c.args in
-    record {
-      veto = record { count = a.veto_count; times = a.veto_times.now; width = a.veto_width; masks = a.veto_masks.now };
-      trigger = record { count = a.trigger_count; times = a.trigger_times.now; width = a.trigger_width; masks = a.trigger_masks.now };
-    }) (sym c.history_fault-fault.ensures ∙ z) l
+pub history_size-requires : goal.history_size-requires
+history_size-requires c =
+    let l : length c.args.fields.veto.masks.now < 0x8000000000000000 = search rules in
+    λ z. size_fits (history_handed c.args.fields) (sym c.history_fault-fault.ensures ∙ z) l
+
+pub returns-in_err-next : goal.returns-in_err-next
+returns-in_err-next c = refuses (asked (goal.at.returns-in_err-next c).After-admitted) _ c.in_err-next.was c.from_residual.ensures.1
 
 pub slice_bounds-put_history-count : goal.slice_bounds-put_history-count
 slice_bounds-put_history-count c = omega (arith, (room c).1)
@@ -94,12 +46,8 @@ slice_bounds-put_history-start c = omega (arith, (room c).1)
 
 pub put_history-requires : goal.put_history-requires
 put_history-requires c =
-    let (limit, fits) = room (goal.at.put_history-requires c).In-Next in
-    omega (arith, limit, fits, c.put_history-arg-1.given)
+    let (limit, fits) = room (goal.at.put_history-requires c).In_ok-next in
+    omega (arith, limit, fits)
 
-pub returns-in-Refused : goal.returns-in-Refused
-returns-in-Refused c = refuses (admitted (goal.at.returns-in-Refused c).After-admitted) c.in-Refused.is
-
-pub returns-in-Next : goal.returns-in-Next
-returns-in-Next c =
-    writes (admitted (goal.at.returns-in-Next c).After-admitted) c.in-Next.is _ c.put_history.ensures
+pub returns : goal.returns
+returns c = writes (asked (goal.at.returns c).After-admitted) c.in_ok-next.was _ c.put_history.ensures

@@ -1,7 +1,0 @@
--- The writer's own contract, of the fields in the array; its answer told in lent numbers.
-use Rattle.writing.specs.Handed.{gps_from}
-use Rattle.writing.proofs.dwj_write_gps.Goals as goal
-
-pub returns : goal.returns
-unfolding gps_from
-returns c = let w = c.write_gps-answer.ensures in (c.told.ensures _ w.0, w.1)
