@@ -16,7 +16,7 @@ use containers::{CONFIGURATION, Container, FILE_MARK, FORMAT, HEADER, records_in
 use fields::{EVENT_MARK, event_fault};
 use note::{Fault, Refusal};
 use record::{FILE_LIMIT, FRONT};
-use stores::{admitted, put_words};
+use stores::{granted, put_words};
 use theory::Order;
 
 // ---- the header
@@ -41,7 +41,7 @@ pub fn write_header(out: &mut [u8], major: u8, minor: u8, order: Order) -> Resul
     ensures answer { res_of result ≡ header_next out.old }
     ensures output { out.new ≡ header_output order out.old major minor }
 {
-    let next = admitted(out.len(), 0, Ok(()), HEADER)?;
+    let next = granted(out.len(), 0, Ok(()), HEADER)?;
     put_words(out, 0, &[FILE_MARK, version_word(major, minor)], order);
     Ok(next)
 }

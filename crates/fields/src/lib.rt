@@ -3,7 +3,7 @@
 #![tactic(auto)]
 
 ghost use Rattle.std.specs.Prelude.{◌&&◌, [], ◌∷◌, ◌≡◌, ◌/◌, ◌%◌, ◌^◌, ◌≤◌, leb, get_or};
-ghost use Rattle.theory.specs.Tests.{unless, among};
+ghost use Rattle.theory.specs.Tests.{unless, first, among};
 ghost use Rattle.note.specs.Faults.{fault_in, fault_number};
 ghost use Rattle.note.specs.Words.{signed, unsigned};
 ghost use Rattle.note.specs.Calls.{hundredth};
@@ -24,6 +24,29 @@ pub fn ensure(holds: bool, fault: Fault) -> Result<(), Fault>
     ensures { fault_in result ≡ unless holds (fault_number fault) }
 {
     if holds { Ok(()) } else { Err(fault) }
+}
+
+// ---- the same by numbers, of which any is taken; 0 is no fault
+
+/// The number of a test: none where it holds.
+pub fn unless(holds: bool, number: u32) -> u32
+    ensures { result ≡ unless holds number }
+{
+    if holds { 0 } else { number }
+}
+
+/// The first of two numbers that isn't 0, or 0.
+pub fn earlier(one: u32, two: u32) -> u32
+    ensures { result ≡ first (one ∷ two ∷ []) }
+{
+    if one != 0 { one } else { two }
+}
+
+/// The first of the number so far and the number of one more test.
+pub fn or_unless(fault: u32, holds: bool, number: u32) -> u32
+    ensures { result ≡ first (fault ∷ unless holds number ∷ []) }
+{
+    earlier(fault, unless(holds, number))
 }
 
 // ---- words

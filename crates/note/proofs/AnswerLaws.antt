@@ -12,6 +12,7 @@ use Rattle.std.proofs.Common.{Result, Ok, Err, Option, Some, None}
 use Rattle.note.specs.Answers.{Value, whole, float, Given, accepted, refused, counts, given}
 use Rattle.note.specs.Answers.{given_record, setting_values, given_setting, given_number, place_values, given_find, given_yield}
 use Rattle.note.specs.declared.Refusal.{Refusal}
+use Rattle.note.specs.declared.Numbered.{Numbered}
 use Rattle.note.specs.declared.RecordAnswer.{RecordAnswer}
 use Rattle.note.specs.declared.RecordAnswer.TheVariants as Record
 use Rattle.note.specs.declared.SettingAnswer.{SettingAnswer}
@@ -20,7 +21,7 @@ use Rattle.note.specs.Writers.{writer_given}
 use Rattle.note.specs.declared.WalkerYield.{WalkerYield}
 use Rattle.note.specs.declared.WalkerYield.TheVariants as Yield
 use Rattle.theory.specs.Tests.{Res, ok, bad}
-use Rattle.note.specs.Faults.{fault_number, res_of}
+use Rattle.note.specs.Faults.{fault_number, res_of, numbered_in}
 use Rattle.note.proofs.FaultLaws.{numbered_fault, fault_undone}
 
 -- What has a way back is one-to-one.
@@ -228,6 +229,22 @@ res_undone (Err r) = λ i. Err (record { fault = fault_undone r.fault i; place =
 
 pub result_determined : {A : Type 0} (r s : Result A Refusal) → res_of r ≡ res_of s → r ≡ s
 result_determined r s e = sym (res_undone r) ∙ ap back_res e ∙ res_undone s
+
+-- A refusal by its number is told by the number that it has, whichever it is, and its place; and that says which result it was.
+pub numbers_told : {A : Type 0} (a : A) (r : Numbered)
+    → (numbered_in {A = A} (Ok a) ≡ ok a) × (numbered_in {A = A} (Err r) ≡ bad r.number r.place)
+numbers_told a r = (refl, refl)
+
+abbrev back_numbered : {A : Type 0} → Res A → Result A Numbered
+back_numbered (ok a) = Ok a
+back_numbered (bad number place) = Err (record { number = number; place = place })
+
+numbered_undone : {A : Type 0} (r : Result A Numbered) → back_numbered (numbered_in r) ≡ r
+numbered_undone (Ok a) = refl
+numbered_undone (Err r) = refl
+
+pub numbers_determined : {A : Type 0} (r s : Result A Numbered) → numbered_in r ≡ numbered_in s → r ≡ s
+numbers_determined r s e = sym (numbered_undone r) ∙ ap back_numbered e ∙ numbered_undone s
 
 -- A writer's result, in numbers and values, is that of what it reads as.
 pub number_given : (r : Result ℕ Refusal) → given_number r ≡ writer_given (res_of r)

@@ -3,6 +3,7 @@ use Rattle.std.specs.Prelude.{ℕ, Result, Ok, Err}
 use Rattle.theory.specs.Tests.{Res, ok, bad}
 use Rattle.note.specs.declared.Fault.{Fault}
 use Rattle.note.specs.declared.Refusal.{Refusal}
+use Rattle.note.specs.declared.Numbered.{Numbered}
 
 -- FORMAT 2.1: a lent file or output is over the limit.
 abbrev pub too_large : ℕ
@@ -80,3 +81,8 @@ fault_in (Err f) = fault_number f
 abbrev pub res_of : {A : Type 0} → Result A Refusal → Res A
 res_of (Ok a) = ok a
 res_of (Err r) = bad (fault_number r.fault) r.place
+
+-- FORMAT 2.2: the same of a refusal by its number, whatever the number is.
+abbrev pub numbered_in : {A : Type 0} → Result A Numbered → Res A
+numbered_in (Ok a) = ok a
+numbered_in (Err r) = bad r.number r.place

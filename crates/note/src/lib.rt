@@ -42,6 +42,13 @@ pub struct Refusal {
     pub place: usize,
 }
 
+/// A refusal by its number, which may be any: what a caller hands over who has no `Fault`.
+#[derive(Clone, Copy, Debug, PartialEq, Eq)]
+pub struct Numbered {
+    pub number: u32,
+    pub place: usize,
+}
+
 impl Fault {
     /// The refusal for this fault at a place.
     pub fn at(self, place: usize) -> Refusal
@@ -56,6 +63,17 @@ impl From<Fault> for u32 {
 
     fn from(fault: Fault) -> u32 {
         fault as u32
+    }
+}
+
+impl From<Refusal> for Numbered {
+    ghost from_gives = { λ refusal numbered. numbered ≡ record { number = fault_number refusal.fault; place = refusal.place } };
+
+    fn from(refusal: Refusal) -> Numbered {
+        Numbered {
+            number: refusal.fault.into(),
+            place: refusal.place,
+        }
     }
 }
 

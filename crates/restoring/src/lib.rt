@@ -4,7 +4,7 @@
 ghost use Rattle.note.specs.Writers.{rewrite_next, rewrite_output};
 ghost use Rattle.telling.specs.Told.{Told};
 
-use telling::told;
+use telling::told_fault;
 
 /// Rewrite: an accepted file written again from its fields, from byte 0 of the output on.
 #[unsafe(no_mangle)]
@@ -14,5 +14,5 @@ pub extern "C" fn dwj_rewrite(file: &[u8], out: &mut [u8], next: &mut u64, refus
         (record { number = result; next = next.new; refusal = refusal.new }) out.new }
 {
     let answer = dwejrasq::rewrite(file, out);
-    told(answer, next, refusal)
+    told_fault(answer, next, refusal)
 }

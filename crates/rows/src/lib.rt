@@ -39,12 +39,12 @@ pub struct Values {
     pub two: u32,
 }
 
-// A kind's row kind, and where its row's values stand in a body, a history's second apart.
+/// A kind's row kind, and where its row's values stand in a body, a history's second apart.
 #[derive(Clone, Copy)]
-struct Standing {
-    kind: u32,
-    one: usize,
-    two: usize,
+pub struct Standing {
+    pub kind: u32,
+    pub one: usize,
+    pub two: usize,
 }
 
 // Where the values of a kind's row stand.

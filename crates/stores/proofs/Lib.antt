@@ -1,3 +1,4 @@
 pub mod StoreLaws
 pub mod WriterLaws
 pub mod StructureLaws
+pub mod NumberedLaws

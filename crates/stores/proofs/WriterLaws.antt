@@ -24,7 +24,7 @@ given_back (Ok next) f h = absurd h
 given_back (Err e) f h = rw h
 
 -- Granted: nothing stood against it.
-writer_next_ok : (n place fault size : ℕ) {next : ℕ} → writer_next n place fault size ≡ ok next
+pub writer_next_ok : (n place fault size : ℕ) {next : ℕ} → writer_next n place fault size ≡ ok next
     → (n ≤ file_limit) × (fault ≡ 0) × (place + size ≤ n)
 unfolding writer_next
 writer_next_ok n place fault size e =
@@ -62,7 +62,7 @@ unfolding writer_next
 size_unasked n place zero e h = rw (sym e, h refl)
 size_unasked n place (suc fault) e h = rw (sym e)
 
--- What `admitted` was asked, of a record with that fault and, where it has none, that size; and what it answered.
+-- What `granted` was asked, of a record with that fault and, where it has none, that size; and what it answered.
 pub record Admitted (out : List ℕ) (place : ℕ) (w : Draft) (r : Result ℕ Refusal) : Type 0 where
   pub fault : ℕ
   pub size : ℕ

@@ -5,21 +5,41 @@
 ghost use Rattle.std.specs.Prelude.{◌≡◌, [], ◌∷◌, ◌+◌, ◌*◌, ◌≤◌, ◌<◌, length};
 ghost use Rattle.std.proofs.lemmas.List.Edits.{sets};
 ghost use Rattle.note.specs.Words.{words};
-ghost use Rattle.note.specs.Faults.{fault_in, res_of};
+ghost use Rattle.note.specs.Faults.{fault_in, res_of, numbered_in};
 ghost use Rattle.note.specs.Writers.{writer_next};
 ghost use Rattle.rules.specs.Kinds.{kind_word};
-ghost use Rattle.stores.specs.Writes.{WriterDid};
+ghost use Rattle.stores.specs.Writes.{WriterDid, NumberedDid};
 ghost use Rattle.stores.specs.Structures.{structured, structure_draft};
 
-use note::{Fault, Refusal};
+use note::{Fault, Numbered, Refusal};
 use record::FILE_LIMIT;
 use rules::Kind;
 use theory::Order;
 
-/// The answer of a writer of `size` bytes from a place on, over an output of `room` bytes: 1 for an output over the limit, the fault of the
-/// fields, 13 for too little room, or the next place.
+/// The answer of a writer of `size` bytes from a place on, over an output of `room` bytes: 1 for an output over the limit, the number of the
+/// fields' fault (0 for none, and any other), 13 for too little room, or the next place.
 #[tactic(auto, unfolding(note::specs::Writers::writer_next))]
-pub fn admitted(
+pub fn admitted(room: usize, place: usize, fault: u32, size: usize) -> Result<usize, Numbered>
+    ensures { numbered_in result ≡ writer_next room place fault size }
+{
+    if room > FILE_LIMIT {
+        return Err(Fault::TooLarge.at(0).into());
+    }
+    if fault != 0 {
+        return Err(Numbered {
+            number: fault,
+            place,
+        });
+    }
+    if place > room || size > room - place {
+        return Err(Fault::NoRoom.at(place).into());
+    }
+    Ok(place + size)
+}
+
+/// The same for a fault of FORMAT 2.1's, or none, as the writers have it.
+#[tactic(auto, unfolding(note::specs::Writers::writer_next))]
+pub fn granted(
     room: usize,
     place: usize,
     fault: Result<(), Fault>,
@@ -75,18 +95,37 @@ pub fn put_part(out: &mut [u8], at: usize, part: &[u8])
 // ---- structures
 
 // Stores a structure from the part's first byte on: its kind word, its length word, its body's words, and the bytes behind them.
-fn put_structure(part: &mut [u8], kind: Kind, ws: &[u32], bytes: &[u8], order: Order)
+fn put_structure(part: &mut [u8], word: u32, ws: &[u32], bytes: &[u8], order: Order)
     requires { (8 + (4 * length ws.now + length bytes.now) ≤ length part.old) × (length part.old ≤ 0xFFFFFFFF) }
-    ensures { part.new ≡ sets part.old 0 (structured order (kind_word kind) ws.now bytes.now) }
+    ensures { part.new ≡ sets part.old 0 (structured order word ws.now bytes.now) }
 {
     let words = 4 * ws.len();
-    put_words(part, 0, &[kind.into(), (words + bytes.len()) as u32], order);
+    put_words(part, 0, &[word, (words + bytes.len()) as u32], order);
     put_words(part, 8, ws, order);
     put_part(part, 8 + words, bytes);
 }
 
-/// Writes a structure, of fields with this fault, into the rest of the output from the place on, which is lent on (FORMAT 9.1).
+/// Writes a structure of any kind word, of fields whose fault has this number (0 for none, and any other), into the rest of the output from the
+/// place on, which is lent on (FORMAT 9.1).
 pub fn write_structure(
+    out: &mut [u8],
+    place: usize,
+    fault: u32,
+    word: u32,
+    ws: &[u32],
+    bytes: &[u8],
+    order: Order,
+) -> Result<usize, Numbered>
+    requires { length ws.now ≤ 12 }
+    ensures { NumberedDid out.old place (structure_draft order fault word ws.now bytes.now) result out.new }
+{
+    let next = admitted(out.len(), place, fault, 8 + (4 * ws.len() + bytes.len()))?;
+    put_structure(&mut out[place..], word, ws, bytes, order);
+    Ok(next)
+}
+
+/// The same for a kind, and a fault of FORMAT 2.1's or none, as the writers have them.
+pub fn write_record(
     out: &mut [u8],
     place: usize,
     fault: Result<(), Fault>,
@@ -99,7 +138,7 @@ pub fn write_structure(
     ensures { WriterDid out.old place (structure_draft order (fault_in fault) (kind_word kind) ws.now bytes.now)
         result out.new }
 {
-    let next = admitted(out.len(), place, fault, 8 + (4 * ws.len() + bytes.len()))?;
-    put_structure(&mut out[place..], kind, ws, bytes, order);
+    let next = granted(out.len(), place, fault, 8 + (4 * ws.len() + bytes.len()))?;
+    put_structure(&mut out[place..], kind.into(), ws, bytes, order);
     Ok(next)
 }

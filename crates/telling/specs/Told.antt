@@ -2,8 +2,9 @@
 -- all writers, closings and Rewrite.
 use Rattle.std.specs.Prelude.{ℕ, ◌≡◌, List, Result}
 use Rattle.theory.specs.Tests.{Res, ok, bad}
-use Rattle.note.specs.Faults.{res_of}
+use Rattle.note.specs.Faults.{res_of, numbered_in}
 use Rattle.note.specs.declared.Refusal.{Refusal}
+use Rattle.note.specs.declared.Numbered.{Numbered}
 
 -- The two numbers that a caller lends, as they stand before the call.
 pub record Before : Type 0 where
@@ -28,3 +29,7 @@ Told r output before after out = (after ≡ after_of r before) × (out ≡ outpu
 -- An answer told.
 abbrev pub Tells : Result ℕ Refusal → Before → After → Type 0
 Tells answer before after = after ≡ after_of (res_of answer) before
+
+-- An answer told whose refusal has a number, whichever it is.
+abbrev pub NumberTells : Result ℕ Numbered → Before → After → Type 0
+NumberTells answer before after = after ≡ after_of (numbered_in answer) before

@@ -1,4 +1,4 @@
-// The eight record and entry writers. Each hands its fields' fault, its kind, its body's words and the bytes behind them to `write_structure`; a
+// The eight record and entry writers. Each hands its fields' fault, its kind, its body's words and the bytes behind them to `write_record`; a
 // history, which has several parts, is stored by `put_history`. All is known before the first store.
 #![tactic(auto)]
 
@@ -18,7 +18,7 @@ use note::{
     Administrative, Charge, Fault, Gps, History, Phonon, Refusal, Section, Tlb, Trace, Trigger,
 };
 use rules::{BLOCK_LENGTH, BOOKKEEPING, Kind, SAMPLE_BLOCK, TIMEBASE, charge_fault, phonon_fault};
-use stores::{admitted, put_part, put_words, write_structure};
+use stores::{granted, put_part, put_words, write_record};
 use theory::Order;
 
 // ---- entries, whose fields are all signed
@@ -53,7 +53,7 @@ pub fn write_phonon(
         fields.t0,
         fields.trace_length,
     ]);
-    write_structure(
+    write_record(
         out,
         place,
         phonon_fault(from_signed(fields.code)),
@@ -83,7 +83,7 @@ pub fn write_charge(
         fields.t0,
         fields.trace_length,
     ]);
-    write_structure(
+    write_record(
         out,
         place,
         charge_fault(from_signed(fields.code)),
@@ -105,7 +105,7 @@ pub fn write_administrative(
 ) -> Result<usize, Refusal>
     ensures { WriterDid out.old place (administrative_draft order fields) result out.new }
 {
-    write_structure(
+    write_record(
         out,
         place,
         administrative_fault(fields.date, fields.clock),
@@ -134,7 +134,7 @@ pub fn write_trace(
 ) -> Result<usize, Refusal>
     ensures { WriterDid out.old place (trace_draft order (trace_handed fields.entry)) result out.new }
 {
-    write_structure(
+    write_record(
         out,
         place,
         trace_fault(fields),
@@ -222,7 +222,7 @@ pub fn write_history(
     ensures { WriterDid out.old place (history_draft order (history_handed fields.entry)) result out.new }
 {
     let fault = history_fault(fields);
-    let next = admitted(out.len(), place, fault, history_size(fault, fields))?;
+    let next = granted(out.len(), place, fault, history_size(fault, fields))?;
     put_history(&mut out[place..], fields, order);
     Ok(next)
 }
@@ -256,7 +256,7 @@ pub fn write_gps(out: &mut [u8], place: usize, fields: Gps, order: Order) -> Res
     let date = digits(4, fields.year) * 65536 + digits(4, fields.day);
     let clock = gps_clock(fields.status, fields.hour, fields.minute, fields.second);
     let tenths = digits(8, fields.tenths);
-    write_structure(
+    write_record(
         out,
         place,
         gps_fault(fields),
@@ -279,7 +279,7 @@ pub fn write_trigger(
 ) -> Result<usize, Refusal>
     ensures { WriterDid out.old place (trigger_draft order fields) result out.new }
 {
-    write_structure(
+    write_record(
         out,
         place,
         Ok(()),
@@ -303,7 +303,7 @@ pub fn write_trigger(
 pub fn write_tlb(out: &mut [u8], place: usize, fields: Tlb, order: Order) -> Result<usize, Refusal>
     ensures { WriterDid out.old place (tlb_draft order fields) result out.new }
 {
-    write_structure(
+    write_record(
         out,
         place,
         tlb_fault(fields),

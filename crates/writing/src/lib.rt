@@ -8,7 +8,7 @@ ghost use Rattle.telling.specs.Told.{Told};
 ghost use Rattle.writing.specs.Handed.{RecordTold, phonon_from, charge_from, administrative_from, gps_from, trigger_from, tlb_from};
 
 use note::{Administrative, Charge, Gps, History, Phonon, Section, Tlb, Trace, Trigger};
-use telling::told;
+use telling::told_fault;
 
 /// A phonon entry: its eleven words in order.
 #[tactic(auto, unfolding(crate::specs::Handed::phonon_from))]
@@ -38,7 +38,7 @@ pub extern "C" fn dwj_write_phonon(
         trace_length: fields[10],
     };
     let answer = dwejrasq::write_phonon(out, place, fields);
-    told(answer, next, refusal)
+    told_fault(answer, next, refusal)
 }
 
 /// A charge entry: its eight words in order.
@@ -66,7 +66,7 @@ pub extern "C" fn dwj_write_charge(
         trace_length: fields[7],
     };
     let answer = dwejrasq::write_charge(out, place, fields);
-    told(answer, next, refusal)
+    told_fault(answer, next, refusal)
 }
 
 /// An administrative record: its six words in order.
@@ -92,7 +92,7 @@ pub extern "C" fn dwj_write_administrative(
         live: fields[5],
     };
     let answer = dwejrasq::write_administrative(out, place, fields);
-    told(answer, next, refusal)
+    told_fault(answer, next, refusal)
 }
 
 /// A trace: base address, digitizer channel, detector code, t0, delta t, n, and the bytes of its n samples.
@@ -132,7 +132,7 @@ pub extern "C" fn dwj_write_trace(
         samples,
     };
     let answer = dwejrasq::write_trace(out, place, fields);
-    told(answer, next, refusal)
+    told_fault(answer, next, refusal)
 }
 
 /// A history: of the veto and then of the trigger the count of times, their bytes, the width, the bytes of the masks.
@@ -181,7 +181,7 @@ pub extern "C" fn dwj_write_history(
         masks: trigger_masks,
     };
     let answer = dwejrasq::write_history(out, place, History { veto, trigger });
-    told(answer, next, refusal)
+    told_fault(answer, next, refusal)
 }
 
 /// A GPS record: year, day, status, hour, minute, second, tenths.
@@ -208,7 +208,7 @@ pub extern "C" fn dwj_write_gps(
         tenths: fields[6],
     };
     let answer = dwejrasq::write_gps(out, place, fields);
-    told(answer, next, refusal)
+    told_fault(answer, next, refusal)
 }
 
 /// A trigger record: its six masks.
@@ -234,7 +234,7 @@ pub extern "C" fn dwj_write_trigger(
         mask6: fields[5],
     };
     let answer = dwejrasq::write_trigger(out, place, fields);
-    told(answer, next, refusal)
+    told_fault(answer, next, refusal)
 }
 
 /// A TLB record: its six words, by tower.
@@ -260,7 +260,7 @@ pub extern "C" fn dwj_write_tlb(
         tower6: fields[5],
     };
     let answer = dwejrasq::write_tlb(out, place, fields);
-    told(answer, next, refusal)
+    told_fault(answer, next, refusal)
 }
 
 /// The file header, at byte 0: the two DAQ bytes.
@@ -277,7 +277,7 @@ pub extern "C" fn dwj_write_header(
         (record { number = result; next = next.new; refusal = refusal.new }) out.new }
 {
     let answer = dwejrasq::write_header(out, major, minor);
-    told(answer, next, refusal)
+    told_fault(answer, next, refusal)
 }
 
 /// Closes a configuration over its contents.
@@ -294,7 +294,7 @@ pub extern "C" fn dwj_close_configuration(
         (record { number = result; next = next.new; refusal = refusal.new }) out.new }
 {
     let answer = dwejrasq::close_configuration(out, place, end);
-    told(answer, next, refusal)
+    told_fault(answer, next, refusal)
 }
 
 /// Closes an event of a class, a category and a type over its contents.
@@ -315,5 +315,5 @@ pub extern "C" fn dwj_close_event(
         (record { number = result; next = next.new; refusal = refusal.new }) out.new }
 {
     let answer = dwejrasq::close_event(out, place, end, class, category, event_type);
-    told(answer, next, refusal)
+    told_fault(answer, next, refusal)
 }

@@ -1,4 +1,4 @@
--- `closings::write_header` meets its contract: a refusal of `admitted` is its own, and the next place tells that there is room.
+-- `closings::write_header` meets its contract: a refusal of `granted` is its own, and the next place tells that there is room.
 -- The idea: the two words that are stored are the header.
 use Prim.Native.Nat.{ℕ}
 use mathlib.Core.Path.{◌≡◌, refl, sym, ap, ◌∙◌}
@@ -14,7 +14,7 @@ use Rattle.note.proofs.FileBytes.{header-bytes}
 use Rattle.note.specs.Writers.{Draft, header_next, header_output, record_next, record_output}
 use Rattle.stores.proofs.WriterLaws.{Admitted, refuses, has_room, lays}
 use Rattle.closings.proofs.write_header.Goals as goal
-use Rattle.closings.proofs.write_header.Goals.{After-admitted}
+use Rattle.closings.proofs.write_header.Goals.{After-granted}
 
 -- The header, written as a record without a fault.
 abbrev header : Order → ℕ → ℕ → Draft
@@ -25,16 +25,16 @@ eight o major minor =
     let v = version_word major minor in
     ap length (header-bytes o v) ∙ length-puts o 4 (file_mark ∷ v ∷ [])
 
--- `admitted` was asked the header's size.
-admitted : (c : After-admitted) → (let a = c.args in Admitted a.out.now 0 (header a.order a.major a.minor) c.admitted.result)
-admitted c =
+-- `granted` was asked the header's size.
+granted : (c : After-granted) → (let a = c.args in Admitted a.out.now 0 (header a.order a.major a.minor) c.granted.result)
+granted c =
     let a = c.args in
-    record { fault = 0; size = 8; fault-is = refl; size_is = λ z. eight a.order a.major a.minor; said = c.admitted.ensures }
+    record { fault = 0; size = 8; fault-is = refl; size_is = λ z. eight a.order a.major a.minor; said = c.granted.ensures }
 
 pub put_words-requires : goal.put_words-requires
 put_words-requires c =
     let a = c.args in
-    let room = (has_room (admitted (goal.at.put_words-requires c).After-admitted) c.in_ok-next.was).1 in
+    let room = (has_room (granted (goal.at.put_words-requires c).After-granted) c.in_ok-next.was).1 in
     omega (arith, room, eight a.order a.major a.minor)
 
 pub returns-in_err-next : goal.returns-in_err-next
@@ -42,7 +42,7 @@ unfolding header_next header_output record_next record_output
 returns-in_err-next c =
     let a = c.args in
     let given =
-    refuses (admitted (goal.at.returns-in_err-next c).After-admitted) c.from_residual.result c.in_err-next.was c.from_residual.ensures.1 in
+    refuses (granted (goal.at.returns-in_err-next c).After-granted) c.from_residual.result c.in_err-next.was c.from_residual.ensures.1 in
     let (answer, output) = rw (eight a.order a.major a.minor) at given in
     record { answer = answer; output = output }
 
@@ -53,7 +53,7 @@ returns c =
     let out = a.out.now in
     let o = a.order in
     let given =
-    lays (admitted (goal.at.returns c).After-admitted) c.in_ok-next.was
+    lays (granted (goal.at.returns c).After-granted) c.in_ok-next.was
     (c.put_words.ensures
     ∙ ap (λ (v : ℕ). sets out 0 (words o (file_mark ∷ v ∷ []))) c.version_word.ensures
     ∙ ap (sets out 0) (sym (header-bytes o (version_word a.major a.minor)))) in

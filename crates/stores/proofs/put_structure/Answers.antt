@@ -7,5 +7,5 @@ use Rattle.stores.proofs.put_structure.Goals as goal
 pub returns : goal.returns
 returns c =
     let a = c.args in
-    rw (c.put_part.ensures, c.put_words-2.ensures, c.put_words.ensures, c.into.ensures)
+    rw (c.put_part.ensures, c.put_words-2.ensures, c.put_words.ensures)
     (structured-stored _ _ a.ws.now a.bytes.now a.part.now _ refl)

@@ -1,38 +1,44 @@
 -- `stores::write_structure` meets its contract: a refusal of `admitted` is its own, and the next place tells that there is room.
--- The idea: what is stored into the lent rest of the output is the structure, and the laws of writers say the rest.
-use mathlib.Core.Path.{refl}
+-- The idea: `admitted` answered for the structure's draft.
+use mathlib.Core.Path.{◌≡◌, sym, ap, ◌∙◌}
 use native.Mathlib.Omega.{arith}
-use Rattle.note.specs.Faults.{fault_in}
-use Rattle.rules.specs.Kinds.{kind_word}
+use lib.ListN.{length}
+use Rattle.note.specs.Faults.{numbered_in}
+use Rattle.note.specs.Writers.{writer_next, record_next}
 use Rattle.stores.specs.Structures.{structure_draft}
-use Rattle.stores.proofs.WriterLaws.{Admitted, refuses, has_room, writes}
+use Rattle.stores.proofs.NumberedLaws.{number_back, numbers_refused, numbers_room, numbers_written}
 use Rattle.stores.proofs.StructureLaws.{structured-size}
 use Rattle.stores.proofs.write_structure.Goals as goal
 use Rattle.stores.proofs.write_structure.Goals.{After-admitted}
 
 -- `admitted` was asked the structure's fault and size.
-admitted : (c : After-admitted) → (let a = c.args in
-    Admitted a.out.now a.place (structure_draft a.order (fault_in a.fault) (kind_word a.kind) a.ws.now a.bytes.now) c.admitted.result)
-admitted c = record { fault = _; size = _; fault-is = refl; size_is = λ z. structured-size _ _ _ _; said = c.admitted.ensures }
+answered : (c : After-admitted) → (let a = c.args in
+    numbered_in c.admitted.result ≡ record_next a.out.now a.place (structure_draft a.order a.fault a.word a.ws.now a.bytes.now))
+unfolding record_next
+answered c =
+    let a = c.args in
+    c.admitted.ensures ∙ ap (writer_next (length a.out.now) a.place a.fault) (sym (structured-size a.order a.word a.ws.now a.bytes.now))
 
 pub returns-in_err-next : goal.returns-in_err-next
 returns-in_err-next c =
-    refuses (admitted (goal.at.returns-in_err-next c).After-admitted) _ c.in_err-next.was c.from_residual.ensures.1
+    let told = rw c.in_err-next.was at (answered (goal.at.returns-in_err-next c).After-admitted) in
+    (sym (number_back _ _ c.from_residual.ensures.1) ∙ told, numbers_refused _ _ _ told)
 
 pub slice_bounds-put_structure-count : goal.slice_bounds-put_structure-count
 slice_bounds-put_structure-count c =
-    omega (arith, has_room (admitted (goal.at.slice_bounds-put_structure-count c).After-admitted) c.in_ok-next.was)
+    omega (arith, numbers_room _ _ _ (rw c.in_ok-next.was at (answered (goal.at.slice_bounds-put_structure-count c).After-admitted)))
 
 pub slice_bounds-put_structure-start : goal.slice_bounds-put_structure-start
 slice_bounds-put_structure-start c =
-    omega (arith, has_room (admitted (goal.at.slice_bounds-put_structure-start c).After-admitted) c.in_ok-next.was)
+    omega (arith, numbers_room _ _ _ (rw c.in_ok-next.was at (answered (goal.at.slice_bounds-put_structure-start c).After-admitted)))
 
 pub put_structure-requires : goal.put_structure-requires
 put_structure-requires c =
     let a = c.args in
-    let (limit, fits) = has_room (admitted (goal.at.put_structure-requires c).After-admitted) c.in_ok-next.was in
-    omega (arith, limit, fits, structured-size a.order (kind_word a.kind) a.ws.now a.bytes.now)
+    let (limit, fits) = numbers_room _ _ _ (rw c.in_ok-next.was at (answered (goal.at.put_structure-requires c).After-admitted)) in
+    omega (arith, limit, fits, structured-size a.order a.word a.ws.now a.bytes.now)
 
 pub returns : goal.returns
 returns c =
-    writes (admitted (goal.at.returns c).After-admitted) c.in_ok-next.was _ c.put_structure.ensures
+    let told = rw c.in_ok-next.was at (answered (goal.at.returns c).After-admitted) in
+    (told, numbers_written _ _ _ told _ c.put_structure.ensures)

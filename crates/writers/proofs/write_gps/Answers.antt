@@ -24,4 +24,4 @@ returns c =
     (λ z.
     let status = status_kept c.args.fields (sym c.gps_fault.ensures ∙ z) in
     rw (c.digits.ensures.0, c.digits-2.ensures.0, c.digits-tenths.ensures.0, c.gps_clock-clock.ensures, status) (structured_bare _ _ _))
-    c.write_structure.ensures
+    c.write_record.ensures

@@ -10,24 +10,24 @@ use Rattle.note.specs.Writers.{history_draft, history_handed}
 use Rattle.stores.proofs.WriterLaws.{Admitted, refuses, has_room, writes}
 use Rattle.writers.proofs.HistoryLaws.{parts_size, history-size, size_fits}
 use Rattle.writers.proofs.write_history.Goals as goal
-use Rattle.writers.proofs.write_history.Goals.{After-admitted, In_ok-next}
+use Rattle.writers.proofs.write_history.Goals.{After-granted, In_ok-next}
 
--- `admitted` was asked the history's fault and, where it has none, its size.
-asked : (c : After-admitted) → (let a = c.args in Admitted a.out.now a.place (history_draft a.order (history_handed a.fields)) c.admitted.result)
+-- `granted` was asked the history's fault and, where it has none, its size.
+asked : (c : After-granted) → (let a = c.args in Admitted a.out.now a.place (history_draft a.order (history_handed a.fields)) c.granted.result)
 unfolding history_draft
 asked c = record {
   fault = _;
   size = _;
   fault-is = c.history_fault-fault.ensures;
   size_is = λ z. history-size _ (history_handed c.args.fields) ∙ sym (c.history_size.ensures z);
-  said = c.admitted.ensures;
+  said = c.granted.ensures;
 }
 
 -- Where the next place was answered: the limit, and room for the parts.
 room : (c : In_ok-next) → (let a = c.args in
     (length a.out.now ≤ file_limit) × (a.place + (24 + parts_size (history_handed a.fields)) ≤ length a.out.now))
 room c =
-    let (limit, fits) = has_room (asked (goal.at.slice_bounds-put_history-count c).After-admitted) c.in_ok-next.was in
+    let (limit, fits) = has_room (asked (goal.at.slice_bounds-put_history-count c).After-granted) c.in_ok-next.was in
     (limit, omega (arith, fits, history-size c.args.order (history_handed c.args.fields)))
 
 pub history_size-requires : goal.history_size-requires
@@ -36,7 +36,7 @@ history_size-requires c =
     λ z. size_fits (history_handed c.args.fields) (sym c.history_fault-fault.ensures ∙ z) l
 
 pub returns-in_err-next : goal.returns-in_err-next
-returns-in_err-next c = refuses (asked (goal.at.returns-in_err-next c).After-admitted) _ c.in_err-next.was c.from_residual.ensures.1
+returns-in_err-next c = refuses (asked (goal.at.returns-in_err-next c).After-granted) _ c.in_err-next.was c.from_residual.ensures.1
 
 pub slice_bounds-put_history-count : goal.slice_bounds-put_history-count
 slice_bounds-put_history-count c = omega (arith, (room c).1)
@@ -50,4 +50,4 @@ put_history-requires c =
     omega (arith, limit, fits)
 
 pub returns : goal.returns
-returns c = writes (asked (goal.at.returns c).After-admitted) c.in_ok-next.was _ c.put_history.ensures
+returns c = writes (asked (goal.at.returns c).After-granted) c.in_ok-next.was _ c.put_history.ensures

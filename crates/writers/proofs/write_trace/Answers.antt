@@ -9,4 +9,4 @@ use Rattle.writers.proofs.write_trace.Goals as goal
 
 pub returns : goal.returns
 unfolding structured trace_draft trace_bytes
-returns c = bytes_unasked _ c.trace_fault.ensures (λ z. search rules) c.write_structure.ensures
+returns c = bytes_unasked _ (search rules) (λ z. search rules) c.write_record.ensures
