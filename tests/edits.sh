@@ -1,7 +1,8 @@
 # What tests/wrong, tests/enemies and tests/refused share, and read in: edits, put into a copy of the repository, and one check of it.
 # In an edit '#' says what is wrong; 'file:' names a file, 'old:' a line of it, which stands there once, 'new:' the line in its place (both whatever
-# their indentation); 'function:' names the functions whose proofs must refuse it. A line that stands several times in its file is looked for in the
-# body of the first of these.
+# their indentation), each 'line:' behind it one more; 'function:' names the functions whose proofs must refuse it. A line that stands several times
+# in its file is looked for in the body of the first of these. 'made:' names a file of src/, specs/ or proofs/ that isn't there, as for the invariants
+# of a loop that only the edit has; each 'line:' behind it is one of its lines.
 . build/jobs.sh
 . build/crates.sh
 room=$(mktemp -d) || exit 1
@@ -31,22 +32,44 @@ replaced() { # FILE OLD NEW [FUNCTION]
 
 # Puts an edit into the copy at AT. Its files are CRATE's, or named with their crate.
 applied() { # EDIT AT [CRATE]
-  local edit=$1 at=$2 crate=${3:+$3/} function line file='' old='' new='' result=0
+  local edit=$1 at=$2 crate=${3:+$3/} function line file='' made='' old='' new='' waits='' some='' result=0
   function=$(line_of function "$edit")
-  while IFS= read -r line; do
+  inside() { case $(realpath -m "$at/$file") in "$(realpath "$at")"/*) ;; *) echo "$edit: $file isn't in the copy"; return 1 ;; esac; }
+  # The line at hand, and those behind it, put in.
+  settled() {
+    [ -n "$waits" ] || return 0
+    if [ "$old" = "$new" ]; then echo "$edit: '$old' is put in its own place"; result=1
+    elif replaced "$at/$file" "$old" "$new" "${function%% *}" > "$at/edited"; then mv "$at/edited" "$at/$file"
+    else echo "$edit: '$old' does not stand once in $file"; result=1; fi
+    waits='' some=1
+  }
+  while IFS= read -r line || [ -n "$line" ]; do
+    case $line in
+      'line:'*)
+        line=${line#line:} line=${line# }
+        if [ -n "$waits" ]; then new+=$'\n'$line
+        elif [ -n "$made" ]; then printf '%s\n' "$line" >> "$at/$file"
+        else echo "$edit: there is nothing that '$line' is behind"; return 1; fi
+        continue ;;
+    esac
+    settled
     case $line in
       'file: '*)
-        file=crates/$crate${line#file: }
+        file=crates/$crate${line#file: } made=''
         [ -f "$at/$file" ] || { mkdir -p "$at/$(dirname "$file")" && cp "$file" "$at/$file"; } || { echo "$edit: no file $file"; return 1; }
-        case $(realpath "$at/$file") in "$(realpath "$at")"/*) ;; *) echo "$edit: $file isn't in the copy"; return 1 ;; esac ;;
-      'old: '*) old=${line#old: } ;;
-      'new: '*)
-        new=${line#new: }
-        if replaced "$at/$file" "$old" "$new" "${function%% *}" > "$at/edited"; then mv "$at/edited" "$at/$file"
-        else echo "$edit: '$old' does not stand once in $file"; result=1; fi ;;
+        inside || return 1 ;;
+      'made: '*)
+        file=crates/$crate${line#made: } made=1
+        if [ -e "$file" ] || [ -e "$at/$file" ]; then echo "$edit: there is a $file"; return 1; fi
+        [[ $file =~ ^crates/[a-z_0-9]+/(src|specs|proofs)/ && $file != */../* ]] || { echo "$edit: $file is no source"; return 1; }
+        inside && mkdir -p "$at/$(dirname "$file")" && : > "$at/$file" || return 1 ;;
+      'old: '* | 'new: '*)
+        [ -z "$made" ] || { echo "$edit: $file is made here: it has lines, and none of them is another's"; return 1; }
+        case $line in old:*) old=${line#old: } ;; *) new=${line#new: } waits=1 ;; esac ;;
     esac
   done < "$edit"
-  [ -n "$new" ] || { echo "$edit: no edit"; result=1; }
+  settled
+  [ -n "$some" ] || { echo "$edit: no edit"; result=1; }
   return $result
 }
 

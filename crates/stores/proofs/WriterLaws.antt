@@ -56,6 +56,31 @@ written_unasked (bad c p) out place a b h = refl
 
 -- ---- one record
 
+-- What a record's writer answered shows of the output, whichever result says it.
+module _ (out : List ℕ) (place : ℕ) (w : Draft) where
+  -- A refusal changes no byte.
+  pub refusal_kept : {c p : ℕ} → bad c p ≡ record_next out place w → out ≡ record_output out place w
+  unfolding record_output
+  refusal_kept e = unchanged out place w.bytes e
+
+  -- The next place was answered: the output is within the limit, and has room for the record.
+  pub next_room : {next : ℕ} → ok next ≡ record_next out place w → (length out ≤ file_limit) × (place + length w.bytes ≤ length out)
+  unfolding record_next
+  next_room e = let (limit, clean, room) = writer_next_ok (length out) place w.fault (length w.bytes) (sym e) in (limit, room)
+
+  -- The bytes were stored from the place on, or into the rest of the output, lent on from there.
+  pub next_laid : {next : ℕ} → ok next ≡ record_next out place w → {after : List ℕ} → after ≡ sets out place w.bytes
+      → after ≡ record_output out place w
+  unfolding record_output
+  next_laid e q = q ∙ stored out place w.bytes e (next_room e).1
+
+  pub next_written : {next : ℕ} → ok next ≡ record_next out place w → (rest : List ℕ)
+      → rest ≡ sets (mid_of place (length out - place) out) 0 w.bytes
+      → put_mid place (length out - place) out rest ≡ record_output out place w
+  next_written e rest q =
+      let room : place + length w.bytes ≤ length out = (next_room e).1 in
+      next_laid e (part-stored out place (length out - place) w.bytes rest (omega arith) (omega arith) q)
+
 -- Of fields with a fault, the size isn't asked.
 size_unasked : (n place fault : ℕ) {f s t : ℕ} → fault ≡ f → (fault ≡ 0 → s ≡ t) → writer_next n place fault s ≡ writer_next n place f t
 unfolding writer_next
@@ -75,31 +100,26 @@ module _ {out : List ℕ} {place : ℕ} {w : Draft} {r : Result ℕ Refusal} (a 
   unfolding record_next
   own = a.said ∙ size_unasked (length out) place a.fault a.fault-is (λ z. sym (a.size_is z))
 
+  told : {next : ℕ} → r ≡ Ok next → ok next ≡ record_next out place w
+  told n = sym (ap res_of n) ∙ own
+
   -- A refusal is the writer's own, as `?` gives it back.
   pub refuses : {f : Refusal} (s : Result ℕ Refusal) → r ≡ Err f → IsErrAnd s (λ e. e ≡ f) → WriterDid out place w s out
-  unfolding record_output
   refuses {f} s n h =
-      let told = sym (ap res_of n) ∙ own in
-      (sym (given_back s f h) ∙ told, unchanged out place w.bytes told)
+      let refused = sym (ap res_of n) ∙ own in
+      (sym (given_back s f h) ∙ refused, refusal_kept out place w refused)
 
   -- The next place was answered: the output is within the limit, and has room for the record.
   pub has_room : {next : ℕ} → r ≡ Ok next → (length out ≤ file_limit) × (place + length w.bytes ≤ length out)
-  has_room n =
-      let (limit, clean, room) = writer_next_ok (length out) place a.fault a.size (sym a.said ∙ ap res_of n) in
-      (limit, omega (arith, room, a.size_is clean))
+  has_room n = next_room out place w (told n)
 
   -- The record is written where its bytes were stored from the place on, or into the rest of the output, lent on from there.
   pub lays : {next : ℕ} → r ≡ Ok next → {after : List ℕ} → after ≡ sets out place w.bytes → WriterDid out place w (Ok next) after
-  unfolding record_output
-  lays n e =
-      let told = sym (ap res_of n) ∙ own in
-      (told, e ∙ stored out place w.bytes told (has_room n).1)
+  lays n e = (told n, next_laid out place w (told n) e)
 
   pub writes : {next : ℕ} → r ≡ Ok next → (rest : List ℕ) → rest ≡ sets (mid_of place (length out - place) out) 0 w.bytes
       → WriterDid out place w (Ok next) (put_mid place (length out - place) out rest)
-  writes n rest q =
-      let room : place + length w.bytes ≤ length out = (has_room n).1 in
-      lays n (part-stored out place (length out - place) w.bytes rest (omega arith) (omega arith) q)
+  writes n rest q = (told n, next_written out place w (told n) rest q)
 
 -- A call of a writer: the output, the place, the answer and the output afterwards; what was handed on, a fault and bytes, and what was meant.
 pub record WriterCall : Type 0 where

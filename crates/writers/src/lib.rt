@@ -1,8 +1,9 @@
-// The eight record and entry writers. Each hands its fields' fault, its kind, its body's words and the bytes behind them to `write_record`; a
-// history, which has several parts, is stored by `put_history`. All is known before the first store.
+// The eight record and entry writers. Each hands its fields' fault, its kind, its body's words and the bytes behind them to `write_record`, the
+// entries', whose fields are all signed, by way of `write_entry`; a history, which has several parts, is stored by `put_history`. All is known before
+// the first store.
 #![tactic(auto)]
 
-ghost use Rattle.std.specs.Prelude.{◌≡◌, map, ◌+◌, ◌*◌, ◌%◌, ◌^◌, ◌≤◌, ◌<◌, length};
+ghost use Rattle.std.specs.Prelude.{◌≡◌, [], map, ◌+◌, ◌*◌, ◌%◌, ◌^◌, ◌≤◌, ◌<◌, length};
 ghost use Rattle.std.proofs.lemmas.List.Edits.{sets};
 ghost use Rattle.note.specs.Faults.{fault_in};
 ghost use Rattle.note.specs.Words.{unsigned};
@@ -10,6 +11,8 @@ ghost use Rattle.note.specs.Gps.{bcd};
 ghost use Rattle.note.specs.History.{section_bytes};
 ghost use Rattle.note.specs.Writers.{phonon_draft, charge_draft, administrative_draft, trace_draft, history_draft, gps_draft, trigger_draft, tlb_draft};
 ghost use Rattle.note.specs.Writers.{trace_handed, section_handed, history_handed};
+ghost use Rattle.rules.specs.Kinds.{kind_word};
+ghost use Rattle.stores.specs.Structures.{structure_draft};
 ghost use Rattle.stores.specs.Writes.{WriterDid};
 
 use faults::{history_fault, trace_fault};
@@ -29,6 +32,21 @@ fn words_of<const N: usize>(fields: [i32; N]) -> [u32; N]
     ensures { result ≡ map unsigned fields.entry }
 {
     fields.map(from_signed)
+}
+
+// Writes an entry of this kind from its words, whose fields have this fault, or none.
+fn write_entry(
+    out: &mut [u8],
+    place: usize,
+    fault: Result<(), Fault>,
+    kind: Kind,
+    ws: &[u32],
+    order: Order,
+) -> Result<usize, Refusal>
+    requires { length ws.now ≤ 11 }
+    ensures { WriterDid out.old place (structure_draft order (fault_in fault) (kind_word kind) ws.now []) result out.new }
+{
+    write_record(out, place, fault, kind, ws, &[], order)
 }
 
 /// Writes a phonon entry (FORMAT 4.1).
@@ -53,13 +71,12 @@ pub fn write_phonon(
         fields.t0,
         fields.trace_length,
     ]);
-    write_record(
+    write_entry(
         out,
         place,
         phonon_fault(from_signed(fields.code)),
         Kind::Phonon,
         &ws,
-        &[],
         order,
     )
 }
@@ -83,13 +100,12 @@ pub fn write_charge(
         fields.t0,
         fields.trace_length,
     ]);
-    write_record(
+    write_entry(
         out,
         place,
         charge_fault(from_signed(fields.code)),
         Kind::Charge,
         &ws,
-        &[],
         order,
     )
 }

@@ -9,4 +9,4 @@ use Rattle.writers.proofs.write_charge.Goals as goal
 
 pub returns : goal.returns
 unfolding charge_draft charge_bytes
-returns c = bytes_unasked _ (search rules) (λ z. search (rules, structured_bare)) c.write_record.ensures
+returns c = bytes_unasked _ (search rules) (λ z. search (rules, structured_bare)) c.write_entry.ensures

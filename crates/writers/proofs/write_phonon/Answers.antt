@@ -14,4 +14,4 @@ pub returns : goal.returns
 unfolding phonon_draft phonon_bytes
 returns c =
     let ws : c.words_of-ws.result ≡ map unsigned (phonon_words c.args.fields) = search rules in
-    bytes_unasked _ (search rules) (λ z. rw ws (structured_bare _ _ _)) c.write_record.ensures
+    bytes_unasked _ (search rules) (λ z. rw ws (structured_bare _ _ _)) c.write_entry.ensures
